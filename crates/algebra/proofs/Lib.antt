@@ -1,0 +1,12 @@
+pub mod Congruence
+pub mod Inverse
+pub mod Dot
+pub mod Triangular
+pub mod Finite
+pub mod Reduction
+pub mod Verdict
+pub mod Settings
+pub mod Rank
+pub mod Unique
+pub mod Answer
+pub mod Substitution

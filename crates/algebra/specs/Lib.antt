@@ -1,0 +1,10 @@
+pub mod Congruence
+pub mod Sum
+pub mod Prime
+pub mod Matrix
+pub mod Rank
+pub mod RowSpace
+pub mod Factors
+pub mod Reduction
+pub mod Answer
+pub mod Settings

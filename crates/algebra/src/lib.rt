@@ -1,0 +1,1 @@
+// Linear algebra modulo a prime: definitions in specs/, theorems in proofs/, and no code.

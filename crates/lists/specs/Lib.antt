@@ -1,0 +1,4 @@
+pub mod Filled
+pub mod Tabulate
+pub mod Tests
+pub mod Refusals
