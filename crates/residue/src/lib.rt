@@ -1,0 +1,136 @@
+// Arithmetic modulo p on residues, the numbers 0 to p - 1.
+ghost use mathlib.Core.Path.{_≡_};
+ghost use Prim.Native.Nat.{_<_, _%_, _^_};
+ghost use Rattle.residue.specs.Arithmetic.{addMod, subMod, mulMod, negMod, Residue, Residues};
+ghost use Rattle.residue.specs.Inverse.{invMod, Invertible};
+ghost use Rattle.residue.specs.Primality.{isPrime};
+ghost use Rattle.residue.specs.Range.{isModulus};
+ghost use Rattle.residue.specs.Signed.{residueOf, signedResidue, valueOf};
+ghost use mir.Syntax.{w32};
+ghost use mir.Val.{SFits};
+
+// The largest modulus that is accepted.
+const LARGEST_MODULUS: u32 = 65521;
+
+// The modulus p of a call, with the operations on residues modulo p.
+pub struct Modulus {
+    pub p: u32,
+}
+
+impl Modulus {
+    // The residue of x.
+    pub fn reduce(self, x: u64) -> u32
+        requires { ⌜ 0 < self .p ⌝ }
+        ensures { λ r. ⌜ Residue (self .p) (x % self .p) r ⌝ }
+    {
+        let p = self.p as u64;
+        (x % p) as u32
+    }
+
+    // a + b
+    pub fn add(self, a: u32, b: u32) -> u32
+        requires { ⌜ Residues (self .p) a b ⌝ }
+        ensures { λ r. ⌜ Residue (self .p) (addMod (self .p) a b) r ⌝ }
+    {
+        self.reduce(a as u64 + b as u64)
+    }
+
+    // -a
+    pub fn negate(self, a: u32) -> u32
+        requires { ⌜ a < self .p ⌝ }
+        ensures { λ r. ⌜ Residue (self .p) (negMod (self .p) a) r ⌝ }
+    {
+        let p = self.p as u64;
+        self.reduce(p - a as u64)
+    }
+
+    // a - b
+    pub fn sub(self, a: u32, b: u32) -> u32
+        requires { ⌜ Residues (self .p) a b ⌝ }
+        ensures { λ r. ⌜ Residue (self .p) (subMod (self .p) a b) r ⌝ }
+    {
+        let p = self.p as u64;
+        self.reduce(a as u64 + (p - b as u64))
+    }
+
+    // a b
+    pub fn multiply(self, a: u32, b: u32) -> u32
+        requires { ⌜ Residues (self .p) a b ⌝ }
+        ensures { λ r. ⌜ Residue (self .p) (mulMod (self .p) a b) r ⌝ }
+    {
+        self.reduce(a as u64 * b as u64)
+    }
+
+    // The residue of a sign and a magnitude.
+    pub fn signed(self, negative: bool, magnitude: u64) -> u32
+        requires { ⌜ 0 < self .p ⌝ }
+        ensures { λ r. ⌜ Residue (self .p) (signedResidue (self .p) negative magnitude) r ⌝ }
+    {
+        let r = self.reduce(magnitude);
+        if negative { self.negate(r) } else { r }
+    }
+
+    // The residue of v.
+    pub fn residue(self, v: i64) -> u32
+        requires { ⌜ (0 < self .p) × SFits w32 v ⌝ }
+        ensures { λ r. ⌜ Residue (self .p) (residueOf (self .p) v) r ⌝ }
+    {
+        if v < 0 {
+            self.signed(true, -v as u64)
+        } else {
+            self.signed(false, v as u64)
+        }
+    }
+
+    // The inverse of a, by division of p: t * a = x modulo p throughout, and x falls to 1.
+    pub fn invert(self, a: u32) -> u32
+        requires { ⌜ Invertible (self .p) a ⌝ }
+        ensures { λ r. ⌜ Residue (self .p) (invMod (self .p) a) r ⌝ }
+    {
+        let p = self.p;
+        let mut x = a;
+        let mut t: u32 = 1;
+        while x != 1 {
+            t = self.negate(self.multiply(p / x, t));
+            x = p % x;
+        }
+        t
+    }
+}
+
+// Whether p is prime: no number from 2 up to the square root of p divides it.
+pub fn is_prime(p: u32) -> bool
+    ensures { λ r. ⌜ r ≡ isPrime p ⌝ }
+{
+    if p < 2 {
+        return false;
+    }
+    let n = p as u64;
+    let mut d: u64 = 2;
+    while d * d <= n {
+        if n % d == 0 {
+            return false;
+        }
+        d += 1;
+    }
+    true
+}
+
+// Whether p is a modulus that is accepted: a prime, and none above the largest.
+pub fn is_modulus(p: u32) -> bool
+    ensures { λ r. ⌜ r ≡ isModulus p ⌝ }
+{
+    if LARGEST_MODULUS < p {
+        return false;
+    }
+    is_prime(p)
+}
+
+// The number of a sign and a magnitude.
+pub fn signed_value(negative: bool, magnitude: u64) -> i64
+    requires { ⌜ magnitude < 2 ^ 63 ⌝ }
+    ensures { λ r. ⌜ r ≡ valueOf negative magnitude ⌝ }
+{
+    let m = magnitude as i64;
+    if negative { -m } else { m }
+}
