@@ -1,0 +1,4 @@
+pub mod Moduli
+pub mod Cutting
+pub mod StoredForm
+pub mod Storing
