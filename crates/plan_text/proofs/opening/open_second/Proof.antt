@@ -1,3 +1,9 @@
+use mathlib.Core.Path.{_≡_, refl, sym, ap, _∙_}
+use Prim.Native.Nat.{_+_, _<_}
+use native.Mathlib.Omega.{arith}
+use lib.ListN.{length}
+use denote.Ref.{now}
+use Rattle.plan_text.proofs.FirstLines.{second-none, second-ends, second-bad, second-n, second-m, second-ready}
 use borrow.Author.Needs.{needs}
 use Rattle.plan_text.proofs.opening.open_second.Statement.{statement}
 use Rattle.plan_text.proofs.opening.open_second.Tie as tie
@@ -5,6 +11,10 @@ use Rattle.plan_text.proofs.opening.open_second.Reads as reads
 use Rattle.plan_text.proofs.opening.open_second.Lts as lts
 use Rattle.line_reader.proofs.line_from.Reads as line-from-reads
 use Rattle.plan_text.proofs.header.header_of.Reads as header-of-reads
+
+-- the line ends before the text does
+ends : (c : tie.Else1) → c .before .before .before .args .at + length (now (c .before .line-from .result)) < length (now (c .before .before .before .args .text))
+ends c = let s = c .before .before .before in second-ends _ _ (s .args .modulus .p) (s .pre .place) (c .before .line-from .ensures) (c .if1 .left)
 
 -- src/opening.rt:41:9
 line-from-requires : tie.Need-line-from-requires
@@ -16,7 +26,7 @@ add-e c = search needs
 
 -- src/opening.rt:44:9
 returns : tie.Need-returns
-returns c = ?
+returns c = let s = c .before .before .before in (second-none (now (s .args .text)) (s .args .at) (s .args .modulus .p) (s .pre .place) (c .before .line-from .ensures) (c .if1 .taken), tt)
 
 -- src/opening.rt:46:11
 header-of-requires : tie.Need-header-of-requires
@@ -28,11 +38,11 @@ enum-known-n c = search needs
 
 -- src/opening.rt:49:17
 returns-2 : tie.Need-returns-2
-returns-2 c = ?
+returns-2 c = let o = c .before .before .before .before .before in let s = o .before .before .before in (second-n (now (s .args .text)) (s .args .at) (s .args .modulus .p) (s .pre .place) (o .before .line-from .ensures) (ends o) (c .before .before .before .before .header-of .ensures) (c .before .before .n .given .1) (c .if2 .taken), tt)
 
 -- src/opening.rt:52:17
 returns-3 : tie.Need-returns-3
-returns-3 c = ?
+returns-3 c = let o = c .before .before .before .before .before .before in let s = o .before .before .before in (second-m (now (s .args .text)) (s .args .at) (s .args .modulus .p) (s .pre .place) (o .before .line-from .ensures) (ends o) (c .before .before .before .before .before .header-of .ensures) (c .before .before .before .n .given .1) (c .before .if2 .left) (c .if3 .taken), tt)
 
 -- src/opening.rt:55:40
 cast-t13 : tie.Need-cast-t13
@@ -52,11 +62,13 @@ enum-told c = search needs
 
 -- src/opening.rt:35:1
 returns-4 : tie.Need-returns-4
-returns-4 c = ?
+returns-4 c = let o = c .before .before .before .before .before .before in let s = o .before .before .before in
+    (second-ready (now (s .args .text)) (s .args .at) (s .args .modulus .p) (s .pre .place) (o .before .line-from .ensures) (ends o) (c .before .before .before .before .before .header-of .ensures) (c .before .before .before .n .given .1) (c .before .if2 .left) (c .if3 .left),
+      record { place = omega (arith, ends o); short = s .pre .short; modulus = s .pre .modulus; n-limit = c .before .if2 .left; m-limit = c .if3 .left })
 
 -- src/opening.rt:35:1
 returns-5 : tie.Need-returns-5
-returns-5 c = ?
+returns-5 c = let o = c .before .before .before in let s = o .before .before .before in (second-bad (now (s .args .text)) (s .args .at) (s .args .modulus .p) (s .pre .place) (o .before .line-from .ensures) (ends o) (c .before .before .header-of .ensures) (c .enum-told .given .1), tt)
 
 pub open-second-spec : {M : Type 1} → statement M
 open-second-spec =
