@@ -1,7 +1,10 @@
 pub mod Moduli
 pub mod Cutting
-pub mod StoredForm
-pub mod Storing
 pub mod Verdicts
 pub mod FirstLines
+pub mod StoredForm
+pub mod Storing
 pub mod Progress
+pub mod Printed
+pub mod Accepted
+pub mod Answers

@@ -171,8 +171,12 @@ module _ {text : List ℕ} {from : ℕ} {s : Sizes} {room : ℕ} {st co va : Lis
               lists = columns-long ∙ sym values-long;
               room = λ z. omega (arith, columns-long, space z) }
 
-        pub goes-on : (st′ co′ va′ : List ℕ) (n : ℕ) → Stored i room (kept (entry ∷ g .seen)) n st′ co′ va′ → Progress text from s room st′ co′ va′ next (line + 1) i k n
-        goes-on st′ co′ va′ n h =
+        pub goes-on : (st′ co′ va′ : List ℕ) (n : ℕ)
+            → (Stored a (length co) (kept (g .seen)) count st co va → Stored i (length co) (kept (entry ∷ g .seen)) n st′ co′ va′)
+            → Progress text from s room st′ co′ va′ next (line + 1) i k n
+        goes-on st′ co′ va′ n store =
+            let h : Stored i room (kept (entry ∷ g .seen)) n st′ co′ va′ =
+                subst (λ (r : ℕ). Stored a r (kept (g .seen)) count st co va → Stored i r (kept (entry ∷ g .seen)) n st′ co′ va′) columns-long store (g .stored) in
             let c = count-step entry (g .seen) room (λ z. omega (arith, g .stored .number, space z)) (omega (arith, g .stored .number, g .enough)) in
             let old = g .limits in
             record {

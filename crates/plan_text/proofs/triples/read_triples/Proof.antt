@@ -155,7 +155,7 @@ loop-again c =
     let h = o .before .before .before .loop .inv in
     let g = h .0 in
     (goes-on g (o .before .line-from .ensures) (j .judge-after .ensures) (ends o) (e .verdict2 .given .1) _ _ _ _
-      (subst (λ (n : ℕ). Stored _ n _ _ _ _ _) (columns-long g) (w .store .ensures (g .seen) (subst (λ (n : ℕ). Stored _ n _ _ _ _ _) (sym (columns-long g)) (g .stored)))),
+      (w .store .ensures (g .seen)),
       h .1, h .2, h .3)
 
 same-length-13 : tie.Need-same-length-13 Inv-loop μ-loop
