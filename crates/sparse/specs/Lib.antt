@@ -1,0 +1,6 @@
+pub mod Words
+pub mod Form
+pub mod Row
+pub mod Matrix
+pub mod WorkingRow
+pub mod Dense
