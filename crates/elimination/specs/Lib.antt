@@ -1,0 +1,3 @@
+pub mod Structural
+pub mod Pivots
+pub mod Factoring
