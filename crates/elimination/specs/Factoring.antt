@@ -3,7 +3,6 @@
 --   rest xs n                 the numbers below n that are not in xs, rising
 --   schedule n pairs          the pairs first, then the other rows by number
 --   nothing                   what is found before the first turn
---   Factored                  R, C, L, U and r, L and U as stored lists
 --   factored m f              the factors from what was found: pivots as found, then dependent rows; pivot columns, then the others rising
 --   factorFrom, factor        the factors from given pairs, and from the structural pivots
 --   entriesL, entriesU        how many entries L and U have
@@ -16,6 +15,7 @@ use lib.ListN.{length}
 use lib.Dec.{eqb, leb}
 use Rattle.algebra.specs.Matrix.{Matrix}
 use Rattle.sparse.specs.Matrix.{Compressed, matrix}
+use Rattle.sparse.specs.Set.{Set}
 use Rattle.sparse.specs.Dense.{nonzeros, compress}
 use Rattle.elimination.specs.Structural.{Pair, structural}
 use Rattle.elimination.specs.Pivots.{Found, Turn, pair, other, turn, turns, columnsOf, uppersOf, rankOf}
@@ -40,14 +40,7 @@ rowsOf f = map (λ q. q .row) (f .pivots) ++ map (λ d. d .row) (f .dependents)
 unfoldable pub lowersOf : Found → List (List ℕ)
 lowersOf f = map (λ q. q .lower) (f .pivots) ++ map (λ d. d .lower) (f .dependents)
 
-pub record Factored : Type 0 where
-  pub r : ℕ
-  pub R : List ℕ
-  pub C : List ℕ
-  pub L : Compressed
-  pub U : Compressed
-
-unfoldable pub factored : ℕ → Found → Factored
+unfoldable pub factored : ℕ → Found → Set
 factored m f =
     record {
       r = rankOf f;
@@ -57,10 +50,10 @@ factored m f =
       U = compress (uppersOf f);
     }
 
-unfoldable pub factorFrom : (p n m : ℕ) (A : Matrix) → List Pair → Factored
+unfoldable pub factorFrom : (p n m : ℕ) (A : Matrix) → List Pair → Set
 factorFrom p n m A pairs = factored m (turns p m A nothing (schedule n pairs))
 
-unfoldable pub factor : (p n m : ℕ) → Compressed → Factored
+unfoldable pub factor : (p n m : ℕ) → Compressed → Set
 factor p n m A = factorFrom p n m (matrix A) (structural A n m)
 
 -- ---- refusal 7
