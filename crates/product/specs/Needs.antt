@@ -36,4 +36,4 @@ pub record Comparable (p n r : ℕ) (A : Compressed) (R : List ℕ) (L U : Compr
   pub L-rows : length (L .starts) ≡ n + 1
   pub U-form : form p (length w) U ≡ true
   pub U-rows : length (U .starts) ≡ r + 1
-  pub zeros : w ≡ zeros (length w)
+  pub cleared : w ≡ zeros (length w)

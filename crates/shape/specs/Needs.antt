@@ -30,4 +30,4 @@ pub record Columns (p r : ℕ) (h : Compressed) (C w : List ℕ) : Type 0 where
   pub many : r < length (h .starts)
   pub order : r ≤ length C
   pub places : Below (length w) C
-  pub zeros : w ≡ zeros (length w)
+  pub cleared : w ≡ zeros (length w)

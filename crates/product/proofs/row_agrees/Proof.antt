@@ -30,7 +30,7 @@ subtract-product-requires c κs = let s = c .before .before .before .before .bef
       L-rows = omega (arith, s .pre .0, s .pre .1 .L-rows);
       U-form = s .pre .1 .U-form;
       U-rows = s .pre .1 .U-rows;
-      below = zero-below _ _ (s .pre .1 .positive) (s .pre .1 .zeros);
+      below = zero-below _ _ (s .pre .1 .positive) (s .pre .1 .cleared);
     }
 
 word-requires : tie.Need-word-requires
@@ -61,10 +61,10 @@ returns : tie.Need-returns
 returns c = let t = c .before .before .before .before .before .before .before .before .before .before .before .before .before in let d = c .before .before .before .before .before .before .before .before .before in let s = start t in let a = c .before .before .before .before .before .before in
     let long = a .subtract-row .ensures .long ∙ t .subtract-product .ensures .long in (
       c .before .before .zero-and-clear .ensures .0
-          ∙ cleared-agrees (s .args .q .p) (s .args .r) (matrix (compressed (view (s .args .ss .now) (s .args .sb .now)) (view (s .args .cols .now) (s .args .cb .now)) (view (s .args .vals .now) (s .args .vb .now)))) (vector (view (s .args .ro .now) (s .args .rob .now))) (matrix (compressed (view (s .args .ls .now) (s .args .lsb .now)) (view (s .args .lc .now) (s .args .lcb .now)) (view (s .args .lv .now) (s .args .lvb .now)))) (matrix (compressed (view (s .args .us .now) (s .args .usb .now)) (view (s .args .uc .now) (s .args .ucb .now)) (view (s .args .uv .now) (s .args .uvb .now)))) (s .args .i) _ _ (s .pre .1 .positive) (s .pre .1 .zeros)
+          ∙ cleared-agrees (s .args .q .p) (s .args .r) (matrix (compressed (view (s .args .ss .now) (s .args .sb .now)) (view (s .args .cols .now) (s .args .cb .now)) (view (s .args .vals .now) (s .args .vb .now)))) (vector (view (s .args .ro .now) (s .args .rob .now))) (matrix (compressed (view (s .args .ls .now) (s .args .lsb .now)) (view (s .args .lc .now) (s .args .lcb .now)) (view (s .args .lv .now) (s .args .lvb .now)))) (matrix (compressed (view (s .args .us .now) (s .args .usb .now)) (view (s .args .uc .now) (s .args .ucb .now)) (view (s .args .uv .now) (s .args .uvb .now)))) (s .args .i) _ _ (s .pre .1 .positive) (s .pre .1 .cleared)
           (subtracted-ext _ _ _ _ _ (λ j. ap (λ (k : ℕ). (s .args .q .p - 1) * matrix (compressed (view (s .args .ss .now) (s .args .sb .now)) (view (s .args .cols .now) (s .args .cb .now)) (view (s .args .vals .now) (s .args .vb .now))) k j + dot (s .args .r) (matrix (compressed (view (s .args .ls .now) (s .args .lsb .now)) (view (s .args .lc .now) (s .args .lcb .now)) (view (s .args .lv .now) (s .args .lvb .now))) (s .args .i)) (λ k. matrix (compressed (view (s .args .us .now) (s .args .usb .now)) (view (s .args .uc .now) (s .args .ucb .now)) (view (s .args .uv .now) (s .args .uvb .now))) k j)) (place d))
           (subtracted-then _ _ _ _ _ _ (t .subtract-product .ensures) (a .subtract-row .ensures))),
-      c .before .before .zero-and-clear .ensures .1 ∙ ap (λ (n : ℕ). zeros n) long ∙ sym (s .pre .1 .zeros),
+      c .before .before .zero-and-clear .ensures .1 ∙ ap (λ (n : ℕ). zeros n) long ∙ sym (s .pre .1 .cleared),
     )
 
 pub row-agrees-spec : {M : Type 1} → statement M

@@ -16,7 +16,7 @@ same-length c = search needs
 
 returns : tie.Need-returns
 returns c = let u = c .before .before .before .before .before .before in let s = u .before .before .before .before .before .before .before .before .before .before .before in
-    (u .upper-rows .ensures .0, c .before .before .clear-row .ensures ∙ ap (λ (k : ℕ). zeros k) (u .upper-rows .ensures .1) ∙ sym (s .pre .zeros))
+    (u .upper-rows .ensures .0, c .before .before .clear-row .ensures ∙ ap (λ (k : ℕ). zeros k) (u .upper-rows .ensures .1) ∙ sym (s .pre .cleared))
 
 pub upper-ok-spec : {M : Type 1} → statement M
 upper-ok-spec = tie.close (tie.spec upper-rows-requires clear-row-requires same-length returns)

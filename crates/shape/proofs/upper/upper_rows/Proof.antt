@@ -41,7 +41,7 @@ test c =
     ∙ upper-marked (s .args .p) _ _ _ (vector (view (s .args .co .now) (s .args .cob .now))) (l .k) (c .before .before .word .result) (l .work) (form-row (s .args .p) _ _ _ _ (s .pre .formed) (l .k)) (l .inv .marks) (c .before .before .word .ensures)
 
 loop-holds : tie.Need-loop-holds Inv-loop μ-loop
-loop-holds c = record { inside = omega arith; long = refl; marks = marks-none _ _ (c .before .before .before .before .before .before .before .before .before .pre .zeros); passed = λ i h. absurd (omega arith) }
+loop-holds c = record { inside = omega arith; long = refl; marks = marks-none _ _ (c .before .before .before .before .before .before .before .before .before .pre .cleared); passed = λ i h. absurd (omega arith) }
 
 word-requires : tie.Need-word-requires Inv-loop μ-loop
 word-requires c κs = omega (arith, start c .pre .order)
