@@ -1,3 +1,6 @@
 pub mod WordLaws
 pub mod Parts
 pub mod Forms
+pub mod Entries
+pub mod Rows
+pub mod Subtraction

@@ -2,4 +2,5 @@
 // (`cols` and `cb`), of which one is empty: the list meant is the first followed by the words of the second.
 pub mod dense;
 pub mod form;
+pub mod kernel;
 pub mod words;
