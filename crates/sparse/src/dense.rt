@@ -129,7 +129,14 @@ pub fn put(v: u32, j: u32, at: usize, cols: &mut [u32], vals: &mut [u32]) -> usi
 }
 
 // Stores the working row times c from place `start` on, and clears it; gives the next place.
-pub fn store(q: Modulus, c: u32, start: usize, work: &mut [u64], cols: &mut [u32], vals: &mut [u32]) -> usize
+pub fn store(
+    q: Modulus,
+    c: u32,
+    start: usize,
+    work: &mut [u64],
+    cols: &mut [u32],
+    vals: &mut [u32],
+) -> usize
     requires { ⌜ StoreReady (q .p) c start (now work) (now cols) (now vals) ⌝ }
     ensures { λ next. ⌜ RowStored (q .p) c start (now (work .entry)) (now (cols .entry)) (now (vals .entry)) (now (work .exit)) (now (cols .exit)) (now (vals .exit)) next ⌝ }
 {

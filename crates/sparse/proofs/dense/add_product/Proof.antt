@@ -1,40 +1,37 @@
+-- `add_product` meets its contract, by the law of each arm. Assumes nothing.
+use Prim.Native.Nat.{ℕ, _*_, _^_, _<_}
+use native.Mathlib.Omega.{arith}
 use borrow.Author.Needs.{needs}
+use Rattle.residue.proofs.Arithmetic.{mul-fits}
+use Rattle.sparse.proofs.Subtraction.{product-below}
+use Rattle.sparse.proofs.DenseSteps.{cell-more, cell-over}
 use Rattle.sparse.proofs.dense.add_product.Statement.{statement}
 use Rattle.sparse.proofs.dense.add_product.Tie as tie
-use Rattle.sparse.proofs.dense.add_product.Reads as reads
-use Rattle.sparse.proofs.dense.add_product.Lts as lts
 
--- src/dense.rt:42:18
 cast-square : tie.Need-cast-square
 cast-square c = search needs
 
--- src/dense.rt:42:31
 cast-square-2 : tie.Need-cast-square-2
 cast-square-2 c = search needs
 
--- src/dense.rt:42:18
 mul-square : tie.Need-mul-square
-mul-square c = ?
+mul-square c = record { fits = mul-fits (search needs) (search needs) }
 
--- src/dense.rt:43:19
 mul-product : tie.Need-mul-product
-mul-product c = ?
+mul-product c = record { fits = mul-fits (search needs) (search needs) }
 
--- src/dense.rt:44:16
 sub-rest : tie.Need-sub-rest
-sub-rest c = ?
+sub-rest c = let s = c .before .before in omega (arith, product-below (s .pre .1 .left) (s .pre .1 .right))
 
--- src/dense.rt:45:19
 add-result : tie.Need-add-result
-add-result c = ?
+add-result c = let p = c .before .before .before .args .q .p in let small : p < 2 ^ 32 = search needs in omega (arith, mul-fits small small)
 
--- src/dense.rt:38:1
 returns : tie.Need-returns
-returns c = ?
+returns c = let s = c .before .before .before in cell-more (s .args .q .p) (s .args .s) (s .args .v * s .args .x) (c .if1 .taken)
 
--- src/dense.rt:38:1
 returns-2 : tie.Need-returns-2
-returns-2 c = ?
+returns-2 c = let s = c .before .before .before in
+    cell-over (s .args .q .p) (s .args .s) (s .args .v * s .args .x) (s .pre .0) (product-below (s .pre .1 .left) (s .pre .1 .right)) (c .if1 .left)
 
 pub add-product-spec : {M : Type 1} → statement M
 add-product-spec =

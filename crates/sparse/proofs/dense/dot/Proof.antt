@@ -1,70 +1,81 @@
+-- `dot` meets its contract; the loop's invariant is `Summing`, the measure what is left. Assumes nothing.
+use Prim.Native.Nat.{ℕ, _-_, _*_, _<_}
+use mathlib.Core.Path.{_≡_, _∙_}
+use native.Mathlib.Omega.{arith}
+use lib.ListN.{length, getD}
+use borrow.Author.Needs.{needs}
+use Rattle.algebra.specs.Matrix.{vector}
+use Rattle.sparse.specs.Words.{view}
+use Rattle.sparse.proofs.Entries.{row-columns, row-values}
+use Rattle.sparse.proofs.Subtraction.{product-below}
+use Rattle.sparse.proofs.DenseSteps.{Summing, summing-starts, summing-turn, summing-ends}
 use Rattle.sparse.proofs.dense.dot.Statement.{statement}
 use Rattle.sparse.proofs.dense.dot.Tie as tie
-use Rattle.sparse.proofs.dense.dot.Reads as reads
-use Rattle.sparse.proofs.dense.dot.Lts as lts
-use Rattle.lists.proofs.index.Reads as index-reads
-use Rattle.residue.proofs.Modulus.reduce.Reads as reduce-reads
-use Rattle.sparse.proofs.dense.add_product.Reads as add-product-reads
-use Rattle.sparse.proofs.words.count.Reads as count-reads
-use Rattle.sparse.proofs.words.word.Reads as word-reads
 
 abbrev Inv-loop : tie.InvT-loop
-Inv-loop q cols cb vals vb z n s₀ t₀ s t = ?
+Inv-loop q cols cb vals vb z n s₀ t₀ s t = Summing (q .p) (view cols cb) (view vals vb) (vector z) s t
 
 abbrev μ-loop : tie.MeasureT-loop
-μ-loop q cols cb vals vb z n s₀ t₀ s t = ?
+μ-loop q cols cb vals vb z n s₀ t₀ s t = n - t
 
--- src/dense.rt:53:9
+abbrev start : tie.In-loop Inv-loop μ-loop → tie.Start Inv-loop μ-loop
+start c = c .before .before .before .before .before .before .before .before
+
+paired : (c : tie.In-loop Inv-loop μ-loop) → c .before .loop .t < length (view (start c .args .vals .now) (start c .args .vb .now))
+paired c = omega (arith, start c .pre .row .paired)
+
+-- the index is the column
+place : (c : tie.After-word2 Inv-loop μ-loop)
+    → c .before .index .result ≡ getD (view (start (c .before .before .before) .args .cols .now) (start (c .before .before .before) .args .cb .now)) (c .before .before .before .before .loop .t) 0
+place c = c .before .index .ensures ∙ c .before .before .word .ensures
+
+column : (c : tie.After-word2 Inv-loop μ-loop) → c .before .index .result < length (start (c .before .before .before) .args .z .now)
+column c =
+    let turn = c .before .before .before in
+    rw (place c) (row-columns _ _ _ _ (start turn .pre .row) (turn .before .loop .t) (omega arith))
+
 count-requires : tie.Need-count-requires Inv-loop μ-loop
-count-requires c κs = ?
+count-requires c κs = search needs
 
--- src/dense.rt:56:5
 loop-holds : tie.Need-loop-holds Inv-loop μ-loop
-loop-holds c = ?
+loop-holds c = let h = c .before .before .before .before .before .before .pre .positive in summing-starts _ _ _ _ (product-below h h)
 
--- src/dense.rt:57:23
 word-requires : tie.Need-word-requires Inv-loop μ-loop
-word-requires c κs = ?
+word-requires c κs = omega arith
 
--- src/dense.rt:57:13
 index-requires : tie.Need-index-requires Inv-loop μ-loop
-index-requires c κs = ?
+index-requires c κs = search needs
 
--- src/dense.rt:58:13
 word-requires-2 : tie.Need-word-requires-2 Inv-loop μ-loop
-word-requires-2 c κs = ?
+word-requires-2 c κs = paired (c .before .before)
 
--- src/dense.rt:59:34
 mul-add-product : tie.Need-mul-add-product Inv-loop μ-loop
-mul-add-product c = ?
+mul-add-product c = omega (arith, column c)
 
--- src/dense.rt:59:34
 shared-slice-read-add-product : tie.Need-shared-slice-read-add-product Inv-loop μ-loop
-shared-slice-read-add-product c = ?
+shared-slice-read-add-product c = column (c .before)
 
--- src/dense.rt:59:9
 add-product-requires : tie.Need-add-product-requires Inv-loop μ-loop
-add-product-requires c κs = ?
+add-product-requires c κs = let w = c .before in let turn = w .before .before .before in let s = start turn in let l = turn .before .loop in (
+  l .inv .below,
+  record { left = rw (w .word2 .ensures) (row-values _ _ _ _ (s .pre .row) (l .t) (paired turn)); right = s .pre .below (w .before .index .result) (column w) },
+)
 
--- src/dense.rt:60:9
 add-t : tie.Need-add-t Inv-loop μ-loop
-add-t c = ?
+add-t c = omega arith
 
--- src/dense.rt:56:5
 loop-less : tie.Need-loop-less Inv-loop μ-loop
-loop-less c = ?
+loop-less c = omega arith
 
--- src/dense.rt:56:5
 loop-again : tie.Need-loop-again Inv-loop μ-loop
-loop-again c = ?
+loop-again c = let w = c .before .before in let turn = w .before .before .before in let l = turn .before .loop in
+    summing-turn _ _ _ _ (l .s) (c .add-product .result) (l .t) (w .before .index .result) (w .word2 .result) (omega arith) (paired turn) (place w) (w .word2 .ensures) (c .add-product .ensures) (l .inv)
 
--- src/dense.rt:62:5
 reduce-requires : tie.Need-reduce-requires Inv-loop μ-loop
-reduce-requires c κs = ?
+reduce-requires c κs = search needs
 
--- src/dense.rt:49:1
 returns : tie.Need-returns Inv-loop μ-loop
-returns c = ?
+returns c = summing-ends _ _ _ _ _ _ _ (omega arith) (c .before .before .loop .inv) (c .reduce .ensures)
 
 pub dot-spec : {M : Type 1} → statement M
 dot-spec =

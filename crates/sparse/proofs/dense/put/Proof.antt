@@ -1,44 +1,38 @@
+-- `put` meets its contract. Assumes nothing.
+use mathlib.Core.Path.{_≡_}
+use native.Mathlib.Omega.{arith}
+use mathlib.Core.List.{[]}
 use borrow.Author.Needs.{needs}
+use Rattle.sparse.proofs.Nonzeros.{nonzeros-one, stored-zero, stored-one}
 use Rattle.sparse.proofs.dense.put.Statement.{statement}
 use Rattle.sparse.proofs.dense.put.Tie as tie
-use Rattle.sparse.proofs.dense.put.Reads as reads
-use Rattle.sparse.proofs.dense.put.Lts as lts
 
--- src/dense.rt:124:9
 returns : tie.Need-returns
-returns c = ?
+returns c = let a = c .before .args in stored-zero (a .j) (a .at) (a .v) _ _ (c .if1 .taken)
 
--- src/dense.rt:126:5
 mul-cols : tie.Need-mul-cols
 mul-cols c = search needs
 
--- src/dense.rt:126:5
 slice-write-cols : tie.Need-slice-write-cols
-slice-write-cols c = ?
+slice-write-cols c = omega (arith, nonzeros-one (c .before .args .v) [] (c .if1 .left))
 
--- src/dense.rt:127:5
 mul-vals : tie.Need-mul-vals
 mul-vals c = search needs
 
--- src/dense.rt:127:5
 slice-write-vals : tie.Need-slice-write-vals
-slice-write-vals c = ?
+slice-write-vals c = omega (arith, nonzeros-one (c .before .args .v) [] (c .if1 .left))
 
--- src/dense.rt:128:5
 add-result : tie.Need-add-result
 add-result c = search needs
 
--- src/dense.rt:119:1
 same-length : tie.Need-same-length
 same-length c = search needs
 
--- src/dense.rt:119:1
 same-length-2 : tie.Need-same-length-2
 same-length-2 c = search needs
 
--- src/dense.rt:119:1
 returns-2 : tie.Need-returns-2
-returns-2 c = ?
+returns-2 c = let a = c .before .args in stored-one (a .j) (a .at) (a .v) _ _ (c .if1 .left)
 
 pub put-spec : {M : Type 1} → statement M
 put-spec =

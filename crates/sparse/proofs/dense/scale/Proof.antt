@@ -1,26 +1,32 @@
+-- `scale` meets its contract. Assumes nothing.
+use mathlib.Core.Path.{_≡_, sym, ap, _∙_}
+use Prim.Native.Nat.{ℕ, _*_, _%_}
+use native.Mathlib.Nat.{zero-mod, mul-zero}
+use native.Mathlib.Omega.{arith}
 use borrow.Author.Needs.{needs}
+use Rattle.sparse.proofs.Nonzeros.{zero-scaled}
 use Rattle.sparse.proofs.dense.scale.Statement.{statement}
 use Rattle.sparse.proofs.dense.scale.Tie as tie
-use Rattle.sparse.proofs.dense.scale.Reads as reads
-use Rattle.sparse.proofs.dense.scale.Lts as lts
-use Rattle.residue.proofs.Modulus.multiply.Reads as multiply-reads
-use Rattle.residue.proofs.Modulus.reduce.Reads as reduce-reads
 
--- src/dense.rt:113:9
 returns : tie.Need-returns
-returns c = ?
+returns c = let s = c .before in let p = s .args .q .p in
+    record { value = sym (zero-scaled p (s .args .c) (s .args .x) (ap (λ (x : ℕ). x % p) (c .if1 .taken) ∙ zero-mod p)); below = omega arith }
 
--- src/dense.rt:115:19
 reduce-requires : tie.Need-reduce-requires
 reduce-requires c κs = search needs
 
--- src/dense.rt:115:5
 multiply-requires : tie.Need-multiply-requires
 multiply-requires c κs = search needs
 
--- src/dense.rt:108:1
 returns-2 : tie.Need-returns-2
-returns-2 c = ?
+returns-2 c = let s = c .before .before .before in let p = s .args .q .p in
+    record { value = c .multiply .ensures .value ∙ ap (λ (x : ℕ). s .args .c * x % p) (c .before .reduce .ensures .value); below = c .multiply .ensures .below }
 
 pub scale-spec : {M : Type 1} → statement M
-scale-spec = tie.close (tie.spec returns reduce-requires multiply-requires returns-2)
+scale-spec =
+    tie.close
+    (tie.spec
+    returns
+    reduce-requires
+    multiply-requires
+    returns-2)

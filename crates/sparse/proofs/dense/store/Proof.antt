@@ -1,75 +1,72 @@
+-- `store` meets its contract; the loop's invariant is `Storing`, the measure what is left. Assumes nothing.
+use Prim.Native.Nat.{ℕ, _-_, _<_}
+use mathlib.Core.Path.{_≡_}
+use native.Mathlib.Omega.{arith}
+use lib.ListN.{length}
+use borrow.Author.Needs.{needs}
+use Rattle.sparse.proofs.DenseSteps.{Storing, storing-starts, storing-columns, storing-values, storing-room, storing-turn, storing-ends}
 use Rattle.sparse.proofs.dense.store.Statement.{statement}
 use Rattle.sparse.proofs.dense.store.Tie as tie
-use Rattle.sparse.proofs.dense.store.Reads as reads
-use Rattle.sparse.proofs.dense.store.Lts as lts
-use Rattle.sparse.proofs.dense.put.Reads as put-reads
-use Rattle.sparse.proofs.dense.scale.Reads as scale-reads
 
 abbrev Inv-loop : tie.InvT-loop
-Inv-loop q c start work₀ cols₀ vals₀ at₀ j₀ work cols vals at j = ?
+Inv-loop q c start work₀ cols₀ vals₀ at₀ j₀ work cols vals at j = Storing (q .p) c start work₀ cols₀ vals₀ work cols vals at j
 
 abbrev μ-loop : tie.MeasureT-loop
-μ-loop q c start work₀ cols₀ vals₀ at₀ j₀ work cols vals at j = ?
+μ-loop q c start work₀ cols₀ vals₀ at₀ j₀ work cols vals at j = length work₀ - j
 
--- src/dense.rt:138:5
+inside : (c : tie.In-loop Inv-loop μ-loop) → c .before .loop .j < length (c .before .before .before .before .before .args .work .now)
+inside c = omega (arith, c .loop-test .taken, c .before .loop .inv .clearing .long)
+
+-- a turn's last place, and the place where it began
+abbrev turn : tie.After-slice-known6 Inv-loop μ-loop → tie.In-loop Inv-loop μ-loop
+turn c = c .before .before .before .before .before .before .before .before .before
+
 loop-holds : tie.Need-loop-holds Inv-loop μ-loop
-loop-holds c = ?
+loop-holds c = storing-starts _ _ _ _ _ _
 
--- src/dense.rt:139:29
 mul-scale : tie.Need-mul-scale Inv-loop μ-loop
-mul-scale c = ?
+mul-scale c = omega (arith, inside c, c .before .before .before .before .before .good)
 
--- src/dense.rt:139:29
 slice-read-scale : tie.Need-slice-read-scale Inv-loop μ-loop
-slice-read-scale c = ?
+slice-read-scale c = c .before .loop-test .taken
 
--- src/dense.rt:139:13
 scale-requires : tie.Need-scale-requires Inv-loop μ-loop
-scale-requires c κs = ?
+scale-requires c κs = c .before .before .before .before .before .before .pre .residue
 
--- src/dense.rt:140:21
 cast-put : tie.Need-cast-put Inv-loop μ-loop
-cast-put c = ?
+cast-put c = omega (arith, inside (c .before .before), c .before .before .before .before .before .before .before .pre .narrow)
 
--- src/dense.rt:140:9
 put-requires : tie.Need-put-requires Inv-loop μ-loop
-put-requires c κs = ?
+put-requires c κs = let l = c .before .before .before .before in let h = l .before .loop in let s = l .before .before .before .before .before in
+    storing-room _ _ _ _ _ _ (h .work) (h .cols) (h .vals) (h .at) (h .j) (h .inv) _ (inside l) (c .before .before .scale .ensures .value) (s .pre .room)
 
--- src/dense.rt:141:9
 mul-work : tie.Need-mul-work Inv-loop μ-loop
-mul-work c = ?
+mul-work c = omega (arith, inside (turn c), turn c .before .before .before .before .before .good)
 
--- src/dense.rt:141:9
 slice-write-work : tie.Need-slice-write-work Inv-loop μ-loop
-slice-write-work c = ?
+slice-write-work c = turn c .loop-test .taken
 
--- src/dense.rt:142:9
 add-j : tie.Need-add-j Inv-loop μ-loop
-add-j c = ?
+add-j c = omega (arith, inside (turn c), turn c .before .before .before .before .before .good)
 
--- src/dense.rt:138:5
 loop-less : tie.Need-loop-less Inv-loop μ-loop
-loop-less c = ?
+loop-less c = omega (arith, inside (turn c))
 
--- src/dense.rt:138:5
 loop-again : tie.Need-loop-again Inv-loop μ-loop
-loop-again c = ?
+loop-again c = let l = turn c in let h = l .before .loop in
+    storing-turn _ _ _ _ _ _ (h .work) (h .cols) (h .vals) (h .at) (h .j) (h .inv) _ (inside l) (c .before .before .before .before .before .before .before .scale .ensures .value) _ _ _ (c .before .before .before .before .put .ensures)
 
--- src/dense.rt:132:1
 same-length : tie.Need-same-length Inv-loop μ-loop
-same-length c = ?
+same-length c = c .before .loop .inv .clearing .long
 
--- src/dense.rt:132:1
 same-length-2 : tie.Need-same-length-2 Inv-loop μ-loop
-same-length-2 c = ?
+same-length-2 c = storing-columns _ _ _ _ _ _ _ _ _ _ _ (c .before .loop .inv)
 
--- src/dense.rt:132:1
 same-length-3 : tie.Need-same-length-3 Inv-loop μ-loop
-same-length-3 c = ?
+same-length-3 c = storing-values _ _ _ _ _ _ _ _ _ _ _ (c .before .loop .inv)
 
--- src/dense.rt:132:1
 returns : tie.Need-returns Inv-loop μ-loop
-returns c = ?
+returns c = storing-ends _ _ _ _ _ _ _ _ _ _ _ (c .before .loop .inv) (omega (arith, c .loop-test .left, c .before .loop .inv .clearing .long))
 
 pub store-spec : {M : Type 1} → statement M
 store-spec =
