@@ -1,29 +1,26 @@
 -- The loops between stored rows and the working row, one turn at a time.
 use mathlib.Core.Path.{_≡_, refl, sym, ap, _∙_}
-use mathlib.Core.Bool.{Bool, true, false, not}
 use mathlib.Core.List.{List, [], _∷_, _++_}
-use Prim.Native.Nat.{ℕ, zero, suc, _+_, _-_, _*_, _%_, _≤_, _<_}
-use native.Mathlib.Nat.{mod-lt}
+use Prim.Native.Nat.{ℕ, suc, _+_, _-_, _*_, _%_, _≤_, _<_}
+use native.Mathlib.Nat.{mul-le-mul-left}
 use native.Mathlib.Decide.{ℕ-discrete}
 use native.Mathlib.Omega.{arith}
-use lib.Dec.{eqb}
 use lib.ListN.{length, getD, take, drop, set, replicate, length-set, length-replicate, drop-of-length-le}
 use lib.Seq.{length-take-le, take-all, drop-cons, getD-at, getD-set-same, getD-set-other}
 use Rattle.lists.specs.Filled.{zeros}
 use Rattle.lists.specs.Tabulate.{tabulate}
 use Rattle.lists.specs.Tests.{first}
 use Rattle.lists.proofs.Filled.{Clearing, clearing-starts, clearing-turn, clearing-ends, zeros-at}
-use Rattle.lists.proofs.Steps.{drop-end}
-use Rattle.lists.proofs.Tabulate.{tabulated}
+use Rattle.lists.proofs.Tabulate.{length-tabulate, tabulate-at, tabulated}
 use Rattle.algebra.specs.Sum.{δ}
 use Rattle.algebra.specs.Congruence.{_≈⟨_⟩_}
 use Rattle.algebra.proofs.Dot.{δ-same, δ-other}
 use Rattle.algebra.proofs.Congruence.{exact, _⊙_, _⊕_, same-refl, by-multiples}
 use Rattle.residue.specs.Arithmetic.{Residue}
-use Rattle.sparse.specs.Row.{weigh, entry, Row}
+use Rattle.sparse.specs.Row.{weigh, entry, Below, Row}
 use Rattle.sparse.specs.WorkingRow.{Cell}
 use Rattle.sparse.specs.Dense.{nonzeros, scaled}
-use Rattle.sparse.specs.Storing.{Room, Stored, StoreReady, RowStored}
+use Rattle.sparse.specs.Storing.{Room, Stored, RowStored}
 use Rattle.sparse.proofs.Entries.{weigh-step, weigh-end, entry-below, row-values}
 use Rattle.sparse.proofs.Nonzeros.{count-append, nonzeros-zero, nonzeros-one, stored-none, stored-then, stored-columns, stored-values, length-scaled, scaled-drop, scaled-take, scaled-split, scaled-once}
 
@@ -66,6 +63,13 @@ module _ (cols vals w₀ : List ℕ) where
   pub loading-ends : (w : List ℕ) (t : ℕ) → length cols ≤ t → Loading w t → w ≡ tabulate (length w₀) (entry cols vals)
   loading-ends w t h s =
       tabulated (length w₀) (entry cols vals) w (s .long) (λ j l. omega (arith, s .cells j l, weigh-end cols vals t (λ c. δ c j) h))
+
+-- a row that is loaded can be worked on
+pub loaded-below : (p width : ℕ) (cols vals : List ℕ) → 0 < p → Row p width cols vals → Below (p * p) (tabulate width (entry cols vals))
+loaded-below p width cols vals pos row j h =
+    let b : j < width = omega (arith, length-tabulate width (entry cols vals)) in
+    let e = entry-below p width 0 j cols vals pos (row .rising) (row .nonzero) in
+    omega (arith, tabulate-at width (entry cols vals) j b, e, mul-le-mul-left {m = 1} {n = p} p pos)
 
 -- ---- the product with a vector: the sum and what is still to come make the product
 

@@ -1,18 +1,18 @@
 -- The nonzero cells of a dense row: in parts, one after another, and as many after scaling.
 use mathlib.Core.Path.{_≡_, refl, sym, ap, _∙_}
 use mathlib.Core.List.{List, [], _∷_, _++_, map-append}
-use Prim.Native.Nat.{ℕ, zero, suc, _+_, _*_, _%_, _≤_, _<_}
+use Prim.Native.Nat.{ℕ, zero, suc, _+_, _*_, _%_, _<_}
 use native.Mathlib.Nat.{add-zero, one-mul, mod-mod, mod-eq-of-lt, zero-mod, mul-zero}
 use native.Mathlib.Omega.{arith}
 use native.Mathlib.Numerals.{add-one}
 use lib.ListN.{length, getD, take, drop, set, length-append, length-map, take-append-drop}
 use lib.Seq.{sets, length-sets, take-suc}
+use Rattle.lists.specs.Tabulate.{tabulate}
 use Rattle.lists.proofs.Steps.{drop-step}
-use Rattle.algebra.specs.Congruence.{_≈⟨_⟩_}
 use Rattle.algebra.proofs.Inverse.{no-divisors}
 use Rattle.residue.specs.Inverse.{Invertible}
 use Rattle.sparse.specs.Dense.{columnsFrom, nonzeros, scaled}
-use Rattle.sparse.specs.Storing.{Room, Stored}
+use Rattle.sparse.specs.Storing.{Stored}
 
 -- ---- in parts
 
@@ -113,6 +113,12 @@ module _ (p c : ℕ) (w : List ℕ) where
 
   pub scaled-split : (j : ℕ) → scaled p c w ≡ scaled p c (take j w) ++ scaled p c (drop j w)
   scaled-split j = ap (scaled p c) (sym (take-append-drop j w)) ∙ scaled-append p c (take j w) (drop j w)
+
+-- by index
+pub scaled-tabulate : (p c : ℕ) (w : List ℕ) → scaled p c w ≡ tabulate (length w) (λ j. c * (getD w j 0 % p) % p)
+unfolding scaled tabulate
+scaled-tabulate p c [] = refl
+scaled-tabulate p c (x ∷ w) = ap (λ (l : List ℕ). c * (x % p) % p ∷ l) (scaled-tabulate p c w)
 
 -- ---- as many after scaling
 

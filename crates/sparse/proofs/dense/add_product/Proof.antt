@@ -1,5 +1,5 @@
 -- `add_product` meets its contract, by the law of each arm. Assumes nothing.
-use Prim.Native.Nat.{ℕ, _*_, _^_, _<_}
+use Prim.Native.Nat.{_*_, _^_, _<_}
 use native.Mathlib.Omega.{arith}
 use borrow.Author.Needs.{needs}
 use Rattle.residue.proofs.Arithmetic.{mul-fits}

@@ -1,10 +1,9 @@
 -- `count_nonzero` meets its contract; the loop's invariant is `Counting`, the measure what is left. Assumes nothing.
-use Prim.Native.Nat.{ℕ, _-_, _%_}
+use Prim.Native.Nat.{_-_, _%_}
 use mathlib.Core.Path.{sym, _∙_}
 use mathlib.Core.Logic.{⊎-elim}
 use native.Mathlib.Omega.{arith}
 use lib.ListN.{length, getD}
-use borrow.Author.Needs.{needs}
 use borrow.Author.Tests.{not-true, not-false, eqb-true, eqb-false}
 use Rattle.sparse.proofs.DenseSteps.{Counting, counting-starts, counting-zero, counting-one, counting-ends}
 use Rattle.sparse.proofs.dense.count_nonzero.Statement.{statement}

@@ -1,9 +1,7 @@
 -- `store` meets its contract; the loop's invariant is `Storing`, the measure what is left. Assumes nothing.
-use Prim.Native.Nat.{ℕ, _-_, _<_}
-use mathlib.Core.Path.{_≡_}
+use Prim.Native.Nat.{_-_, _<_}
 use native.Mathlib.Omega.{arith}
 use lib.ListN.{length}
-use borrow.Author.Needs.{needs}
 use Rattle.sparse.proofs.DenseSteps.{Storing, storing-starts, storing-columns, storing-values, storing-room, storing-turn, storing-ends}
 use Rattle.sparse.proofs.dense.store.Statement.{statement}
 use Rattle.sparse.proofs.dense.store.Tie as tie
