@@ -5,3 +5,4 @@ pub mod Matrix
 pub mod Set
 pub mod WorkingRow
 pub mod Dense
+pub mod Storing
