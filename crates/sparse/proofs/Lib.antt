@@ -4,3 +4,5 @@ pub mod Forms
 pub mod Entries
 pub mod Rows
 pub mod Subtraction
+pub mod DenseLaws
+pub mod DenseForm
