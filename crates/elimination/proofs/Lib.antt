@@ -1,3 +1,5 @@
 pub mod Listed
 pub mod Completion
 pub mod Echelon
+pub mod Invariant
+pub mod Turns
