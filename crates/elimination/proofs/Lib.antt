@@ -3,3 +3,4 @@ pub mod Completion
 pub mod Echelon
 pub mod Invariant
 pub mod Turns
+pub mod Pairs
