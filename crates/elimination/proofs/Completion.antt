@@ -11,7 +11,7 @@ use lib.ListN.{length, getD, length-append}
 use borrow.Author.Tests.{eq-eqb, ne-eqb}
 use Rattle.algebra.specs.Matrix.{Distinct, Permutation, vector}
 use Rattle.elimination.specs.Factoring.{isIn, rest}
-use Rattle.elimination.proofs.Listed.{isIn-append, isIn-place, listed}
+use Rattle.elimination.proofs.Listed.{snoc-each, isIn-append, isIn-place, listed}
 
 -- ---- each number below n is in the list or among the others
 
@@ -34,6 +34,18 @@ completed-isIn xs n x h = isIn-append xs (rest xs n) x ∙ go (isIn xs x) refl
     go : (b : Bool) → isIn xs x ≡ b → (b || isIn (rest xs n) x) ≡ true
     go true e = refl
     go false e = rest-isIn xs n x h e
+
+-- the others are below n
+pub rest-each : (xs : List ℕ) (n k : ℕ) → k < length (rest xs n) → getD (rest xs n) k 0 < n
+unfolding rest
+rest-each xs zero k h = absurd (omega arith)
+rest-each xs (suc n) k h = go (isIn xs n) (rest-each xs n) k h
+  where
+    go : (b : Bool) → ((k : ℕ) → k < length (rest xs n) → getD (rest xs n) k 0 < n) → (k : ℕ) → k < length (rest xs n ++ cond b [] (n ∷ []))
+        → getD (rest xs n ++ cond b [] (n ∷ [])) k 0 < suc n
+    go true ih k h = let e : rest xs n ++ [] ≡ rest xs n = append-nil (rest xs n) in
+        omega (arith, ap (λ (l : List ℕ). getD l k 0) e, ih k (omega (arith, ap length e)))
+    go false ih k h = snoc-each 0 (rest xs n) n (λ k x. x < suc n) (λ k l. omega (arith, ih k l)) (omega arith) k h
 
 -- ---- how many the others are
 

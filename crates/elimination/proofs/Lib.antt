@@ -4,3 +4,5 @@ pub mod Echelon
 pub mod Invariant
 pub mod Turns
 pub mod Pairs
+pub mod RowsFound
+pub mod Schedule
