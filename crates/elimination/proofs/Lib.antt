@@ -6,3 +6,4 @@ pub mod Turns
 pub mod Pairs
 pub mod RowsFound
 pub mod Schedule
+pub mod Theorem
