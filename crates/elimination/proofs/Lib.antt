@@ -7,3 +7,4 @@ pub mod Pairs
 pub mod RowsFound
 pub mod Schedule
 pub mod Theorem
+pub mod Room
