@@ -6,3 +6,5 @@ pub mod Rows
 pub mod Subtraction
 pub mod Nonzeros
 pub mod DenseSteps
+pub mod DenseLaws
+pub mod DenseForm

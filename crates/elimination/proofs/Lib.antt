@@ -1,0 +1,10 @@
+pub mod Listed
+pub mod Completion
+pub mod Echelon
+pub mod Invariant
+pub mod Turns
+pub mod Pairs
+pub mod RowsFound
+pub mod Schedule
+pub mod Theorem
+pub mod Room
