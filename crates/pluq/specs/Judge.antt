@@ -10,6 +10,7 @@ use mathlib.Core.Bool.{Bool, true}
 use mathlib.Core.List.{List}
 use lib.Dec.{leb, eqb}
 use Rattle.lists.specs.Tests.{all, first}
+use Rattle.lists.specs.Table.{noPermutation, rankTooLarge, badFactors, productDiffers}
 use Rattle.lists.specs.Refusals.{_▷_, unless}
 use Rattle.lists.specs.declared.Outcome.{Outcome}
 use Rattle.algebra.specs.Sum.{dot}
@@ -24,22 +25,22 @@ unfoldable pub agrees : (p m r : ℕ) (A : Matrix) (R : Vector) (L U : Matrix) �
 agrees p m r A R L U i = all m (λ j. eqb (A (R i) j % p) (dot r (L i) (λ k. U k j) % p))
 
 unfoldable pub productOutcome : ℕ → (ℕ → Bool) → Outcome
-productOutcome n t = unless (leb n (first n t)) 14 (first n t)
+productOutcome n t = unless (leb n (first n t)) productDiffers (first n t)
 
 unfoldable pub judgeFactors : (p n m : ℕ) → Compressed → Set → Outcome
 judgeFactors p n m A s =
-    unless (form p (s .r) (s .L)) 13 0
-    ▷ unless (form p m (s .U)) 13 0
-    ▷ unless (lower (s .r) (matrix (s .L))) 13 0
-    ▷ unless (upper (s .r) (vector (s .C)) (matrix (s .U))) 13 0
+    unless (form p (s .r) (s .L)) badFactors 0
+    ▷ unless (form p m (s .U)) badFactors 0
+    ▷ unless (lower (s .r) (matrix (s .L))) badFactors 0
+    ▷ unless (upper (s .r) (vector (s .C)) (matrix (s .U))) badFactors 0
     ▷ productOutcome n (agrees p m (s .r) (matrix A) (vector (s .R)) (matrix (s .L)) (matrix (s .U)))
 
 unfoldable pub judge : (p n m : ℕ) → Compressed → Set → Outcome
 judge p n m A s =
-    unless (permutation (s .R)) 11 0
-    ▷ unless (permutation (s .C)) 11 0
-    ▷ unless (leb (s .r) n) 12 0
-    ▷ unless (leb (s .r) m) 12 0
+    unless (permutation (s .R)) noPermutation 0
+    ▷ unless (permutation (s .C)) noPermutation 0
+    ▷ unless (leb (s .r) n) rankTooLarge 0
+    ▷ unless (leb (s .r) m) rankTooLarge 0
     ▷ judgeFactors p n m A s
 
 pub record Passes (p n m : ℕ) (A : Compressed) (s : Set) : Type 0 where

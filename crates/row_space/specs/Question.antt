@@ -5,9 +5,10 @@ use mathlib.Core.List.{List}
 use lib.Dec.{leb, ltb}
 use lib.ListN.{length, getD}
 use Rattle.lists.specs.Tests.{first}
+use Rattle.lists.specs.Table.{questionTooLarge}
 use Rattle.lists.specs.Refusals.{unless}
 use Rattle.lists.specs.declared.Outcome.{Outcome}
 
 unfoldable pub questionOutcome : ℕ → List ℕ → Outcome
 questionOutcome p y =
-    unless (leb (length y) (first (length y) (λ j. ltb (getD y j 0) p))) 15 (first (length y) (λ j. ltb (getD y j 0) p))
+    unless (leb (length y) (first (length y) (λ j. ltb (getD y j 0) p))) questionTooLarge (first (length y) (λ j. ltb (getD y j 0) p))
