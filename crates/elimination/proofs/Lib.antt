@@ -8,3 +8,4 @@ pub mod RowsFound
 pub mod Schedule
 pub mod Theorem
 pub mod Room
+pub mod Again

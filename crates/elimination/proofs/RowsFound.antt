@@ -1,19 +1,19 @@
 -- The rows found: each turn adds its row, so the whole schedule finds each row of the matrix once.
 use mathlib.Core.Path.{_≡_, refl, sym, ap, ap₂, _∙_, subst}
-use mathlib.Core.Bool.{Bool, true, false, cond, _||_}
+use mathlib.Core.Bool.{Bool, true, false, _||_}
 use mathlib.Core.List.{List, [], _∷_, _++_, map, map-map}
 use Prim.Native.Nat.{ℕ, zero, suc, _+_, _≤_, _<_}
 use native.Mathlib.Omega.{arith}
-use lib.Dec.{eqb, leb}
+use lib.Dec.{eqb}
 use lib.ListN.{length, length-append, length-map}
 use Rattle.lists.specs.Filled.{zeros}
-use Rattle.lists.specs.Tests.{first}
 use Rattle.algebra.specs.Matrix.{Vector, Matrix, Distinct, Permutation, vector}
 use Rattle.elimination.specs.Structural.{Pair}
 use Rattle.elimination.specs.Pairs.{pairRows, Pairs}
-use Rattle.elimination.specs.Pivots.{Pivot, Dependent, Found, rankOf, reducedBy, coefficients, withPivot, withDependent, placed, Turn, pair, other, turn, turns}
+use Rattle.elimination.specs.Pivots.{Pivot, Dependent, Found, rankOf, reducedBy, coefficients, withPivot, withDependent, Turn, pair, other, turn, turns}
 use Rattle.elimination.specs.Factoring.{isIn, rest, schedule, nothing, rowsOf, rowOfTurn}
 use Rattle.elimination.proofs.Listed.{snoc-length, map-append, isIn-append, listed}
+use Rattle.elimination.proofs.Turns.{other-either}
 use Rattle.elimination.proofs.Completion.{completed-isIn, completed-length}
 
 -- ---- the rows found
@@ -77,19 +77,11 @@ module _ (f : Found) (i : ℕ) where
 
 module _ (p m : ℕ) (A : Matrix) where
   turn-row : (f : Found) (t : Turn) → OneMore f (turn p m A f t) (rowOfTurn t)
-  unfolding turn placed
+  unfolding turn
   turn-row f (pair q) = pivot-row f (q .row) p m (q .column) (zeros (rankOf f)) (A (q .row))
-  turn-row f (other i) = go (leb m c)
-    where
-      w : Vector
-      w = reducedBy p f (rankOf f) (A i)
-
-      c : ℕ
-      c = first m (λ j. eqb (w j) 0)
-
-      go : (b : Bool) → OneMore f (cond b (withDependent f i (coefficients p f (A i))) (withPivot p m f i c (coefficients p f (A i)) w)) i
-      go true = dependent-row f i (coefficients p f (A i))
-      go false = pivot-row f i p m c (coefficients p f (A i)) w
+  turn-row f (other i) =
+      other-either p m A f i (λ f′. OneMore f f′ i) (dependent-row f i (coefficients p f (A i)))
+      (λ c. pivot-row f i p m c (coefficients p f (A i)) (reducedBy p f (rankOf f) (A i)))
 
   pub turns-length : (f : Found) (ts : List Turn) → length (rowsOf (turns p m A f ts)) ≡ length (rowsOf f) + length ts
   unfolding turns

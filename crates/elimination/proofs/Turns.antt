@@ -25,6 +25,19 @@ use Rattle.elimination.specs.Pivots.{Found, columnsOf, uppersOf, upper, 
 use Rattle.elimination.proofs.Echelon.{Echelon}
 use Rattle.elimination.proofs.Invariant.{columns-many, uppers-many, Invariant, Remainder, dependent-holds, pivot-holds}
 
+-- another row becomes a dependent row or a pivot row
+pub other-either : (p m : ℕ) (A : Matrix) (f : Found) (i : ℕ) (P : Found → Type 0) → P (withDependent f i (coefficients p f (A i)))
+    → ((c : ℕ) → P (withPivot p m f i c (coefficients p f (A i)) (reducedBy p f (rankOf f) (A i)))) → P (turn p m A f (other i))
+unfolding turn placed
+other-either p m A f i P dependent pivot = go (leb m c)
+  where
+    c : ℕ
+    c = first m (λ j. eqb (reducedBy p f (rankOf f) (A i) j) 0)
+
+    go : (b : Bool) → P (cond b (withDependent f i (coefficients p f (A i))) (withPivot p m f i c (coefficients p f (A i)) (reducedBy p f (rankOf f) (A i))))
+    go true = dependent
+    go false = pivot c
+
 -- ---- reduction by the rows of U found so far
 
 module _ (p n m : ℕ) (A : Matrix) (prime : Prime p) (f : Found) (v : Invariant p n m A f) (i : ℕ) (small : (j : ℕ) → j < m → A i j < p) where
