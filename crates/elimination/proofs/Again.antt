@@ -4,7 +4,7 @@ use mathlib.Core.List.{List, [], _∷_, _++_, map}
 use Prim.Native.Nat.{ℕ, zero, suc, _+_, _-_, _*_, _≤_, _<_}
 use native.Mathlib.Decide.{decLt}
 use native.Mathlib.Omega.{arith}
-use lib.ListN.{length, getD, length-map, List·getD-map, List·getD-eq-default}
+use lib.ListN.{length, getD, length-map, List·getD-eq-default}
 use lib.Seq.{ext-getD}
 use Rattle.lists.specs.Filled.{zeros, filled}
 use Rattle.lists.proofs.Filled.{length-filled, zeros-at}
@@ -17,12 +17,12 @@ use Rattle.algebra.proofs.Dot.{dot-add, dot-scale}
 use Rattle.algebra.proofs.Inverse.{one-not-zero}
 use Rattle.algebra.proofs.Triangular.{Triangular, left-kernel}
 use Rattle.sparse.specs.Dense.{columnsFrom, nonzeros, compress}
-use Rattle.sparse.proofs.DenseLaws.{values-same, columns-same, SameCells, compress-same}
+use Rattle.sparse.proofs.DenseLaws.{values-same, columns-same, compress-same}
 use Rattle.elimination.specs.Pivots.{Found, columnsOf, uppersOf, upper, rankOf, reducedBy, coefficients}
 use Rattle.elimination.specs.Factoring.{rowsOf, lowersOf}
 use Rattle.elimination.proofs.Echelon.{cells, Echelon}
 use Rattle.elimination.proofs.Invariant.{uppers-many, Lower, Invariant, Remainder}
-use Rattle.elimination.proofs.Turns.{coefficients-long, coefficient-residue, reduced-remainder}
+use Rattle.elimination.proofs.Turns.{coefficient-residue, reduced-remainder}
 use Rattle.elimination.proofs.Theorem.{lowers-many, row-combines}
 
 -- two combinations of the rows of a triangular matrix that are equal are one

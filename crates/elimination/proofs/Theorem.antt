@@ -1,9 +1,8 @@
 -- The factors have the published shape, their product is the matrix, and they are stored in their form.
-use mathlib.Core.Path.{_≡_, refl, sym, ap, _∙_, subst, subst₂}
+use mathlib.Core.Path.{_≡_, sym, ap, _∙_, subst₂}
 use mathlib.Core.Bool.{true}
-use mathlib.Core.List.{List, [], _∷_, _++_, map}
-use Prim.Native.Nat.{ℕ, suc, _+_, _%_, _≤_, _<_}
-use native.Mathlib.Nat.{mod-eq-of-lt, zero-mod}
+use mathlib.Core.List.{List, [], _++_, map}
+use Prim.Native.Nat.{ℕ, _+_, _≤_, _<_}
 use native.Mathlib.Omega.{arith}
 use lib.ListN.{length, getD, length-append, length-map, List·getD-map, List·getD-append, List·getD-eq-default}
 use Rattle.algebra.specs.Congruence.{_≈⟨_⟩_}
@@ -17,16 +16,16 @@ use Rattle.sparse.specs.Matrix.{Compressed, matrix, form}
 use Rattle.sparse.specs.Set.{Set}
 use Rattle.sparse.specs.Dense.{compress}
 use Rattle.sparse.proofs.DenseLaws.{compress-matrix, compress-lengths}
-use Rattle.sparse.proofs.DenseForm.{DenseRows, compress-form}
+use Rattle.sparse.proofs.DenseForm.{compress-form}
 use Rattle.sparse.proofs.Rows.{form-below}
 use Rattle.elimination.specs.Structural.{Pair, structural}
 use Rattle.elimination.specs.Pairs.{Pairs}
-use Rattle.elimination.specs.Pivots.{Pivot, Dependent, Found, columnsOf, uppersOf, rankOf, turns}
+use Rattle.elimination.specs.Pivots.{Found, columnsOf, uppersOf, rankOf, turns}
 use Rattle.elimination.specs.Factoring.{rest, schedule, nothing, rowsOf, lowersOf, factored, factorFrom, factor}
 use Rattle.elimination.proofs.Listed.{append-both}
 use Rattle.elimination.proofs.Completion.{completed, completed-length}
-use Rattle.elimination.proofs.Echelon.{cells, Echelon, echelon-distinct}
-use Rattle.elimination.proofs.Invariant.{noPivot, noDependent, columns-many, uppers-many, Lower, PivotRow, Invariant}
+use Rattle.elimination.proofs.Echelon.{cells, echelon-distinct}
+use Rattle.elimination.proofs.Invariant.{noPivot, noDependent, columns-many, uppers-many, Lower, Invariant}
 use Rattle.elimination.proofs.Pairs.{structural-pairs}
 use Rattle.elimination.proofs.RowsFound.{rows-length, rows-permutation}
 use Rattle.elimination.proofs.Schedule.{schedule-holds}
