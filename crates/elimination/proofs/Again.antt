@@ -18,11 +18,14 @@ use Rattle.algebra.proofs.Inverse.{one-not-zero}
 use Rattle.algebra.proofs.Triangular.{Triangular, left-kernel}
 use Rattle.sparse.specs.Dense.{columnsFrom, nonzeros, compress}
 use Rattle.sparse.proofs.DenseLaws.{values-same, columns-same, compress-same}
-use Rattle.elimination.specs.Pivots.{Found, columnsOf, uppersOf, upper, rankOf, reducedBy, coefficients}
-use Rattle.elimination.specs.Factoring.{rowsOf, lowersOf}
+use Rattle.elimination.specs.Structural.{Pair}
+use Rattle.elimination.specs.Pairs.{Pairs}
+use Rattle.elimination.specs.Pivots.{Found, columnsOf, uppersOf, upper, rankOf, reducedBy, coefficients, turns}
+use Rattle.elimination.specs.Factoring.{schedule, nothing, rowsOf, lowersOf, factored, factorFrom}
 use Rattle.elimination.proofs.Echelon.{cells, Echelon}
 use Rattle.elimination.proofs.Invariant.{uppers-many, Lower, Invariant, Remainder}
 use Rattle.elimination.proofs.Turns.{coefficient-residue, reduced-remainder}
+use Rattle.elimination.proofs.Schedule.{schedule-holds}
 use Rattle.elimination.proofs.Theorem.{lowers-many, row-combines}
 
 -- two combinations of the rows of a triangular matrix that are equal are one
@@ -107,3 +110,9 @@ L-again p n m A prime small f v =
         map-at [] k b = absurd (omega arith)
         map-at (x ∷ xs) zero b = refl
         map-at (x ∷ xs) (suc k) b = map-at xs k (omega arith)
+
+-- and of the finished factors
+pub factorFrom-again : (p n m : ℕ) (A : Matrix) (pairs : List Pair) → Prime p → ((i j : ℕ) → i < n → j < m → A i j < p) → Pairs n m A pairs
+    → factorFrom p n m A pairs .L ≡ compress (map (λ i. coefficients p (turns p m A nothing (schedule n pairs)) (A i)) (factorFrom p n m A pairs .R))
+unfolding factorFrom factored
+factorFrom-again p n m A pairs prime small h = L-again p n m A prime small (turns p m A nothing (schedule n pairs)) (schedule-holds p n m A prime small pairs h)

@@ -113,7 +113,7 @@ module _ (p n m : ℕ) (A : Matrix) where
 
     columns-more : columnsOf (withPivot p m f i c ls w) ≡ columnsOf f ++ (c ∷ [])
     unfolding withPivot columnsOf
-    columns-more = map-append (λ x. x .column) (f .pivots) (q ∷ [])
+    columns-more = map-append (λ x. x .column) (f .pivots) _
 
     uppers-more : uppersOf (withPivot p m f i c ls w) ≡ uppersOf f ++ (u ∷ [])
     unfolding withPivot uppersOf

@@ -10,8 +10,10 @@ use Rattle.algebra.specs.Sum.{dot}
 use Rattle.algebra.specs.Prime.{Prime}
 use Rattle.algebra.specs.Matrix.{Matrix, Permutation, vector}
 use Rattle.algebra.specs.Factors.{Factors}
+use Rattle.algebra.specs.Rank.{Rank}
 use Rattle.algebra.proofs.Congruence.{exact, _⊙_, equal-residues}
 use Rattle.algebra.proofs.Dot.{dot-eq}
+use Rattle.algebra.proofs.Rank.{rank}
 use Rattle.sparse.specs.Matrix.{Compressed, matrix, form}
 use Rattle.sparse.specs.Set.{Set}
 use Rattle.sparse.specs.Dense.{compress}
@@ -150,3 +152,7 @@ unfolding factor
 factor-stored p n m A prime formed many =
     factorFrom-stored p n m (matrix A) (structural A n m) prime (λ i j h l. form-below p m (A .starts) (A .cols) (A .vals) formed i j (omega (arith, prime .two)))
     (structural-pairs p n m A formed many)
+
+-- so r is the rank
+pub factor-rank : (p n m : ℕ) (A : Compressed) → Prime p → form p m A ≡ true → length (A .starts) ≡ n + 1 → Rank p n m (matrix A) (factor p n m A .r)
+factor-rank p n m A prime formed many = rank prime (factor-stored p n m A prime formed many .factors)
