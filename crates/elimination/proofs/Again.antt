@@ -64,7 +64,8 @@ module _ (p n m : ℕ) (A : Matrix) (prime : Prime p) (f : Found) (v : Invariant
 
   -- both combine the row at the pivot columns, where nothing remains
   both : (l : ℕ) → l < length (uppersOf f)
-      → dot (length (uppersOf f)) (vector ls) (λ k. upper f k (getD (columnsOf f) l 0)) ≈⟨ p ⟩ dot (length (uppersOf f)) (vector (coefficients p f (A i))) (λ k. upper f k (getD (columnsOf f) l 0))
+      → dot (length (uppersOf f)) (vector ls) (λ k. upper f k (getD (columnsOf f) l 0))
+      ≈⟨ p ⟩ dot (length (uppersOf f)) (vector (coefficients p f (A i))) (λ k. upper f k (getD (columnsOf f) l 0))
   both l b =
       let c = v .echelon .rows l b .inside in
       turn (h .product (getD (columnsOf f) l 0) c) ⊙ remainder .split (getD (columnsOf f) l 0) c ⊙ exact (omega (arith, remainder .clear l b))

@@ -43,11 +43,13 @@ module _ (p n m : ℕ) (A : Matrix) where
     pub residues : (k : ℕ) → getD ls k 0 < p
     pub product : (j : ℕ) → j < m → A i j ≈⟨ p ⟩ dot (length us) (vector ls) (λ k. cells us k j)
 
+  -- row k of L, up to the diagonal, is that of the pivot q
   pub record PivotRow (us : List (List ℕ)) (k : ℕ) (q : Pivot) : Type 0 where
     pub long : length (q .lower) ≡ suc k
     pub diagonal : ¬ (getD (q .lower) k 0 ≡ 0)
     pub combines : Lower us (q .row) (q .lower)
 
+  -- the rows of U have their shape, and those of L combine them to the rows of A
   pub record Invariant (f : Found) : Type 0 where
     pub echelon : Echelon p m (columnsOf f) (uppersOf f)
     pub pivot-rows : (k : ℕ) → k < rankOf f → PivotRow (uppersOf f) k (getD (f .pivots) k noPivot)

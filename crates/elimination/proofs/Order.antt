@@ -13,20 +13,15 @@ use Rattle.elimination.specs.Pivots.{Pivot, Found, rankOf, reducedBy, co
 use Rattle.elimination.specs.Factoring.{isIn, rest, schedule, nothing, rowsOf}
 use Rattle.elimination.proofs.Listed.{map-append, isIn-append}
 use Rattle.elimination.proofs.Turns.{other-either}
+use Rattle.elimination.proofs.RowsFound.{pivotRows, dependentRows}
 use Rattle.elimination.proofs.Schedule.{turns-append}
-
-abbrev pub pivotRows : Found → List ℕ
-pivotRows f = map (λ q. q .row) (f .pivots)
-
-abbrev pub dependentRows : Found → List ℕ
-dependentRows f = map (λ d. d .row) (f .dependents)
 
 rest-same : (xs ys : List ℕ) (k : ℕ) → ((x : ℕ) → x < k → isIn xs x ≡ isIn ys x) → rest xs k ≡ rest ys k
 unfolding rest
 rest-same xs ys zero h = refl
 rest-same xs ys (suc k) h = λ t. rest-same xs ys k (λ x l. h x (omega arith)) t ++ cond (h k (omega arith) t) [] (k ∷ [])
 
--- x more
+-- one number more
 isIn-snoc : (xs : List ℕ) (y x : ℕ) → isIn (xs ++ (y ∷ [])) x ≡ (isIn xs x || (eqb y x || false))
 unfolding isIn
 isIn-snoc xs y x = isIn-append xs (y ∷ []) x

@@ -18,25 +18,25 @@ use Rattle.elimination.proofs.Completion.{completed-isIn, completed-len
 
 -- ---- the rows found
 
+abbrev pub pivotRows : Found → List ℕ
+pivotRows f = map (λ q. q .row) (f .pivots)
+
+abbrev pub dependentRows : Found → List ℕ
+dependentRows f = map (λ d. d .row) (f .dependents)
+
 -- f′ has the rows of f, and row i
 record OneMore (f f′ : Found) (i : ℕ) : Type 0 where
   long : length (rowsOf f′) ≡ suc (length (rowsOf f))
   has : (x : ℕ) → isIn (rowsOf f′) x ≡ (isIn (rowsOf f) x || eqb i x)
 
 module _ (f : Found) (i : ℕ) where
-  abbrev pivotRows : List ℕ
-  pivotRows = map (λ q. q .row) (f .pivots)
-
-  abbrev dependentRows : List ℕ
-  dependentRows = map (λ d. d .row) (f .dependents)
-
-  front : (x : ℕ) → isIn ((pivotRows ++ (i ∷ [])) ++ dependentRows) x ≡ (isIn (pivotRows ++ dependentRows) x || eqb i x)
+  front : (x : ℕ) → isIn ((pivotRows f ++ (i ∷ [])) ++ dependentRows f) x ≡ (isIn (pivotRows f ++ dependentRows f) x || eqb i x)
   unfolding isIn
   front x =
-      isIn-append (pivotRows ++ (i ∷ [])) dependentRows x
-      ∙ ap (λ (b : Bool). b || isIn dependentRows x) (isIn-append pivotRows (i ∷ []) x)
-      ∙ go (isIn pivotRows x) (isIn dependentRows x) (eqb i x)
-      ∙ ap (λ (b : Bool). b || eqb i x) (sym (isIn-append pivotRows dependentRows x))
+      isIn-append (pivotRows f ++ (i ∷ [])) (dependentRows f) x
+      ∙ ap (λ (b : Bool). b || isIn (dependentRows f) x) (isIn-append (pivotRows f) (i ∷ []) x)
+      ∙ go (isIn (pivotRows f) x) (isIn (dependentRows f) x) (eqb i x)
+      ∙ ap (λ (b : Bool). b || eqb i x) (sym (isIn-append (pivotRows f) (dependentRows f) x))
     where
       go : (a b c : Bool) → ((a || (c || false)) || b) ≡ ((a || b) || c)
       go true b c = refl
@@ -45,13 +45,13 @@ module _ (f : Found) (i : ℕ) where
       go false false true = refl
       go false false false = refl
 
-  back : (x : ℕ) → isIn (pivotRows ++ (dependentRows ++ (i ∷ []))) x ≡ (isIn (pivotRows ++ dependentRows) x || eqb i x)
+  back : (x : ℕ) → isIn (pivotRows f ++ (dependentRows f ++ (i ∷ []))) x ≡ (isIn (pivotRows f ++ dependentRows f) x || eqb i x)
   unfolding isIn
   back x =
-      isIn-append pivotRows (dependentRows ++ (i ∷ [])) x
-      ∙ ap (λ (b : Bool). isIn pivotRows x || b) (isIn-append dependentRows (i ∷ []) x)
-      ∙ go (isIn pivotRows x) (isIn dependentRows x) (eqb i x)
-      ∙ ap (λ (b : Bool). b || eqb i x) (sym (isIn-append pivotRows dependentRows x))
+      isIn-append (pivotRows f) (dependentRows f ++ (i ∷ [])) x
+      ∙ ap (λ (b : Bool). isIn (pivotRows f) x || b) (isIn-append (dependentRows f) (i ∷ []) x)
+      ∙ go (isIn (pivotRows f) x) (isIn (dependentRows f) x) (eqb i x)
+      ∙ ap (λ (b : Bool). b || eqb i x) (sym (isIn-append (pivotRows f) (dependentRows f) x))
     where
       go : (a b c : Bool) → (a || (b || (c || false))) ≡ ((a || b) || c)
       go true b c = refl
@@ -63,7 +63,7 @@ module _ (f : Found) (i : ℕ) where
   unfolding withPivot rowsOf
   pivot-row p m c ls w =
       record {
-        long = rw (map-append {A = Pivot} (λ q. q .row)) (omega (arith, length-append (pivotRows ++ (i ∷ [])) dependentRows, snoc-length pivotRows i, length-append pivotRows dependentRows));
+        long = rw (map-append {A = Pivot} (λ q. q .row)) (omega (arith, length-append (pivotRows f ++ (i ∷ [])) (dependentRows f), snoc-length (pivotRows f) i, length-append (pivotRows f) (dependentRows f)));
         has = λ x. rw (map-append {A = Pivot} (λ q. q .row)) (front x);
       }
 
@@ -71,7 +71,7 @@ module _ (f : Found) (i : ℕ) where
   unfolding withDependent rowsOf
   dependent-row ls =
       record {
-        long = rw (map-append {A = Dependent} (λ d. d .row)) (omega (arith, length-append pivotRows (dependentRows ++ (i ∷ [])), snoc-length dependentRows i, length-append pivotRows dependentRows));
+        long = rw (map-append {A = Dependent} (λ d. d .row)) (omega (arith, length-append (pivotRows f) (dependentRows f ++ (i ∷ [])), snoc-length (dependentRows f) i, length-append (pivotRows f) (dependentRows f)));
         has = λ x. rw (map-append {A = Dependent} (λ d. d .row)) (back x);
       }
 

@@ -42,7 +42,7 @@ pub record StoredFactors (p n m : ℕ) (A : Matrix) (g : Set) : Type 0 where
   pub L-starts : length (g .L .starts) ≡ n + 1
   pub U-starts : length (g .U .starts) ≡ g .r + 1
 
--- ---- the rows of L
+-- ---- the rows of L, and the rank
 
 pub lowers-many : (f : Found) → length (lowersOf f) ≡ length (rowsOf f)
 unfolding lowersOf rowsOf
@@ -85,12 +85,15 @@ module _ (p n m : ℕ) (A : Matrix) (f : Found) (v : Invariant p n m A f) where
   lower-diagonal : (k : ℕ) → k < rankOf f → ¬ (getD (getD (lowersOf f) k []) k 0 ≡ 0)
   lower-diagonal k h e = v .pivot-rows k h .diagonal (ap (λ (l : List ℕ). getD l k 0) (sym (pivot-lower f k h)) ∙ e)
 
--- ---- the factors from what was found, where each row was
-
-module _ (p n m : ℕ) (A : Matrix) (prime : Prime p) (f : Found) (v : Invariant p n m A f) (many : length (rowsOf f) ≡ n) (order : Permutation n (vector (rowsOf f))) where
   columns-whole : length (columnsOf f ++ rest (columnsOf f) m) ≡ m
   columns-whole = completed-length (columnsOf f) m (echelon-distinct p m (columnsOf f) (uppersOf f) (v .echelon))
 
+  pub rank-columns : rankOf f ≤ m
+  rank-columns = omega (arith, columns-whole, columns-many f, length-append (columnsOf f) (rest (columnsOf f) m))
+
+-- ---- the factors from what was found, where each row was
+
+module _ (p n m : ℕ) (A : Matrix) (prime : Prime p) (f : Found) (v : Invariant p n m A f) (many : length (rowsOf f) ≡ n) (order : Permutation n (vector (rowsOf f))) where
   column-at : (k : ℕ) → k < rankOf f → getD (columnsOf f ++ rest (columnsOf f) m) k 0 ≡ getD (columnsOf f) k 0
   column-at k h = List·getD-append (columnsOf f) (rest (columnsOf f) m) 0 k (omega (arith, columns-many f))
 
@@ -112,7 +115,7 @@ module _ (p n m : ℕ) (A : Matrix) (prime : Prime p) (f : Found) (v : Invariant
         rows = order;
         columns = completed (columnsOf f) m (echelon-distinct p m (columnsOf f) (uppersOf f) (v .echelon));
         rank-rows = omega (arith, rank-rows f);
-        rank-columns = omega (arith, columns-whole, columns-many f, length-append (columnsOf f) (rest (columnsOf f) m));
+        rank-columns = rank-columns p n m A f v;
         L-above = λ i k l h. compress-matrix (lowersOf f) i k ∙ lower-above p n m A f v i k l h;
         L-diagonal = diagonal;
         U-left = λ k j l h. ap (matrix (compress (uppersOf f)) k) (column-at j (omega arith)) ∙ compress-matrix (uppersOf f) k (getD (columnsOf f) j 0) ∙ v .echelon .rows k (omega (arith, uppers-many f)) .left j l;
@@ -134,7 +137,7 @@ module _ (p n m : ℕ) (A : Matrix) (prime : Prime p) (f : Found) (v : Invariant
           residues = λ k j h. v .echelon .rows k h .residues j;
         });
         R-length = many;
-        C-length = columns-whole;
+        C-length = columns-whole p n m A f v;
         L-starts = compress-lengths (lowersOf f) .starts-are ∙ omega (arith, lowers-many f);
         U-starts = compress-lengths (uppersOf f) .starts-are ∙ omega (arith, uppers-many f);
       }

@@ -167,10 +167,17 @@ pub compress-append : (rows : List (List ℕ)) (row : List ℕ) → Appended row
 unfolding compress columnsFrom nonzeros allColumns allValues startsAfter
 compress-append rows row =
     record {
-      starts = ap (λ (l : List ℕ). 0 ∷ l) (starts-append 0 rows (row ∷ []) ∙ ap (λ (k : ℕ). startsAfter 0 rows ++ ((k + length (nonzeros row)) ∷ [])) (let e : 0 + length (allValues rows) ≡ length (allValues rows) = omega arith in e));
-      cols = parts-append (columnsFrom 0) allColumns refl (columns-length 0) refl (λ r rs. refl) rows (row ∷ []) ∙ ap (λ (l : List ℕ). allColumns rows ++ l) (append-nil (columnsFrom 0 row));
-      vals = parts-append nonzeros allValues refl (λ r. refl) refl (λ r rs. refl) rows (row ∷ []) ∙ ap (λ (l : List ℕ). allValues rows ++ l) (append-nil (nonzeros row));
+      starts = ap (λ (l : List ℕ). 0 ∷ l) (starts-append 0 rows (row ∷ []) ∙ ap (λ (k : ℕ). startsAfter 0 rows ++ ((k + length (nonzeros row)) ∷ [])) from-zero);
+      cols =
+          parts-append (columnsFrom 0) allColumns refl (columns-length 0) refl (λ r rs. refl) rows (row ∷ [])
+          ∙ ap (λ (l : List ℕ). allColumns rows ++ l) (append-nil (columnsFrom 0 row));
+      vals =
+          parts-append nonzeros allValues refl (λ r. refl) refl (λ r rs. refl) rows (row ∷ [])
+          ∙ ap (λ (l : List ℕ). allValues rows ++ l) (append-nil (nonzeros row));
     }
+  where
+    from-zero : 0 + length (allValues rows) ≡ length (allValues rows)
+    from-zero = omega arith
 
 -- ---- rows with the same cells are stored alike, however many zeros end them
 
