@@ -1,8 +1,7 @@
 -- Rows of U with their pivot columns, and combinations of them, each as a list that grows by one.
 use mathlib.Core.Path.{_≡_, refl, sym, ap, _∙_}
-use mathlib.Core.Logic.{_⊎_, inl, inr}
 use mathlib.Core.List.{List, [], _∷_, _++_}
-use Prim.Native.Nat.{ℕ, zero, suc, _+_, _*_, _%_, _≤_, _<_}
+use Prim.Native.Nat.{ℕ, _+_, _*_, _%_, _<_}
 use native.Mathlib.Nat.{mod-lt, mod-eq-of-lt, zero-mod, mul-zero, mul-comm}
 use native.Mathlib.Decide.{decLt}
 use native.Mathlib.Omega.{arith}
@@ -14,9 +13,9 @@ use Rattle.algebra.specs.Congruence.{_≈⟨_⟩_}
 use Rattle.algebra.specs.Sum.{dot}
 use Rattle.algebra.specs.Prime.{Prime}
 use Rattle.algebra.specs.Matrix.{Vector, Matrix, Distinct, vector}
-use Rattle.algebra.proofs.Congruence.{exact, turn, _⊙_, _⊕_, _⊗_, same-refl, same-mod}
+use Rattle.algebra.proofs.Congruence.{exact, _⊙_, _⊗_, same-refl, same-mod}
 use Rattle.algebra.proofs.Dot.{dot-suc, dot-eq}
-use Rattle.residue.specs.Inverse.{invMod, Invertible}
+use Rattle.residue.specs.Inverse.{invMod}
 use Rattle.residue.proofs.Inverse.{Inverse, invMod-inverse}
 use Rattle.elimination.proofs.Listed.{snoc-length, snoc-each}
 

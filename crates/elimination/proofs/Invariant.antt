@@ -1,35 +1,22 @@
 -- What holds of the pivots and the dependent rows found so far, and that each turn keeps it.
 use mathlib.Core.Path.{_≡_, refl, sym, ap, _∙_, subst, subst₂}
-use mathlib.Core.Bool.{Bool, true, false, cond}
-use mathlib.Core.List.{List, [], _∷_, _++_, map}
-use Prim.Native.Nat.{ℕ, zero, suc, _+_, _*_, _%_, _≤_, _<_}
+use mathlib.Core.List.{List, [], _∷_, _++_}
+use Prim.Native.Nat.{ℕ, suc, _+_, _*_, _%_, _≤_, _<_}
 use native.Mathlib.Decide.{decLt}
 use native.Mathlib.Omega.{arith}
-use lib.Dec.{eqb, leb}
-use lib.ListN.{length, getD, length-map, List·getD-eq-default, List·getD-append}
+use lib.ListN.{length, getD, length-map, List·getD-eq-default}
 use lib.Seq.{getD-at}
-use borrow.Author.Tests.{leb-true, leb-false, eqb-true, eqb-false}
-use Rattle.lists.specs.Filled.{zeros}
 use Rattle.lists.specs.Tabulate.{tabulate}
-use Rattle.lists.specs.Tests.{first}
-use Rattle.lists.proofs.Filled.{length-zeros, zeros-at}
-use Rattle.lists.proofs.Tabulate.{length-tabulate, tabulate-at}
-use Rattle.lists.proofs.Tests.{first-before, first-here}
 use Rattle.algebra.specs.Congruence.{_≈⟨_⟩_}
 use Rattle.algebra.specs.Sum.{dot}
 use Rattle.algebra.specs.Prime.{Prime}
 use Rattle.algebra.specs.Matrix.{Vector, Matrix, vector}
-use Rattle.algebra.specs.Reduction.{reduced}
 use Rattle.algebra.proofs.Congruence.{exact, turn, _⊙_, _⊕_, same-refl}
-use Rattle.algebra.proofs.Dot.{dot-vanish, dot-eq}
-use Rattle.algebra.proofs.Reduction.{taken, reduced-small, reduced-split, reduced-pivot}
 use Rattle.residue.specs.Inverse.{invMod}
-use Rattle.elimination.specs.Structural.{Pair}
-use Rattle.elimination.specs.Pivots.{Pivot, Dependent, Found, columnsOf, uppersOf, upper, rankOf, reducedBy, coefficients, withPivot, withDependent, placed, Turn, pair, other}
-use Rattle.elimination.specs.Pivots as pivots
+use Rattle.elimination.specs.Pivots.{Pivot, Dependent, Found, columnsOf, uppersOf, upper, rankOf, withPivot, withDependent}
 use Rattle.elimination.specs.Factoring.{nothing}
 use Rattle.elimination.proofs.Listed.{snoc-length, snoc-each, map-append}
-use Rattle.elimination.proofs.Echelon.{cells, UpperRow, Echelon, echelon-more, scaled-row, scaled-back, combination-more, combination-last}
+use Rattle.elimination.proofs.Echelon.{cells, Echelon, echelon-more, scaled-row, scaled-back, combination-more, combination-last}
 
 -- read past the end of a list
 abbrev pub noPivot : Pivot
@@ -56,11 +43,13 @@ module _ (p n m : ℕ) (A : Matrix) where
     pub residues : (k : ℕ) → getD ls k 0 < p
     pub product : (j : ℕ) → j < m → A i j ≈⟨ p ⟩ dot (length us) (vector ls) (λ k. cells us k j)
 
+  -- row k of L, up to the diagonal, is that of the pivot q
   pub record PivotRow (us : List (List ℕ)) (k : ℕ) (q : Pivot) : Type 0 where
     pub long : length (q .lower) ≡ suc k
     pub diagonal : ¬ (getD (q .lower) k 0 ≡ 0)
     pub combines : Lower us (q .row) (q .lower)
 
+  -- the rows of U have their shape, and those of L combine them to the rows of A
   pub record Invariant (f : Found) : Type 0 where
     pub echelon : Echelon p m (columnsOf f) (uppersOf f)
     pub pivot-rows : (k : ℕ) → k < rankOf f → PivotRow (uppersOf f) k (getD (f .pivots) k noPivot)
@@ -126,7 +115,7 @@ module _ (p n m : ℕ) (A : Matrix) where
 
     columns-more : columnsOf (withPivot p m f i c ls w) ≡ columnsOf f ++ (c ∷ [])
     unfolding withPivot columnsOf
-    columns-more = map-append (λ x. x .column) (f .pivots) (q ∷ [])
+    columns-more = map-append (λ x. x .column) (f .pivots) _
 
     uppers-more : uppersOf (withPivot p m f i c ls w) ≡ uppersOf f ++ (u ∷ [])
     unfolding withPivot uppersOf

@@ -2,13 +2,13 @@
 use mathlib.Core.Path.{_≡_, refl, sym, ap, _∙_, subst}
 use mathlib.Core.Bool.{Bool, true, false, _||_, false≢true}
 use mathlib.Core.List.{List, [], _∷_, _++_, map}
-use Prim.Native.Nat.{ℕ, zero, suc, _+_, _≤_, _<_}
+use Prim.Native.Nat.{ℕ, zero, suc, _+_, _<_}
 use native.Mathlib.Omega.{arith}
 use lib.Dec.{eqb}
 use lib.ListN.{length, getD, length-append, List·getD-append}
 use lib.Seq.{getD-append-seam}
-use borrow.Author.Tests.{eqb-true, eqb-false, eq-eqb}
-use Rattle.algebra.specs.Matrix.{Distinct, Permutation, vector}
+use borrow.Author.Tests.{eqb-true}
+use Rattle.algebra.specs.Matrix.{Permutation, vector}
 use Rattle.algebra.proofs.Dot.{below-suc}
 use Rattle.algebra.proofs.Finite.{onto, choose}
 use Rattle.elimination.specs.Factoring.{isIn}

@@ -1,25 +1,25 @@
 -- The structural pivots of a well-formed matrix can be pivots of it as it stands.
-use mathlib.Core.Path.{_≡_, refl, sym, ap, _∙_, subst}
-use mathlib.Core.Bool.{Bool, true, false, cond, _&&_}
-use mathlib.Core.List.{List, [], _∷_, _++_, append-nil, map}
+use mathlib.Core.Path.{_≡_, sym, ap, _∙_, subst}
+use mathlib.Core.Bool.{true, _&&_}
+use mathlib.Core.List.{List, [], _∷_, _++_, append-nil}
 use mathlib.Core.Option.{Option, none, some}
 use Prim.Native.Nat.{ℕ, zero, suc, _+_, _-_, _≤_, _<_}
 use native.Mathlib.Decide.{decLt}
 use native.Mathlib.Omega.{arith}
 use lib.Dec.{eqb, leb, ltb}
-use lib.ListN.{length, getD, length-map, List·getD-map, List·getD-append}
-use lib.Seq.{slice, slice-cons, length-slice}
+use lib.ListN.{length, getD, List·getD-map, List·getD-append}
+use lib.Seq.{slice, slice-cons}
 use borrow.Author.Tests.{eqb-true, ltb-true, le-leb}
 use Rattle.lists.proofs.Bools.{and-both, and-left, and-right}
-use Rattle.algebra.specs.Matrix.{Matrix, Distinct, vector}
 use Rattle.sparse.specs.Form.{risesFrom}
 use Rattle.sparse.specs.Row.{entry, Row}
 use Rattle.sparse.specs.Matrix.{Compressed, rowOf, matrix, form}
 use Rattle.sparse.proofs.Entries.{entry-low, entry-at, values-at}
 use Rattle.sparse.proofs.Rows.{form-row, form-starts}
-use Rattle.elimination.specs.Structural.{size, leads, prefer, chosen, Pair, paired, structural}
+use Rattle.elimination.specs.Structural.{size, leads, chosen, Pair, paired, structural}
 use Rattle.elimination.specs.Pairs.{pairRows, pairColumns, Pairs}
 use Rattle.elimination.proofs.Listed.{snoc-each}
+use Rattle.elimination.proofs.Choice.{Choice, Chosen, chosen-right}
 
 -- ---- a row that leads at a column is not 0 there, and 0 before it
 
@@ -71,54 +71,22 @@ module _ (p n m : ℕ) (A : Compressed) (formed : form p m A ≡ true) (many : l
       long : 0 < length (rowOf (A .starts) i (A .cols))
       long = omega (arith, ap length leftmost)
 
--- ---- the row chosen for a column leads there
-
-abbrev IfSome : (ℕ → Type 0) → Option ℕ → Type 0
-IfSome P none = Unit {0}
-IfSome P (some i) = P i
-
-prefer-one : (A : Compressed) (P : ℕ → Type 0) (i : ℕ) (o : Option ℕ) → P i → IfSome P o → IfSome P (prefer A i o)
-unfolding prefer
-prefer-one A P i none h k = h
-prefer-one A P i (some b) h k = go (ltb (size A i) (size A b))
-  where
-    go : (t : Bool) → IfSome P (cond t (some i) (some b))
-    go true = h
-    go false = k
-
--- row i is one of the first n, and leads at c
-abbrev Leader : Compressed → ℕ → ℕ → ℕ → Type 0
-Leader A c n i = (i < n) × (leads A i c ≡ true)
-
-leader-later : (A : Compressed) (c n : ℕ) (o : Option ℕ) → IfSome (Leader A c n) o → IfSome (Leader A c (suc n)) o
-leader-later A c n none h = tt
-leader-later A c n (some i) h = (omega (arith, h .0), h .1)
-
-chosen-leads : (A : Compressed) (c n : ℕ) → IfSome (Leader A c n) (chosen A c n)
-unfolding chosen
-chosen-leads A c zero = tt
-chosen-leads A c (suc n) = go (leads A n c) refl (chosen A c n) (leader-later A c n (chosen A c n) (chosen-leads A c n))
-  where
-    go : (t : Bool) → leads A n c ≡ t → (o : Option ℕ) → IfSome (Leader A c (suc n)) o → IfSome (Leader A c (suc n)) (cond t (prefer A n o) o)
-    go true e o h = prefer-one A (Leader A c (suc n)) n o (omega arith, e) h
-    go false e o h = h
-
 -- ---- the pairs, by rising column
 
 -- read past the end of a list
 abbrev pub noPair : Pair
 noPair = record { row = 0; column = 0 }
 
--- pair l leads at its column, which is below `bound`, and the pairs before it have smaller columns
+-- pair l is the choice for its column, which is below `bound`, and the pairs before it have smaller columns
 record Rising (A : Compressed) (n bound : ℕ) (ps : List Pair) (l : ℕ) (q : Pair) : Type 0 where
-  leader : Leader A (q .column) n (q .row)
+  choice : Choice A (q .column) n (q .row)
   below : q .column < bound
   above : (k : ℕ) → k < l → getD ps k noPair .column < q .column
 
 rising-more : (A : Compressed) (n c : ℕ) (ps qs : List Pair) (l : ℕ) (q : Pair) → l ≤ length ps → Rising A n c ps l q → Rising A n (suc c) (ps ++ qs) l q
 rising-more A n c ps qs l q long r =
     record {
-      leader = r .leader;
+      choice = r .choice;
       below = omega (arith, r .below);
       above = λ k h. omega (arith, r .above k h, ap (λ (x : Pair). x .column) (List·getD-append ps qs noPair k (omega arith)));
     }
@@ -126,19 +94,19 @@ rising-more A n c ps qs l q long r =
 structural-rising : (A : Compressed) (n c : ℕ) (l : ℕ) → l < length (structural A n c) → Rising A n c (structural A n c) l (getD (structural A n c) l noPair)
 unfolding structural
 structural-rising A n zero l h = absurd (omega arith)
-structural-rising A n (suc c) l h = go (chosen A c n) (chosen-leads A c n) (structural-rising A n c) l h
+structural-rising A n (suc c) l h = go (chosen A c n) (chosen-right A c n) (structural-rising A n c) l h
   where
     ps : List Pair
     ps = structural A n c
 
-    go : (o : Option ℕ) → IfSome (Leader A c n) o → ((l : ℕ) → l < length ps → Rising A n c ps l (getD ps l noPair))
+    go : (o : Option ℕ) → Chosen A c n o → ((l : ℕ) → l < length ps → Rising A n c ps l (getD ps l noPair))
         → (l : ℕ) → l < length (ps ++ paired c o) → Rising A n (suc c) (ps ++ paired c o) l (getD (ps ++ paired c o) l noPair)
-    go none led ih l h =
+    go none o ih l h =
         let s : length (ps ++ []) ≡ length ps = ap length (append-nil ps) in
         subst (λ (q : Pair). Rising A n (suc c) (ps ++ []) l q) (sym (List·getD-append ps [] noPair l (omega arith))) (rising-more A n c ps [] l (getD ps l noPair) (omega arith) (ih l (omega arith)))
-    go (some i) led ih l h =
+    go (some i) o ih l h =
         snoc-each noPair ps q (λ l x. Rising A n (suc c) (ps ++ (q ∷ [])) l x) (λ l b. rising-more A n c ps (q ∷ []) l (getD ps l noPair) (omega arith) (ih l b))
-        (record { leader = led; below = omega arith; above = λ k b. omega (arith, ih k b .below, ap (λ (x : Pair). x .column) (List·getD-append ps (q ∷ []) noPair k b)) }) l h
+        (record { choice = o; below = omega arith; above = λ k b. omega (arith, ih k b .below, ap (λ (x : Pair). x .column) (List·getD-append ps (q ∷ []) noPair k b)) }) l h
       where
         q : Pair
         q = record { row = i; column = c }
@@ -158,13 +126,13 @@ module _ (p n m : ℕ) (A : Compressed) (formed : form p m A ≡ true) (many : l
   here : (k : ℕ) → k < length pairs → ¬ (matrix A (getD (pairRows pairs) k 0) (getD (pairColumns pairs) k 0) ≡ 0)
   here k h =
       let r = structural-rising A n m k h in
-      rw (row-at k, column-at k) (leads-here p n m A formed many (getD pairs k noPair .row) (getD pairs k noPair .column) (r .leader .0) (r .leader .1))
+      rw (row-at k, column-at k) (leads-here p n m A formed many (getD pairs k noPair .row) (getD pairs k noPair .column) (r .choice .row) (r .choice .led))
 
   before : (k l : ℕ) → k < l → l < length pairs → matrix A (getD (pairRows pairs) l 0) (getD (pairColumns pairs) k 0) ≡ 0
   before k l b h =
       let r = structural-rising A n m l h in
       rw (row-at l, column-at k)
-      (leads-before p n m A formed many (getD pairs l noPair .row) (getD pairs l noPair .column) (r .leader .0) (r .leader .1) (getD pairs k noPair .column) (r .above k b))
+      (leads-before p n m A formed many (getD pairs l noPair .row) (getD pairs l noPair .column) (r .choice .row) (r .choice .led) (getD pairs k noPair .column) (r .above k b))
 
   -- one row does not come twice, since it is not 0 at its own column
   apart : (a b : ℕ) → a < length pairs → b < length pairs → getD (pairRows pairs) a 0 ≡ getD (pairRows pairs) b 0 → a ≡ b
@@ -181,7 +149,7 @@ module _ (p n m : ℕ) (A : Compressed) (formed : form p m A ≡ true) (many : l
   pub structural-pairs : Pairs n m (matrix A) pairs
   structural-pairs =
       record {
-        rows = record { below = λ k h. omega (arith, row-at k, structural-rising A n m k h .leader .0); apart = apart };
+        rows = record { below = λ k h. omega (arith, row-at k, structural-rising A n m k h .choice .row); apart = apart };
         columns = λ k h. omega (arith, column-at k, structural-rising A n m k h .below);
         here = here;
         before = before;

@@ -1,24 +1,22 @@
 -- Refusal 7: some row is the first to overflow exactly if L or U has more entries than its room.
 use mathlib.Core.Path.{_≡_, refl, sym, ap, _∙_}
-use mathlib.Core.Bool.{Bool, true, false, cond, _&&_, true≢false}
+use mathlib.Core.Bool.{Bool, true, false, cond, true≢false}
 use mathlib.Core.List.{List, [], _∷_, _++_, map}
-use mathlib.Core.Option.{Option, none, some}
-use Prim.Native.Nat.{ℕ, zero, suc, _+_, _≤_, _<_}
+use mathlib.Core.Option.{none, some}
+use Prim.Native.Nat.{ℕ, _+_, _≤_}
 use native.Mathlib.Omega.{arith}
-use lib.Dec.{leb, eqb}
+use lib.Dec.{leb}
 use lib.ListN.{length, length-append}
 use borrow.Author.Tests.{leb-true, le-leb}
-use Rattle.lists.specs.Filled.{zeros}
-use Rattle.lists.specs.Tests.{first}
 use Rattle.lists.proofs.Bools.{and-both, and-left, and-right}
-use Rattle.algebra.specs.Matrix.{Vector, Matrix}
+use Rattle.algebra.specs.Matrix.{Matrix}
 use Rattle.sparse.specs.Set.{Set}
-use Rattle.sparse.specs.Dense.{nonzeros, columnsFrom, allColumns, allValues, compress}
+use Rattle.sparse.specs.Dense.{nonzeros, columnsFrom, allColumns, compress}
 use Rattle.sparse.proofs.DenseLaws.{columns-length}
 use Rattle.elimination.specs.Structural.{Pair}
-use Rattle.elimination.specs.Pivots.{Pivot, Dependent, Found, uppersOf, rankOf, reducedBy, coefficients, withPivot, withDependent, placed, Turn, pair, other, turn, turns}
+use Rattle.elimination.specs.Pivots.{Pivot, Dependent, Found, uppersOf, withPivot, withDependent, Turn, pair, other, turn, turns}
 use Rattle.elimination.specs.Factoring.{schedule, nothing, lowersOf, entries, rowOfTurn, fits, firstOver, factored, factorFrom}
-use Rattle.elimination.proofs.Listed.{map-append}
+use Rattle.elimination.proofs.Turns.{other-either}
 
 -- ---- how many entries
 
@@ -65,19 +63,9 @@ one-dependent f d =
 
 module _ (p m : ℕ) (A : Matrix) where
   turn-grows : (f : Found) (t : Turn) → Grows f (turn p m A f t)
-  unfolding turn placed withPivot withDependent
+  unfolding turn withPivot withDependent
   turn-grows f (pair q) = one-pivot f _
-  turn-grows f (other i) = go (leb m c)
-    where
-      w : Vector
-      w = reducedBy p f (rankOf f) (A i)
-
-      c : ℕ
-      c = first m (λ j. eqb (w j) 0)
-
-      go : (b : Bool) → Grows f (cond b (withDependent f i (coefficients p f (A i))) (withPivot p m f i c (coefficients p f (A i)) w))
-      go true = one-dependent f _
-      go false = one-pivot f _
+  turn-grows f (other i) = other-either p m A f i (Grows f) (one-dependent f _) (λ c. one-pivot f _)
 
   pub turns-grow : (f : Found) (ts : List Turn) → Grows f (turns p m A f ts)
   unfolding turns
@@ -89,43 +77,44 @@ module _ (p m : ℕ) (A : Matrix) where
 
 -- ---- the first row that overflows
 
+-- the entries of L and of U are at most as many as there is room for
+pub record Fits (roomL roomU : ℕ) (f : Found) : Type 0 where
+  pub L : entries (lowersOf f) ≤ roomL
+  pub U : entries (uppersOf f) ≤ roomU
+
+fits-holds : (roomL roomU : ℕ) (f : Found) → fits roomL roomU f ≡ true → Fits roomL roomU f
+unfolding fits
+fits-holds roomL roomU f e =
+    record {
+      L = leb-true (entries (lowersOf f)) roomL (and-left (leb (entries (lowersOf f)) roomL) (leb (entries (uppersOf f)) roomU) e);
+      U = leb-true (entries (uppersOf f)) roomU (and-right (leb (entries (lowersOf f)) roomL) (leb (entries (uppersOf f)) roomU) e);
+    }
+
+holds-fits : (roomL roomU : ℕ) (f : Found) → Fits roomL roomU f → fits roomL roomU f ≡ true
+unfolding fits
+holds-fits roomL roomU f h = and-both (leb (entries (lowersOf f)) roomL) (leb (entries (uppersOf f)) roomU) (le-leb (entries (lowersOf f)) roomL (h .L)) (le-leb (entries (uppersOf f)) roomU (h .U))
+
 module _ (p m : ℕ) (A : Matrix) (roomL roomU : ℕ) where
-  pub record Fits (f : Found) : Type 0 where
-    pub L : entries (lowersOf f) ≤ roomL
-    pub U : entries (uppersOf f) ≤ roomU
-
-  fits-holds : (f : Found) → fits roomL roomU f ≡ true → Fits f
-  unfolding fits
-  fits-holds f e =
-      record {
-        L = leb-true (entries (lowersOf f)) roomL (and-left (leb (entries (lowersOf f)) roomL) (leb (entries (uppersOf f)) roomU) e);
-        U = leb-true (entries (uppersOf f)) roomU (and-right (leb (entries (lowersOf f)) roomL) (leb (entries (uppersOf f)) roomU) e);
-      }
-
-  holds-fits : (f : Found) → Fits f → fits roomL roomU f ≡ true
-  unfolding fits
-  holds-fits f h = and-both (leb (entries (lowersOf f)) roomL) (leb (entries (uppersOf f)) roomU) (le-leb (entries (lowersOf f)) roomL (h .L)) (le-leb (entries (uppersOf f)) roomU (h .U))
-
   -- what fits later fitted before
-  pub fits-before : (f : Found) (ts : List Turn) → Fits (turns p m A f ts) → Fits f
+  pub fits-before : (f : Found) (ts : List Turn) → Fits roomL roomU (turns p m A f ts) → Fits roomL roomU f
   fits-before f ts h = let g = turns-grow p m A f ts in record { L = omega (arith, g .L, h .L); U = omega (arith, g .U, h .U) }
 
   -- where none overflows, the whole fits, and the other way about
-  pub none-over : (f : Found) (ts : List Turn) → Fits f → firstOver p m A roomL roomU f ts ≡ none → Fits (turns p m A f ts)
+  pub none-over : (f : Found) (ts : List Turn) → Fits roomL roomU f → firstOver p m A roomL roomU f ts ≡ none → Fits roomL roomU (turns p m A f ts)
   unfolding firstOver turns
   none-over f [] h e = h
   none-over f (t ∷ ts) h e = go (fits roomL roomU (turn p m A f t)) refl e (none-over (turn p m A f t) ts)
     where
       go : (b : Bool) → fits roomL roomU (turn p m A f t) ≡ b → cond b (firstOver p m A roomL roomU (turn p m A f t) ts) (some (rowOfTurn t)) ≡ none
-          → (Fits (turn p m A f t) → firstOver p m A roomL roomU (turn p m A f t) ts ≡ none → Fits (turns p m A (turn p m A f t) ts)) → Fits (turns p m A (turn p m A f t) ts)
-      go true q e ih = ih (fits-holds (turn p m A f t) q) e
+          → (Fits roomL roomU (turn p m A f t) → firstOver p m A roomL roomU (turn p m A f t) ts ≡ none → Fits roomL roomU (turns p m A (turn p m A f t) ts)) → Fits roomL roomU (turns p m A (turn p m A f t) ts)
+      go true q e ih = ih (fits-holds roomL roomU (turn p m A f t) q) e
       go false q e ih = let z : _≡_ {A = ℕ} 0 1 = cc in absurd (omega arith)
 
-  pub whole-fits : (f : Found) (ts : List Turn) → Fits (turns p m A f ts) → firstOver p m A roomL roomU f ts ≡ none
+  pub whole-fits : (f : Found) (ts : List Turn) → Fits roomL roomU (turns p m A f ts) → firstOver p m A roomL roomU f ts ≡ none
   unfolding firstOver turns
   whole-fits f [] h = refl
   whole-fits f (t ∷ ts) h =
-      ap (λ (b : Bool). cond b (firstOver p m A roomL roomU (turn p m A f t) ts) (some (rowOfTurn t))) (holds-fits (turn p m A f t) (fits-before (turn p m A f t) ts h))
+      ap (λ (b : Bool). cond b (firstOver p m A roomL roomU (turn p m A f t) ts) (some (rowOfTurn t))) (holds-fits roomL roomU (turn p m A f t) (fits-before (turn p m A f t) ts h))
       ∙ whole-fits (turn p m A f t) ts h
 
   -- i is the row of the turn `at`: what is found before it fits, and with it no longer
@@ -135,18 +124,18 @@ module _ (p m : ℕ) (A : Matrix) (roomL roomU : ℕ) where
     pub after : List Turn
     pub split : ts ≡ before ++ (at ∷ after)
     pub row : rowOfTurn at ≡ i
-    pub fitted : Fits (turns p m A f before)
-    pub over : ¬ Fits (turns p m A f (before ++ (at ∷ [])))
+    pub fitted : Fits roomL roomU (turns p m A f before)
+    pub over : ¬ Fits roomL roomU (turns p m A f (before ++ (at ∷ [])))
 
-  pub first-overflows : (f : Found) (ts : List Turn) (i : ℕ) → Fits f → firstOver p m A roomL roomU f ts ≡ some i → Overflows f ts i
+  pub first-overflows : (f : Found) (ts : List Turn) (i : ℕ) → Fits roomL roomU f → firstOver p m A roomL roomU f ts ≡ some i → Overflows f ts i
   unfolding firstOver turns
   first-overflows f [] i h e = let z : _≡_ {A = ℕ} 0 1 = cc in absurd (omega arith)
   first-overflows f (t ∷ ts) i h e = go (fits roomL roomU (turn p m A f t)) refl e (first-overflows (turn p m A f t) ts i)
     where
       go : (b : Bool) → fits roomL roomU (turn p m A f t) ≡ b → cond b (firstOver p m A roomL roomU (turn p m A f t) ts) (some (rowOfTurn t)) ≡ some i
-          → (Fits (turn p m A f t) → firstOver p m A roomL roomU (turn p m A f t) ts ≡ some i → Overflows (turn p m A f t) ts i) → Overflows f (t ∷ ts) i
+          → (Fits roomL roomU (turn p m A f t) → firstOver p m A roomL roomU (turn p m A f t) ts ≡ some i → Overflows (turn p m A f t) ts i) → Overflows f (t ∷ ts) i
       go true q e ih =
-          let o = ih (fits-holds (turn p m A f t) q) e in
+          let o = ih (fits-holds roomL roomU (turn p m A f t) q) e in
           record {
             before = t ∷ o .before;
             at = o .at;
@@ -164,7 +153,7 @@ module _ (p m : ℕ) (A : Matrix) (roomL roomU : ℕ) where
             split = refl;
             row = (cc);
             fitted = h;
-            over = λ k. true≢false (sym (holds-fits (turn p m A f t) k) ∙ q);
+            over = λ k. true≢false (sym (holds-fits roomL roomU (turn p m A f t) k) ∙ q);
           }
 
 -- ---- of the finished factors
@@ -173,7 +162,7 @@ module _ (p n m : ℕ) (A : Matrix) (pairs : List Pair) (roomL roomU : ℕ) wher
   abbrev finished : Set
   finished = factorFrom p n m A pairs
 
-  at-first : Fits p m A roomL roomU nothing
+  at-first : Fits roomL roomU nothing
   unfolding lowersOf uppersOf entries
   at-first = record { L = omega arith; U = omega arith }
 

@@ -1,22 +1,28 @@
 -- The rows found: each turn adds its row, so the whole schedule finds each row of the matrix once.
 use mathlib.Core.Path.{_≡_, refl, sym, ap, ap₂, _∙_, subst}
-use mathlib.Core.Bool.{Bool, true, false, cond, _||_}
+use mathlib.Core.Bool.{Bool, true, false, _||_}
 use mathlib.Core.List.{List, [], _∷_, _++_, map, map-map}
-use Prim.Native.Nat.{ℕ, zero, suc, _+_, _≤_, _<_}
+use Prim.Native.Nat.{ℕ, suc, _+_}
 use native.Mathlib.Omega.{arith}
-use lib.Dec.{eqb, leb}
+use lib.Dec.{eqb}
 use lib.ListN.{length, length-append, length-map}
 use Rattle.lists.specs.Filled.{zeros}
-use Rattle.lists.specs.Tests.{first}
 use Rattle.algebra.specs.Matrix.{Vector, Matrix, Distinct, Permutation, vector}
 use Rattle.elimination.specs.Structural.{Pair}
 use Rattle.elimination.specs.Pairs.{pairRows, Pairs}
-use Rattle.elimination.specs.Pivots.{Pivot, Dependent, Found, rankOf, reducedBy, coefficients, withPivot, withDependent, placed, Turn, pair, other, turn, turns}
+use Rattle.elimination.specs.Pivots.{Pivot, Dependent, Found, rankOf, reducedBy, coefficients, withPivot, withDependent, Turn, pair, other, turn, turns}
 use Rattle.elimination.specs.Factoring.{isIn, rest, schedule, nothing, rowsOf, rowOfTurn}
 use Rattle.elimination.proofs.Listed.{snoc-length, map-append, isIn-append, listed}
+use Rattle.elimination.proofs.Turns.{other-either}
 use Rattle.elimination.proofs.Completion.{completed-isIn, completed-length}
 
 -- ---- the rows found
+
+abbrev pub pivotRows : Found → List ℕ
+pivotRows f = map (λ q. q .row) (f .pivots)
+
+abbrev pub dependentRows : Found → List ℕ
+dependentRows f = map (λ d. d .row) (f .dependents)
 
 -- f′ has the rows of f, and row i
 record OneMore (f f′ : Found) (i : ℕ) : Type 0 where
@@ -24,19 +30,13 @@ record OneMore (f f′ : Found) (i : ℕ) : Type 0 where
   has : (x : ℕ) → isIn (rowsOf f′) x ≡ (isIn (rowsOf f) x || eqb i x)
 
 module _ (f : Found) (i : ℕ) where
-  abbrev pivotRows : List ℕ
-  pivotRows = map (λ q. q .row) (f .pivots)
-
-  abbrev dependentRows : List ℕ
-  dependentRows = map (λ d. d .row) (f .dependents)
-
-  front : (x : ℕ) → isIn ((pivotRows ++ (i ∷ [])) ++ dependentRows) x ≡ (isIn (pivotRows ++ dependentRows) x || eqb i x)
+  front : (x : ℕ) → isIn ((pivotRows f ++ (i ∷ [])) ++ dependentRows f) x ≡ (isIn (pivotRows f ++ dependentRows f) x || eqb i x)
   unfolding isIn
   front x =
-      isIn-append (pivotRows ++ (i ∷ [])) dependentRows x
-      ∙ ap (λ (b : Bool). b || isIn dependentRows x) (isIn-append pivotRows (i ∷ []) x)
-      ∙ go (isIn pivotRows x) (isIn dependentRows x) (eqb i x)
-      ∙ ap (λ (b : Bool). b || eqb i x) (sym (isIn-append pivotRows dependentRows x))
+      isIn-append (pivotRows f ++ (i ∷ [])) (dependentRows f) x
+      ∙ ap (λ (b : Bool). b || isIn (dependentRows f) x) (isIn-append (pivotRows f) (i ∷ []) x)
+      ∙ go (isIn (pivotRows f) x) (isIn (dependentRows f) x) (eqb i x)
+      ∙ ap (λ (b : Bool). b || eqb i x) (sym (isIn-append (pivotRows f) (dependentRows f) x))
     where
       go : (a b c : Bool) → ((a || (c || false)) || b) ≡ ((a || b) || c)
       go true b c = refl
@@ -45,13 +45,13 @@ module _ (f : Found) (i : ℕ) where
       go false false true = refl
       go false false false = refl
 
-  back : (x : ℕ) → isIn (pivotRows ++ (dependentRows ++ (i ∷ []))) x ≡ (isIn (pivotRows ++ dependentRows) x || eqb i x)
+  back : (x : ℕ) → isIn (pivotRows f ++ (dependentRows f ++ (i ∷ []))) x ≡ (isIn (pivotRows f ++ dependentRows f) x || eqb i x)
   unfolding isIn
   back x =
-      isIn-append pivotRows (dependentRows ++ (i ∷ [])) x
-      ∙ ap (λ (b : Bool). isIn pivotRows x || b) (isIn-append dependentRows (i ∷ []) x)
-      ∙ go (isIn pivotRows x) (isIn dependentRows x) (eqb i x)
-      ∙ ap (λ (b : Bool). b || eqb i x) (sym (isIn-append pivotRows dependentRows x))
+      isIn-append (pivotRows f) (dependentRows f ++ (i ∷ [])) x
+      ∙ ap (λ (b : Bool). isIn (pivotRows f) x || b) (isIn-append (dependentRows f) (i ∷ []) x)
+      ∙ go (isIn (pivotRows f) x) (isIn (dependentRows f) x) (eqb i x)
+      ∙ ap (λ (b : Bool). b || eqb i x) (sym (isIn-append (pivotRows f) (dependentRows f) x))
     where
       go : (a b c : Bool) → (a || (b || (c || false))) ≡ ((a || b) || c)
       go true b c = refl
@@ -63,7 +63,7 @@ module _ (f : Found) (i : ℕ) where
   unfolding withPivot rowsOf
   pivot-row p m c ls w =
       record {
-        long = rw (map-append {A = Pivot} (λ q. q .row)) (omega (arith, length-append (pivotRows ++ (i ∷ [])) dependentRows, snoc-length pivotRows i, length-append pivotRows dependentRows));
+        long = rw (map-append {A = Pivot} (λ q. q .row)) (omega (arith, length-append (pivotRows f ++ (i ∷ [])) (dependentRows f), snoc-length (pivotRows f) i, length-append (pivotRows f) (dependentRows f)));
         has = λ x. rw (map-append {A = Pivot} (λ q. q .row)) (front x);
       }
 
@@ -71,25 +71,17 @@ module _ (f : Found) (i : ℕ) where
   unfolding withDependent rowsOf
   dependent-row ls =
       record {
-        long = rw (map-append {A = Dependent} (λ d. d .row)) (omega (arith, length-append pivotRows (dependentRows ++ (i ∷ [])), snoc-length dependentRows i, length-append pivotRows dependentRows));
+        long = rw (map-append {A = Dependent} (λ d. d .row)) (omega (arith, length-append (pivotRows f) (dependentRows f ++ (i ∷ [])), snoc-length (dependentRows f) i, length-append (pivotRows f) (dependentRows f)));
         has = λ x. rw (map-append {A = Dependent} (λ d. d .row)) (back x);
       }
 
 module _ (p m : ℕ) (A : Matrix) where
   turn-row : (f : Found) (t : Turn) → OneMore f (turn p m A f t) (rowOfTurn t)
-  unfolding turn placed
+  unfolding turn
   turn-row f (pair q) = pivot-row f (q .row) p m (q .column) (zeros (rankOf f)) (A (q .row))
-  turn-row f (other i) = go (leb m c)
-    where
-      w : Vector
-      w = reducedBy p f (rankOf f) (A i)
-
-      c : ℕ
-      c = first m (λ j. eqb (w j) 0)
-
-      go : (b : Bool) → OneMore f (cond b (withDependent f i (coefficients p f (A i))) (withPivot p m f i c (coefficients p f (A i)) w)) i
-      go true = dependent-row f i (coefficients p f (A i))
-      go false = pivot-row f i p m c (coefficients p f (A i)) w
+  turn-row f (other i) =
+      other-either p m A f i (λ f′. OneMore f f′ i) (dependent-row f i (coefficients p f (A i)))
+      (λ c. pivot-row f i p m c (coefficients p f (A i)) (reducedBy p f (rankOf f) (A i)))
 
   pub turns-length : (f : Found) (ts : List Turn) → length (rowsOf (turns p m A f ts)) ≡ length (rowsOf f) + length ts
   unfolding turns

@@ -1,17 +1,16 @@
 -- The invariant holds of what the whole schedule finds.
 use mathlib.Core.Path.{_≡_, refl, sym, ap, _∙_, subst}
 use mathlib.Core.List.{List, [], _∷_, _++_, map}
-use Prim.Native.Nat.{ℕ, zero, suc, _+_, _≤_, _<_}
+use Prim.Native.Nat.{ℕ, suc, _+_, _<_}
 use native.Mathlib.Omega.{arith}
 use lib.ListN.{length, getD, length-append, List·getD-map, List·getD-append}
 use lib.Seq.{append-snoc, getD-append-seam}
-use Rattle.lists.specs.Filled.{zeros}
 use Rattle.algebra.specs.Prime.{Prime}
 use Rattle.algebra.specs.Matrix.{Matrix}
 use Rattle.elimination.specs.Structural.{Pair}
 use Rattle.elimination.specs.Pairs.{pairRows, pairColumns, Pairs}
 use Rattle.elimination.specs.Pivots.{Found, columnsOf, rankOf, withPivot, Turn, pair, other, turn, turns}
-use Rattle.elimination.specs.Factoring.{isIn, rest, schedule, nothing}
+use Rattle.elimination.specs.Factoring.{rest, schedule, nothing}
 use Rattle.elimination.proofs.Listed.{map-append}
 use Rattle.elimination.proofs.Completion.{rest-each}
 use Rattle.elimination.proofs.Invariant.{columns-many, Invariant, nothing-holds}

@@ -1,9 +1,8 @@
 -- The factors have the published shape, their product is the matrix, and they are stored in their form.
-use mathlib.Core.Path.{_≡_, refl, sym, ap, _∙_, subst, subst₂}
+use mathlib.Core.Path.{_≡_, sym, ap, _∙_, subst₂}
 use mathlib.Core.Bool.{true}
-use mathlib.Core.List.{List, [], _∷_, _++_, map}
-use Prim.Native.Nat.{ℕ, suc, _+_, _%_, _≤_, _<_}
-use native.Mathlib.Nat.{mod-eq-of-lt, zero-mod}
+use mathlib.Core.List.{List, [], _++_, map}
+use Prim.Native.Nat.{ℕ, _+_, _≤_, _<_}
 use native.Mathlib.Omega.{arith}
 use lib.ListN.{length, getD, length-append, length-map, List·getD-map, List·getD-append, List·getD-eq-default}
 use Rattle.algebra.specs.Congruence.{_≈⟨_⟩_}
@@ -11,22 +10,24 @@ use Rattle.algebra.specs.Sum.{dot}
 use Rattle.algebra.specs.Prime.{Prime}
 use Rattle.algebra.specs.Matrix.{Matrix, Permutation, vector}
 use Rattle.algebra.specs.Factors.{Factors}
+use Rattle.algebra.specs.Rank.{Rank}
 use Rattle.algebra.proofs.Congruence.{exact, _⊙_, equal-residues}
 use Rattle.algebra.proofs.Dot.{dot-eq}
+use Rattle.algebra.proofs.Rank.{rank}
 use Rattle.sparse.specs.Matrix.{Compressed, matrix, form}
 use Rattle.sparse.specs.Set.{Set}
 use Rattle.sparse.specs.Dense.{compress}
 use Rattle.sparse.proofs.DenseLaws.{compress-matrix, compress-lengths}
-use Rattle.sparse.proofs.DenseForm.{DenseRows, compress-form}
+use Rattle.sparse.proofs.DenseForm.{compress-form}
 use Rattle.sparse.proofs.Rows.{form-below}
 use Rattle.elimination.specs.Structural.{Pair, structural}
 use Rattle.elimination.specs.Pairs.{Pairs}
-use Rattle.elimination.specs.Pivots.{Pivot, Dependent, Found, columnsOf, uppersOf, rankOf, turns}
+use Rattle.elimination.specs.Pivots.{Found, columnsOf, uppersOf, rankOf, turns}
 use Rattle.elimination.specs.Factoring.{rest, schedule, nothing, rowsOf, lowersOf, factored, factorFrom, factor}
 use Rattle.elimination.proofs.Listed.{append-both}
 use Rattle.elimination.proofs.Completion.{completed, completed-length}
-use Rattle.elimination.proofs.Echelon.{cells, Echelon, echelon-distinct}
-use Rattle.elimination.proofs.Invariant.{noPivot, noDependent, columns-many, uppers-many, Lower, PivotRow, Invariant}
+use Rattle.elimination.proofs.Echelon.{cells, echelon-distinct}
+use Rattle.elimination.proofs.Invariant.{noPivot, noDependent, columns-many, uppers-many, Lower, Invariant}
 use Rattle.elimination.proofs.Pairs.{structural-pairs}
 use Rattle.elimination.proofs.RowsFound.{rows-length, rows-permutation}
 use Rattle.elimination.proofs.Schedule.{schedule-holds}
@@ -41,7 +42,7 @@ pub record StoredFactors (p n m : ℕ) (A : Matrix) (g : Set) : Type 0 where
   pub L-starts : length (g .L .starts) ≡ n + 1
   pub U-starts : length (g .U .starts) ≡ g .r + 1
 
--- ---- the rows of L
+-- ---- the rows of L, and the rank
 
 pub lowers-many : (f : Found) → length (lowersOf f) ≡ length (rowsOf f)
 unfolding lowersOf rowsOf
@@ -84,12 +85,15 @@ module _ (p n m : ℕ) (A : Matrix) (f : Found) (v : Invariant p n m A f) where
   lower-diagonal : (k : ℕ) → k < rankOf f → ¬ (getD (getD (lowersOf f) k []) k 0 ≡ 0)
   lower-diagonal k h e = v .pivot-rows k h .diagonal (ap (λ (l : List ℕ). getD l k 0) (sym (pivot-lower f k h)) ∙ e)
 
--- ---- the factors from what was found, where each row was
-
-module _ (p n m : ℕ) (A : Matrix) (prime : Prime p) (f : Found) (v : Invariant p n m A f) (many : length (rowsOf f) ≡ n) (order : Permutation n (vector (rowsOf f))) where
   columns-whole : length (columnsOf f ++ rest (columnsOf f) m) ≡ m
   columns-whole = completed-length (columnsOf f) m (echelon-distinct p m (columnsOf f) (uppersOf f) (v .echelon))
 
+  pub rank-columns : rankOf f ≤ m
+  rank-columns = omega (arith, columns-whole, columns-many f, length-append (columnsOf f) (rest (columnsOf f) m))
+
+-- ---- the factors from what was found, where each row was
+
+module _ (p n m : ℕ) (A : Matrix) (prime : Prime p) (f : Found) (v : Invariant p n m A f) (many : length (rowsOf f) ≡ n) (order : Permutation n (vector (rowsOf f))) where
   column-at : (k : ℕ) → k < rankOf f → getD (columnsOf f ++ rest (columnsOf f) m) k 0 ≡ getD (columnsOf f) k 0
   column-at k h = List·getD-append (columnsOf f) (rest (columnsOf f) m) 0 k (omega (arith, columns-many f))
 
@@ -111,7 +115,7 @@ module _ (p n m : ℕ) (A : Matrix) (prime : Prime p) (f : Found) (v : Invariant
         rows = order;
         columns = completed (columnsOf f) m (echelon-distinct p m (columnsOf f) (uppersOf f) (v .echelon));
         rank-rows = omega (arith, rank-rows f);
-        rank-columns = omega (arith, columns-whole, columns-many f, length-append (columnsOf f) (rest (columnsOf f) m));
+        rank-columns = rank-columns p n m A f v;
         L-above = λ i k l h. compress-matrix (lowersOf f) i k ∙ lower-above p n m A f v i k l h;
         L-diagonal = diagonal;
         U-left = λ k j l h. ap (matrix (compress (uppersOf f)) k) (column-at j (omega arith)) ∙ compress-matrix (uppersOf f) k (getD (columnsOf f) j 0) ∙ v .echelon .rows k (omega (arith, uppers-many f)) .left j l;
@@ -133,7 +137,7 @@ module _ (p n m : ℕ) (A : Matrix) (prime : Prime p) (f : Found) (v : Invariant
           residues = λ k j h. v .echelon .rows k h .residues j;
         });
         R-length = many;
-        C-length = columns-whole;
+        C-length = columns-whole p n m A f v;
         L-starts = compress-lengths (lowersOf f) .starts-are ∙ omega (arith, lowers-many f);
         U-starts = compress-lengths (uppersOf f) .starts-are ∙ omega (arith, uppers-many f);
       }
@@ -151,3 +155,7 @@ unfolding factor
 factor-stored p n m A prime formed many =
     factorFrom-stored p n m (matrix A) (structural A n m) prime (λ i j h l. form-below p m (A .starts) (A .cols) (A .vals) formed i j (omega (arith, prime .two)))
     (structural-pairs p n m A formed many)
+
+-- so r is the rank
+pub factor-rank : (p n m : ℕ) (A : Compressed) → Prime p → form p m A ≡ true → length (A .starts) ≡ n + 1 → Rank p n m (matrix A) (factor p n m A .r)
+factor-rank p n m A prime formed many = rank prime (factor-stored p n m A prime formed many .factors)

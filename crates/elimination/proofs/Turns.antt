@@ -1,8 +1,7 @@
 -- Each turn keeps the invariant: another row always, a pair where its row is 0 at the pivot columns before it.
 use mathlib.Core.Path.{_≡_, refl, sym, ap, _∙_}
 use mathlib.Core.Bool.{Bool, true, false, cond}
-use mathlib.Core.List.{List, [], _∷_, _++_}
-use Prim.Native.Nat.{ℕ, _+_, _≤_, _<_}
+use Prim.Native.Nat.{ℕ, _+_, _<_}
 use native.Mathlib.Decide.{decLt}
 use native.Mathlib.Omega.{arith}
 use lib.Dec.{eqb, leb}
@@ -13,7 +12,6 @@ use Rattle.lists.specs.Tests.{first}
 use Rattle.lists.proofs.Filled.{length-zeros, zeros-at}
 use Rattle.lists.proofs.Tabulate.{length-tabulate, tabulate-at}
 use Rattle.lists.proofs.Tests.{first-before, first-here}
-use Rattle.algebra.specs.Congruence.{_≈⟨_⟩_}
 use Rattle.algebra.specs.Sum.{dot}
 use Rattle.algebra.specs.Prime.{Prime}
 use Rattle.algebra.specs.Matrix.{Vector, Matrix, vector}
@@ -22,8 +20,20 @@ use Rattle.algebra.proofs.Dot.{dot-vanish, dot-eq}
 use Rattle.algebra.proofs.Reduction.{taken, reduced-small, reduced-split, reduced-pivot}
 use Rattle.elimination.specs.Structural.{Pair}
 use Rattle.elimination.specs.Pivots.{Found, columnsOf, uppersOf, upper, rankOf, reducedBy, coefficients, withPivot, withDependent, placed, pair, other, turn}
-use Rattle.elimination.proofs.Echelon.{Echelon}
-use Rattle.elimination.proofs.Invariant.{columns-many, uppers-many, Invariant, Remainder, dependent-holds, pivot-holds}
+use Rattle.elimination.proofs.Invariant.{uppers-many, Invariant, Remainder, dependent-holds, pivot-holds}
+
+-- another row becomes a dependent row or a pivot row
+pub other-either : (p m : ℕ) (A : Matrix) (f : Found) (i : ℕ) (P : Found → Type 0) → P (withDependent f i (coefficients p f (A i)))
+    → ((c : ℕ) → P (withPivot p m f i c (coefficients p f (A i)) (reducedBy p f (rankOf f) (A i)))) → P (turn p m A f (other i))
+unfolding turn placed
+other-either p m A f i P dependent pivot = go (leb m c)
+  where
+    c : ℕ
+    c = first m (λ j. eqb (reducedBy p f (rankOf f) (A i) j) 0)
+
+    go : (b : Bool) → P (cond b (withDependent f i (coefficients p f (A i))) (withPivot p m f i c (coefficients p f (A i)) (reducedBy p f (rankOf f) (A i))))
+    go true = dependent
+    go false = pivot c
 
 -- ---- reduction by the rows of U found so far
 

@@ -1,7 +1,7 @@
 -- Laws of dense rows and of the stored lists that hold them: the entries, the lengths, and one row more.
 use mathlib.Core.Path.{_≡_, refl, sym, ap, _∙_}
 use mathlib.Core.List.{List, [], _∷_, _++_, append-nil, append-assoc}
-use Prim.Native.Nat.{ℕ, zero, suc, _+_, _-_, _*_, _≤_, _<_}
+use Prim.Native.Nat.{ℕ, zero, suc, _+_, _-_, _*_, _<_}
 use native.Mathlib.Omega.{arith}
 use native.Mathlib.Numerals.{add-one}
 use lib.ListN.{length, getD, take, drop, length-append}
@@ -10,7 +10,7 @@ use Rattle.lists.proofs.Steps.{drop-take}
 use Rattle.algebra.specs.Sum.{sum, δ}
 use Rattle.algebra.proofs.Dot.{δ-same, δ-other}
 use Rattle.sparse.specs.Row.{weigh, entry}
-use Rattle.sparse.specs.Matrix.{rowOf, matrix}
+use Rattle.sparse.specs.Matrix.{compressed, rowOf, matrix}
 use Rattle.sparse.specs.Dense.{columnsFrom, nonzeros, startsAfter, allColumns, allValues, compress}
 
 -- ---- one row: the entry at a column is the cell
@@ -167,7 +167,64 @@ pub compress-append : (rows : List (List ℕ)) (row : List ℕ) → Appended row
 unfolding compress columnsFrom nonzeros allColumns allValues startsAfter
 compress-append rows row =
     record {
-      starts = ap (λ (l : List ℕ). 0 ∷ l) (starts-append 0 rows (row ∷ []) ∙ ap (λ (k : ℕ). startsAfter 0 rows ++ ((k + length (nonzeros row)) ∷ [])) (let e : 0 + length (allValues rows) ≡ length (allValues rows) = omega arith in e));
-      cols = parts-append (columnsFrom 0) allColumns refl (columns-length 0) refl (λ r rs. refl) rows (row ∷ []) ∙ ap (λ (l : List ℕ). allColumns rows ++ l) (append-nil (columnsFrom 0 row));
-      vals = parts-append nonzeros allValues refl (λ r. refl) refl (λ r rs. refl) rows (row ∷ []) ∙ ap (λ (l : List ℕ). allValues rows ++ l) (append-nil (nonzeros row));
+      starts = ap (λ (l : List ℕ). 0 ∷ l) (starts-append 0 rows (row ∷ []) ∙ ap (λ (k : ℕ). startsAfter 0 rows ++ ((k + length (nonzeros row)) ∷ [])) from-zero);
+      cols =
+          parts-append (columnsFrom 0) allColumns refl (columns-length 0) refl (λ r rs. refl) rows (row ∷ [])
+          ∙ ap (λ (l : List ℕ). allColumns rows ++ l) (append-nil (columnsFrom 0 row));
+      vals =
+          parts-append nonzeros allValues refl (λ r. refl) refl (λ r rs. refl) rows (row ∷ [])
+          ∙ ap (λ (l : List ℕ). allValues rows ++ l) (append-nil (nonzeros row));
     }
+  where
+    from-zero : 0 + length (allValues rows) ≡ length (allValues rows)
+    from-zero = omega arith
+
+-- ---- rows with the same cells are stored alike, however many zeros end them
+
+pub values-same : (xs ys : List ℕ) → ((j : ℕ) → getD xs j 0 ≡ getD ys j 0) → nonzeros xs ≡ nonzeros ys
+unfolding nonzeros
+values-same [] [] h = refl
+values-same [] (zero ∷ ys) h = values-same [] ys (λ j. h (suc j))
+values-same [] (suc w ∷ ys) h = absurd (omega (arith, h 0))
+values-same (zero ∷ xs) [] h = values-same xs [] (λ j. h (suc j))
+values-same (suc v ∷ xs) [] h = absurd (omega (arith, h 0))
+values-same (zero ∷ xs) (zero ∷ ys) h = values-same xs ys (λ j. h (suc j))
+values-same (zero ∷ xs) (suc w ∷ ys) h = absurd (omega (arith, h 0))
+values-same (suc v ∷ xs) (zero ∷ ys) h = absurd (omega (arith, h 0))
+values-same (suc v ∷ xs) (suc w ∷ ys) h = (λ t. h 0 t ∷ values-same xs ys (λ j. h (suc j)) t)
+
+pub columns-same : (at : ℕ) (xs ys : List ℕ) → ((j : ℕ) → getD xs j 0 ≡ getD ys j 0) → columnsFrom at xs ≡ columnsFrom at ys
+unfolding columnsFrom
+columns-same at [] [] h = refl
+columns-same at [] (zero ∷ ys) h = columns-same (suc at) [] ys (λ j. h (suc j))
+columns-same at [] (suc w ∷ ys) h = absurd (omega (arith, h 0))
+columns-same at (zero ∷ xs) [] h = columns-same (suc at) xs [] (λ j. h (suc j))
+columns-same at (suc v ∷ xs) [] h = absurd (omega (arith, h 0))
+columns-same at (zero ∷ xs) (zero ∷ ys) h = columns-same (suc at) xs ys (λ j. h (suc j))
+columns-same at (zero ∷ xs) (suc w ∷ ys) h = absurd (omega (arith, h 0))
+columns-same at (suc v ∷ xs) (zero ∷ ys) h = absurd (omega (arith, h 0))
+columns-same at (suc v ∷ xs) (suc w ∷ ys) h = ap (λ (l : List ℕ). at ∷ l) (columns-same (suc at) xs ys (λ j. h (suc j)))
+
+-- lists of as many rows, with the same cells
+pub record SameCells (rows rows′ : List (List ℕ)) : Type 0 where
+  pub as-many : length rows ≡ length rows′
+  pub cells : (i j : ℕ) → i < length rows → getD (getD rows i []) j 0 ≡ getD (getD rows′ i []) j 0
+
+lists-same : (rows rows′ : List (List ℕ)) → SameCells rows rows′
+    → ((at : ℕ) → startsAfter at rows ≡ startsAfter at rows′) × (allColumns rows ≡ allColumns rows′) × (allValues rows ≡ allValues rows′)
+unfolding startsAfter allColumns allValues
+lists-same [] [] s = (λ at. refl, refl, refl)
+lists-same [] (row′ ∷ rows′) s = absurd (omega (arith, s .as-many))
+lists-same (row ∷ rows) [] s = absurd (omega (arith, s .as-many))
+lists-same (row ∷ rows) (row′ ∷ rows′) s =
+    let ih = lists-same rows rows′ (record { as-many = omega (arith, s .as-many); cells = λ i j h. s .cells (suc i) j (omega arith) }) in
+    let v : nonzeros row ≡ nonzeros row′ = values-same row row′ (λ j. s .cells 0 j (omega arith)) in
+    let c : columnsFrom 0 row ≡ columnsFrom 0 row′ = columns-same 0 row row′ (λ j. s .cells 0 j (omega arith)) in (
+      λ at. ap (λ (l : List ℕ). (at + length l) ∷ startsAfter (at + length l) rows) v ∙ ap (λ (l : List ℕ). (at + length (nonzeros row′)) ∷ l) (ih .0 (at + length (nonzeros row′))),
+      (λ t. c t ++ ih .1 t),
+      (λ t. v t ++ ih .2 t),
+    )
+
+pub compress-same : (rows rows′ : List (List ℕ)) → SameCells rows rows′ → compress rows ≡ compress rows′
+unfolding compress
+compress-same rows rows′ s = let e = lists-same rows rows′ s in (λ t. compressed (0 ∷ e .0 0 t) (e .1 t) (e .2 t))
