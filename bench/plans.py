@@ -18,8 +18,8 @@ GREATEST_TEXT = 65_536
 
 
 class BenchPlan(NamedTuple):
-    """Rows are dictionaries from column to value, counted from 0. `sparse`
-    says in which half of the table the plan stands."""
+    """Rows are dictionaries from column to value, counted from 0. Sparse and
+    dense plans have their own line under the table."""
 
     name: str
     p: int

@@ -51,6 +51,22 @@ def _ratios(measured, peers, own):
         yield [one.plan, *cells]
 
 
+def _least_ratios(measured, own, peers):
+    """For the sparse plans and for the dense ones, the least that any peer
+    takes beside each of our tools, with the plan and the peer."""
+    for words, sparse in (("sparse", True), ("dense", False)):
+        for tool in own:
+            ratios = [
+                (one.times[peer] / one.times[tool], peer, one.plan)
+                for one in measured
+                for peer in peers
+                if one.sparse == sparse and {peer, tool} <= set(one.times)
+            ]
+            if ratios:
+                least, peer, plan = min(ratios)
+                yield f"- {words} plans, {tool}: {ratio(least)} ({peer} on {plan})"
+
+
 def table(measured, own, peers):
     """Times in milliseconds, then each peer's bare rank divided by our tools'
     time: above 1 we are ahead."""
@@ -65,3 +81,11 @@ def table(measured, own, peers):
         yield ""
         header = ["plan", *(f"{peer} / {tool}" for tool in own for peer in peers)]
         yield from _lines(header, _ratios(measured, peers, own))
+        yield ""
+        yield "The least of these ratios:"
+        yield ""
+        yield from _least_ratios(measured, own, peers)
+    slowest = [one.times["check"] / one.times["make"] for one in measured if "check" in one.times]
+    if slowest:
+        yield ""
+        yield f"Checking takes at most {ratio(max(slowest))} times as long as making."

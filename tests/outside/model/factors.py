@@ -1,6 +1,6 @@
 """Factoring a plan (scope, "Factors" and its pivot rules; number 7 in "What the library returns").
 
-    Factors      document 01's set: R, C, L, U and r
+    Factors      the scope's set: R, C, L, U and r
     Factored     the factors with the number of structural pivots
     structural   rule 1: the rows chosen by leftmost column
     schedule     the processing order: the structural rows, then the others
