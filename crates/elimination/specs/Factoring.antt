@@ -3,12 +3,15 @@
 --   rest xs n                 the numbers below n that are not in xs, rising
 --   schedule n pairs          the pairs first, then the other rows by number
 --   nothing                   what is found before the first turn
---   factored m f              the factors from what was found: pivots as found, then dependent rows; pivot columns, then the others rising
---   factorFrom, factor        the factors from given pairs, and from the structural pivots
---   entriesL, entriesU        how many entries L and U have
---   firstOver ..              the row of the first turn after which L or U has more entries than its room (refusal 7)
+--   rowsOf, lowersOf          the rows in R's order, pivot rows as found and then dependent rows; and their rows of L
+--   factored m f              the set from what was found; pivot columns first, then the others rising
+--   factorFrom, factor        the set from given pairs, and from the structural pivots
+--   entries rows              how many entries the stored form of dense rows has
+--   rowOfTurn                 the row that a turn takes
+--   fits roomL roomU f        L and U have no more entries than their rooms
+--   firstOver ..              the row of the first turn after which they have (refusal 7)
 use Prim.Native.Nat.{ℕ, zero, suc, _+_}
-use mathlib.Core.Bool.{Bool, true, false, cond, _&&_, _||_}
+use mathlib.Core.Bool.{Bool, false, cond, _&&_, _||_}
 use mathlib.Core.List.{List, [], _∷_, _++_, map}
 use mathlib.Core.Option.{Option, none, some}
 use lib.ListN.{length}
