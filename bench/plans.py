@@ -1,0 +1,142 @@
+"""The benchmark plans, the same on every machine.
+
+A plan's text has at most 65,536 bytes, so a plan of 2,048 by 2,048 has some
+5,000 entries and a full plan some 70 rows; a size that does not fit is brought
+down until it does. The sizes here also keep each factor within 16,384 entries,
+so that every plan has a report.
+
+    BenchPlan    a name, a modulus, the sizes and the rows
+    all_plans    the plans of the table
+    text         a plan as plan text
+    peer_form    a plan as the peers read it
+"""
+
+from random import Random
+from typing import NamedTuple
+
+GREATEST_TEXT = 65_536
+
+
+class BenchPlan(NamedTuple):
+    """Rows are dictionaries from column to value, counted from 0. Sparse and
+    dense plans have their own line under the table."""
+
+    name: str
+    p: int
+    n: int
+    m: int
+    rows: list
+    sparse: bool = True
+
+    @property
+    def entries(self):
+        return sum(map(len, self.rows))
+
+
+def _cells(rng, p, columns):
+    return {column: rng.randrange(1, p) for column in sorted(columns)}
+
+
+def text(plan):
+    """The plan text."""
+    lines = [f"{plan.p}", f"{plan.n} {plan.m} M"]
+    for i, cells in enumerate(plan.rows):
+        lines += [f"{i + 1} {j + 1} {v}" for j, v in cells.items()]
+    return "".join(line + "\n" for line in [*lines, "0 0 0"]).encode()
+
+
+def peer_form(plan):
+    """`p n m e`, then `i j v`, counted from 0."""
+    lines = [f"{plan.p} {plan.n} {plan.m} {plan.entries}"]
+    for i, cells in enumerate(plan.rows):
+        lines += [f"{i} {j} {v}" for j, v in cells.items()]
+    return "".join(line + "\n" for line in lines).encode()
+
+
+def random_sparse(rng, p, size):
+    """Entries anywhere: a row has one, two or three."""
+    rows = [_cells(rng, p, rng.sample(range(size), rng.choice((1, 2, 2, 3)))) for _ in range(size)]
+    return size, size, rows
+
+
+def band(rng, p, size):
+    """The diagonal and the cell before it."""
+    return size, size, [_cells(rng, p, range(max(0, i - 1), i + 1)) for i in range(size)]
+
+
+def wide_band(rng, p, size):
+    """Five cells around the diagonal."""
+    return size, size, [
+        _cells(rng, p, range(max(0, i - 2), min(size, i + 3))) for i in range(size)
+    ]
+
+
+def filling(rng, p, size):
+    """Five entries in each row, anywhere: few structural pivots and much fill."""
+    return size, size, [_cells(rng, p, rng.sample(range(size), 5)) for _ in range(size)]
+
+
+def wide_pads(rng, p, size):
+    """A few words and many pads: each slot hears one word and ten pads."""
+    words = 2_048 // 16
+    rows = []
+    for _ in range(size):
+        pads = rng.sample(range(words, 2_048), 10)
+        rows.append(_cells(rng, p, {rng.randrange(words), *pads}))
+    return size, 2_048, rows
+
+
+def full_tail(rng, p, size):
+    """A thin plan whose last rows are nearly full over the last columns."""
+    tail = 48
+    rows = [_cells(rng, p, {i, rng.randrange(i, size)}) for i in range(size - tail)]
+    last = range(size - 2 * tail, size)
+    rows += [_cells(rng, p, [j for j in last if rng.random() < 0.9]) for _ in range(tail)]
+    return size, size, rows
+
+
+def low_rank(rng, p, size):
+    """Every row a multiple of one of few rows."""
+    base = [_cells(rng, p, rng.sample(range(size), 8)) for _ in range(size // 16)]
+    rows = []
+    for _ in range(size):
+        factor, cells = rng.randrange(1, p), rng.choice(base)
+        rows.append({j: v * factor % p for j, v in cells.items()})
+    return size, size, rows
+
+
+def small_dense(rng, p, size):
+    """Every cell any residue."""
+    cells = [[(j, rng.randrange(p)) for j in range(size)] for _ in range(size)]
+    return size, size, [{j: v for j, v in row if v} for row in cells]
+
+
+# Name, builder, moduli, size.
+TABLE = (
+    ("random sparse", random_sparse, (2, 251, 65_521), 2_048),
+    ("band", band, (7, 65_521), 2_048),
+    ("wide band", wide_band, (7, 65_521), 2_048),
+    ("filling", filling, (7, 65_521), 340),
+    ("wide pads", wide_pads, (7, 65_521), 240),
+    ("full tail", full_tail, (7, 65_521), 1_024),
+    ("low rank", low_rank, (7, 65_521), 1_024),
+    ("small dense", small_dense, (2, 7, 251, 65_521), 112),
+)
+
+
+def _fitted(name, builder, p, size):
+    """The first plan, by steps of a sixteenth down, whose text fits."""
+    while True:
+        rng = Random(f"{name} {p} {size}")
+        n, m, rows = builder(rng, p, size)
+        plan = BenchPlan(f"{name} p={p}", p, n, m, rows, builder is not small_dense)
+        if len(text(plan)) <= GREATEST_TEXT:
+            return plan
+        size -= size // 16
+
+
+def all_plans():
+    """The plans in the table's order."""
+    return [
+        _fitted(name, builder, p, size) for name, builder, moduli, size in TABLE for p in moduli
+    ]

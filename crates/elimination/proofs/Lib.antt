@@ -1,0 +1,13 @@
+pub mod Listed
+pub mod Completion
+pub mod Echelon
+pub mod Invariant
+pub mod Turns
+pub mod Choice
+pub mod Pairs
+pub mod RowsFound
+pub mod Schedule
+pub mod Order
+pub mod Theorem
+pub mod Room
+pub mod Again

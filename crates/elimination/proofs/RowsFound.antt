@@ -1,0 +1,134 @@
+-- The rows found: each turn adds its row, so the whole schedule finds each row of the matrix once.
+use mathlib.Core.Path.{_≡_, refl, sym, ap, ap₂, _∙_, subst}
+use mathlib.Core.Bool.{Bool, true, false, _||_}
+use mathlib.Core.List.{List, [], _∷_, _++_, map, map-map}
+use Prim.Native.Nat.{ℕ, suc, _+_}
+use native.Mathlib.Omega.{arith}
+use lib.Dec.{eqb}
+use lib.ListN.{length, length-append, length-map}
+use Rattle.lists.specs.Filled.{zeros}
+use Rattle.algebra.specs.Matrix.{Vector, Matrix, Distinct, Permutation, vector}
+use Rattle.elimination.specs.Structural.{Pair}
+use Rattle.elimination.specs.Pairs.{pairRows, Pairs}
+use Rattle.elimination.specs.Pivots.{Pivot, Dependent, Found, rankOf, reducedBy, coefficients, withPivot, withDependent, Turn, pair, other, turn, turns}
+use Rattle.elimination.specs.Factoring.{isIn, rest, schedule, nothing, rowsOf, rowOfTurn}
+use Rattle.elimination.proofs.Listed.{snoc-length, map-append, isIn-append, listed}
+use Rattle.elimination.proofs.Turns.{other-either}
+use Rattle.elimination.proofs.Completion.{completed-isIn, completed-length}
+
+-- ---- the rows found
+
+abbrev pub pivotRows : Found → List ℕ
+pivotRows f = map (λ q. q .row) (f .pivots)
+
+abbrev pub dependentRows : Found → List ℕ
+dependentRows f = map (λ d. d .row) (f .dependents)
+
+-- f′ has the rows of f, and row i
+record OneMore (f f′ : Found) (i : ℕ) : Type 0 where
+  long : length (rowsOf f′) ≡ suc (length (rowsOf f))
+  has : (x : ℕ) → isIn (rowsOf f′) x ≡ (isIn (rowsOf f) x || eqb i x)
+
+module _ (f : Found) (i : ℕ) where
+  front : (x : ℕ) → isIn ((pivotRows f ++ (i ∷ [])) ++ dependentRows f) x ≡ (isIn (pivotRows f ++ dependentRows f) x || eqb i x)
+  unfolding isIn
+  front x =
+      isIn-append (pivotRows f ++ (i ∷ [])) (dependentRows f) x
+      ∙ ap (λ (b : Bool). b || isIn (dependentRows f) x) (isIn-append (pivotRows f) (i ∷ []) x)
+      ∙ go (isIn (pivotRows f) x) (isIn (dependentRows f) x) (eqb i x)
+      ∙ ap (λ (b : Bool). b || eqb i x) (sym (isIn-append (pivotRows f) (dependentRows f) x))
+    where
+      go : (a b c : Bool) → ((a || (c || false)) || b) ≡ ((a || b) || c)
+      go true b c = refl
+      go false true true = refl
+      go false true false = refl
+      go false false true = refl
+      go false false false = refl
+
+  back : (x : ℕ) → isIn (pivotRows f ++ (dependentRows f ++ (i ∷ []))) x ≡ (isIn (pivotRows f ++ dependentRows f) x || eqb i x)
+  unfolding isIn
+  back x =
+      isIn-append (pivotRows f) (dependentRows f ++ (i ∷ [])) x
+      ∙ ap (λ (b : Bool). isIn (pivotRows f) x || b) (isIn-append (dependentRows f) (i ∷ []) x)
+      ∙ go (isIn (pivotRows f) x) (isIn (dependentRows f) x) (eqb i x)
+      ∙ ap (λ (b : Bool). b || eqb i x) (sym (isIn-append (pivotRows f) (dependentRows f) x))
+    where
+      go : (a b c : Bool) → (a || (b || (c || false))) ≡ ((a || b) || c)
+      go true b c = refl
+      go false true c = refl
+      go false false true = refl
+      go false false false = refl
+
+  pivot-row : (p m c : ℕ) (ls : List ℕ) (w : Vector) → OneMore f (withPivot p m f i c ls w) i
+  unfolding withPivot rowsOf
+  pivot-row p m c ls w =
+      record {
+        long = rw (map-append {A = Pivot} (λ q. q .row)) (omega (arith, length-append (pivotRows f ++ (i ∷ [])) (dependentRows f), snoc-length (pivotRows f) i, length-append (pivotRows f) (dependentRows f)));
+        has = λ x. rw (map-append {A = Pivot} (λ q. q .row)) (front x);
+      }
+
+  dependent-row : (ls : List ℕ) → OneMore f (withDependent f i ls) i
+  unfolding withDependent rowsOf
+  dependent-row ls =
+      record {
+        long = rw (map-append {A = Dependent} (λ d. d .row)) (omega (arith, length-append (pivotRows f) (dependentRows f ++ (i ∷ [])), snoc-length (dependentRows f) i, length-append (pivotRows f) (dependentRows f)));
+        has = λ x. rw (map-append {A = Dependent} (λ d. d .row)) (back x);
+      }
+
+module _ (p m : ℕ) (A : Matrix) where
+  turn-row : (f : Found) (t : Turn) → OneMore f (turn p m A f t) (rowOfTurn t)
+  unfolding turn
+  turn-row f (pair q) = pivot-row f (q .row) p m (q .column) (zeros (rankOf f)) (A (q .row))
+  turn-row f (other i) =
+      other-either p m A f i (λ f′. OneMore f f′ i) (dependent-row f i (coefficients p f (A i)))
+      (λ c. pivot-row f i p m c (coefficients p f (A i)) (reducedBy p f (rankOf f) (A i)))
+
+  pub turns-length : (f : Found) (ts : List Turn) → length (rowsOf (turns p m A f ts)) ≡ length (rowsOf f) + length ts
+  unfolding turns
+  turns-length f [] = omega arith
+  turns-length f (t ∷ ts) = omega (arith, turns-length (turn p m A f t) ts, turn-row f t .long)
+
+  pub turns-isIn : (f : Found) (ts : List Turn) (x : ℕ) → isIn (rowsOf (turns p m A f ts)) x ≡ (isIn (rowsOf f) x || isIn (map rowOfTurn ts) x)
+  unfolding turns isIn
+  turns-isIn f [] x = go (isIn (rowsOf f) x)
+    where
+      go : (b : Bool) → b ≡ (b || false)
+      go true = refl
+      go false = refl
+  turns-isIn f (t ∷ ts) x =
+      turns-isIn (turn p m A f t) ts x
+      ∙ ap (λ (b : Bool). b || isIn (map rowOfTurn ts) x) (turn-row f t .has x)
+      ∙ go (isIn (rowsOf f) x) (eqb (rowOfTurn t) x) (isIn (map rowOfTurn ts) x)
+    where
+      go : (a b c : Bool) → ((a || b) || c) ≡ (a || (b || c))
+      go true b c = refl
+      go false b c = refl
+
+pub schedule-rows : (n : ℕ) (ps : List Pair) → map rowOfTurn (schedule n ps) ≡ pairRows ps ++ rest (pairRows ps) n
+unfolding schedule
+schedule-rows n ps = map-append rowOfTurn (map pair ps) (map other (rest (pairRows ps) n)) ∙ ap₂ (λ (a b : List ℕ). a ++ b) (map-map rowOfTurn pair ps) (others (rest (pairRows ps) n))
+  where
+    others : (xs : List ℕ) → map rowOfTurn (map other xs) ≡ xs
+    others [] = refl
+    others (x ∷ xs) = ap (λ (l : List ℕ). x ∷ l) (others xs)
+
+-- ---- the whole schedule
+
+module _ (p n m : ℕ) (A : Matrix) (ps : List Pair) (pairs : Pairs n m A ps) where
+  abbrev end : Found
+  end = turns p m A nothing (schedule n ps)
+
+  whole : length (map rowOfTurn (schedule n ps)) ≡ n
+  whole =
+      ap length (schedule-rows n ps)
+      ∙ completed-length (pairRows ps) n (subst (λ (k : ℕ). Distinct k n (vector (pairRows ps))) (sym (length-map ps (λ q. q .row))) (pairs .rows))
+
+  pub rows-length : length (rowsOf end) ≡ n
+  unfolding rowsOf
+  rows-length = turns-length p m A nothing (schedule n ps) ∙ omega (arith, whole, length-map (schedule n ps) rowOfTurn)
+
+  pub rows-permutation : Permutation n (vector (rowsOf end))
+  unfolding rowsOf isIn
+  rows-permutation =
+      listed n (rowsOf end) rows-length
+      (λ x h. turns-isIn p m A nothing (schedule n ps) x ∙ ap (λ (l : List ℕ). isIn l x) (schedule-rows n ps) ∙ completed-isIn (pairRows ps) n x h)

@@ -1,0 +1,4 @@
+pub mod Structural
+pub mod Pivots
+pub mod Factoring
+pub mod Pairs

@@ -1,0 +1,23 @@
+-- What is lent to the pivot search and to the completion of an order.
+--   Searchable p n m A R C w    a stored matrix in its form, and orders and a working row that are all zero
+--   Completable k xs w          the first k numbers of the order xs are distinct and below its length, and the marks are all zero
+use Prim.Native.Nat.{ℕ, _+_, _≤_}
+use mathlib.Core.Path.{_≡_}
+use mathlib.Core.Bool.{true}
+use mathlib.Core.List.{List}
+use lib.ListN.{length}
+use Rattle.lists.specs.Filled.{zeros}
+use Rattle.algebra.specs.Matrix.{Distinct, vector}
+use Rattle.sparse.specs.Matrix.{Compressed, form}
+
+pub record Searchable (p n m : ℕ) (A : Compressed) (R C w : List ℕ) : Type 0 where
+  pub formed : form p m A ≡ true
+  pub rows : length (A .starts) ≡ n + 1
+  pub R-clear : R ≡ zeros n
+  pub C-clear : C ≡ zeros m
+  pub w-clear : w ≡ zeros m
+
+pub record Completable (k : ℕ) (xs w : List ℕ) : Type 0 where
+  pub inside : k ≤ length xs
+  pub distinct : Distinct k (length xs) (vector xs)
+  pub marks : w ≡ zeros (length xs)

@@ -1,0 +1,146 @@
+-- The product of a set, compared with the matrix row by row.
+use mathlib.Core.Path.{_≡_, refl, sym, ap, _∙_}
+use mathlib.Core.Bool.{Bool, true, false, not, _&&_}
+use mathlib.Core.List.{List}
+use Prim.Native.Nat.{ℕ, zero, suc, _+_, _-_, _*_, _%_, _≤_, _<_}
+use native.Mathlib.Omega.{arith}
+use native.Mathlib.Nat.{zero-mod, mul-le-mul-left}
+use lib.Dec.{eqb}
+use lib.ListN.{length, getD, set, length-set}
+use lib.Seq.{getD-set-same, getD-set-other, ext-getD}
+use native.Mathlib.Decide.{ℕ-discrete}
+use borrow.Author.Tests.{not-false, eqb-true, eqb-false, eq-eqb, ne-eqb}
+use Rattle.lists.specs.Filled.{zeros}
+use Rattle.lists.specs.Tests.{all}
+use Rattle.lists.proofs.Filled.{zeros-at, length-zeros}
+use Rattle.algebra.specs.Congruence.{_≈⟨_⟩_}
+use Rattle.algebra.specs.Matrix.{Vector, Matrix}
+use Rattle.algebra.specs.Sum.{dot}
+use Rattle.algebra.proofs.Congruence.{exact, turn, _⊙_, _⊕_, same-refl, minus}
+use Rattle.sparse.specs.Row.{Below}
+use Rattle.sparse.specs.WorkingRow.{Subtracted}
+use Rattle.pluq.specs.Judge.{agrees}
+
+-- ---- tests
+
+pub all-snoc : (n : ℕ) (t : ℕ → Bool) → all (n + 1) t ≡ (all n t && t n)
+unfolding all
+all-snoc zero t = and-true (t 0)
+  where
+    and-true : (b : Bool) → (b && true) ≡ b
+    and-true true = refl
+    and-true false = refl
+all-snoc (suc n) t =
+    ap (λ (k : ℕ). all k t) (let q : suc n + 1 ≡ suc (n + 1) = omega arith in q)
+    ∙ ap (λ (b : Bool). t 0 && b) (all-snoc n (λ i. t (suc i)))
+    ∙ assoc (t 0) (all n (λ i. t (suc i))) (t (suc n))
+  where
+    assoc : (a b c : Bool) → (a && (b && c)) ≡ ((a && b) && c)
+    assoc true b c = refl
+    assoc false b c = refl
+
+pub all-same : (n : ℕ) (t u : ℕ → Bool) → ((i : ℕ) → i < n → t i ≡ u i) → all n t ≡ all n u
+unfolding all
+all-same zero t u h = refl
+all-same (suc n) t u h = λ j. h 0 (omega arith) j && all-same n (λ i. t (suc i)) (λ i. u (suc i)) (λ i g. h (suc i) (omega arith)) j
+
+pub eqb-same : (a b c d : ℕ) → (a ≡ b → c ≡ d) → (c ≡ d → a ≡ b) → eqb a b ≡ eqb c d
+eqb-same a b c d h g = go (eqb a b) refl
+  where
+    go : (t : Bool) → eqb a b ≡ t → t ≡ eqb c d
+    go true e = sym (eq-eqb c d (h (eqb-true a b e)))
+    go false e = sym (ne-eqb c d (λ q. eqb-false a b e (g q)))
+
+-- ---- the test of a row
+
+-- from a row of zeros, the product taken away and A's row added: all cells stand for 0 exactly if they agree
+pub row-agrees : (p m r : ℕ) (A : Matrix) (R : Vector) (L U : Matrix) (i : ℕ) (w₀ w : List ℕ) → 1 ≤ p → length w₀ ≡ m → w₀ ≡ zeros (length w₀)
+    → Subtracted p (λ j. (p - 1) * A (R i) j + dot r (L i) (λ k. U k j)) w₀ w
+    → all m (λ j. eqb (getD w j 0 % p) 0) ≡ agrees p m r A R L U i
+unfolding agrees
+row-agrees p m r A R L U i w₀ w pos long none d =
+    all-same m (λ j. eqb (getD w j 0 % p) 0) (λ j. eqb (A (R i) j % p) (dot r (L i) (λ k. U k j) % p))
+    (λ j h. eqb-same (getD w j 0 % p) 0 (A (R i) j % p) (dot r (L i) (λ k. U k j) % p) (there j h) (back j h))
+  where
+    whole : (j : ℕ) → j < m → getD w j 0 + ((p - 1) * A (R i) j + dot r (L i) (λ k. U k j)) ≈⟨ p ⟩ 0
+    whole j h = d .cells j (omega arith) ⊙ exact (ap (λ (l : List ℕ). getD l j 0) none ∙ zeros-at (length w₀) j)
+
+    there : (j : ℕ) → j < m → getD w j 0 % p ≡ 0 → A (R i) j % p ≡ dot r (L i) (λ k. U k j) % p
+    there j h e =
+        let a = A (R i) j in
+        let s = dot r (L i) (λ k. U k j) in
+        let z : getD w j 0 ≈⟨ p ⟩ 0 = record { same = e ∙ sym (zero-mod p) } in
+        let q : (p - 1) * a + s ≈⟨ p ⟩ 0 = exact (omega arith) ⊙ turn z ⊕ same-refl ((p - 1) * a + s) ⊙ whole j h in
+        let f : a ≈⟨ p ⟩ s = exact (omega arith) ⊙ turn q ⊕ same-refl a ⊙ exact (omega arith) ⊙ minus s a pos in
+        f .same
+
+    back : (j : ℕ) → j < m → A (R i) j % p ≡ dot r (L i) (λ k. U k j) % p → getD w j 0 % p ≡ 0
+    back j h e =
+        let a = A (R i) j in
+        let s = dot r (L i) (λ k. U k j) in
+        let f : a ≈⟨ p ⟩ s = record { same = e } in
+        let q : (p - 1) * a + s ≈⟨ p ⟩ 0 = same-refl ((p - 1) * a) ⊕ turn f ⊙ exact (omega arith) ⊙ minus 0 a pos in
+        let z : getD w j 0 ≈⟨ p ⟩ 0 = exact (omega arith) ⊙ same-refl (getD w j 0) ⊕ turn q ⊙ whole j h in
+        z .same ∙ zero-mod p
+
+-- ---- the test and the clearing of the working row
+
+pub record Clearing (p : ℕ) (w₀ w : List ℕ) (zero : Bool) (j : ℕ) : Type 0 where
+  pub inside : j ≤ length w₀
+  pub long : length w ≡ length w₀
+  pub emptied : (k : ℕ) → k < j → getD w k 0 ≡ 0
+  pub kept : (k : ℕ) → j ≤ k → getD w k 0 ≡ getD w₀ k 0
+  pub so-far : zero ≡ all j (λ k. eqb (getD w₀ k 0 % p) 0)
+
+pub clearing-starts : (p : ℕ) (w : List ℕ) → Clearing p w w true 0
+unfolding all
+clearing-starts p w = record { inside = omega arith; long = refl; emptied = λ k h. absurd (omega arith); kept = λ k h. refl; so-far = refl }
+
+pub clearing-turn : (p : ℕ) (w₀ w : List ℕ) (z z′ : Bool) (j : ℕ) → j < length w → z′ ≡ (z && eqb (getD w j 0 % p) 0) → Clearing p w₀ w z j → Clearing p w₀ (set w j 0) z′ (j + 1)
+clearing-turn p w₀ w z z′ j h e d =
+    record {
+      inside = omega (arith, d .long);
+      long = length-set w j 0 ∙ d .long;
+      emptied = λ k g. gone k g (ℕ-discrete k j);
+      kept = λ k g. getD-set-other w j k 0 0 (λ q. omega arith) ∙ d .kept k (omega arith);
+      so-far = e ∙ (λ i. d .so-far i && eqb (d .kept j (omega arith) i % p) 0) ∙ sym (all-snoc j (λ k. eqb (getD w₀ k 0 % p) 0));
+    }
+  where
+    gone : (k : ℕ) → k < j + 1 → Dec (k ≡ j) → getD (set w j 0) k 0 ≡ 0
+    gone k g (yes q) = ap (λ (i : ℕ). getD (set w j 0) i 0) q ∙ getD-set-same w j 0 0 h
+    gone k g (no q) = getD-set-other w j k 0 0 q ∙ d .emptied k (omega arith)
+
+pub clearing-ends : (p : ℕ) (w₀ w : List ℕ) (z : Bool) (j : ℕ) → length w ≤ j → Clearing p w₀ w z j
+    → (z ≡ all (length w₀) (λ k. eqb (getD w₀ k 0 % p) 0)) × (w ≡ zeros (length w₀))
+clearing-ends p w₀ w z j h d =
+    let q : j ≡ length w₀ = omega (arith, d .long, d .inside) in (
+      d .so-far ∙ ap (λ (n : ℕ). all n (λ k. eqb (getD w₀ k 0 % p) 0)) q,
+      ext-getD 0 w (zeros (length w₀)) (d .long ∙ sym (length-zeros (length w₀))) (λ k g. d .emptied k (omega arith) ∙ sym (zeros-at (length w₀) k)),
+    )
+
+-- a loop that stops at the first that fails, and leaves w as it was
+pub record Scanning (n : ℕ) (t : ℕ → Bool) (w₀ w : List ℕ) (i : ℕ) : Type 0 where
+  pub inside : i ≤ n
+  pub same : w ≡ w₀
+  pub passed : (k : ℕ) → k < i → t k ≡ true
+
+pub scanning-starts : (n : ℕ) (t : ℕ → Bool) (w : List ℕ) → Scanning n t w w 0
+scanning-starts n t w = record { inside = omega arith; same = refl; passed = λ k h. absurd (omega arith) }
+
+pub scanning-turn : (n : ℕ) (t : ℕ → Bool) (w₀ w w′ : List ℕ) (i : ℕ) (b : Bool) → i < n → b ≡ t i → not b ≡ false → w′ ≡ w → Scanning n t w₀ w i → Scanning n t w₀ w′ (i + 1)
+scanning-turn n t w₀ w w′ i b h e q l s =
+    record { inside = omega arith; same = l ∙ s .same; passed = λ k g. go k g (ℕ-discrete k i) }
+  where
+    go : (k : ℕ) → k < i + 1 → Dec (k ≡ i) → t k ≡ true
+    go k g (yes r) = ap t r ∙ sym e ∙ not-false b q
+    go k g (no r) = s .passed k (omega arith)
+
+-- zeros are cells
+pub zero-below : (p : ℕ) (w : List ℕ) → 0 < p → w ≡ zeros (length w) → Below (p * p) w
+zero-below p w h z i g = omega (arith, ap (λ (l : List ℕ). getD l i 0) z ∙ zeros-at (length w) i, mul-le-mul-left {m = 1} {n = p} p h)
+
+pub cleared-agrees : (p r : ℕ) (A : Matrix) (R : Vector) (L U : Matrix) (i : ℕ) (w₀ w : List ℕ) → 1 ≤ p → w₀ ≡ zeros (length w₀)
+    → Subtracted p (λ j. (p - 1) * A (R i) j + dot r (L i) (λ k. U k j)) w₀ w
+    → all (length w) (λ j. eqb (getD w j 0 % p) 0) ≡ agrees p (length w₀) r A R L U i
+cleared-agrees p r A R L U i w₀ w pos none d =
+    ap (λ (n : ℕ). all n (λ j. eqb (getD w j 0 % p) 0)) (d .long) ∙ row-agrees p (length w₀) r A R L U i w₀ w pos refl none d

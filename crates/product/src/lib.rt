@@ -1,0 +1,239 @@
+// The product of a set compared with the matrix (refusal 14), row by row in the working row.
+ghost use mathlib.Core.Path.{_≡_};
+ghost use mathlib.Core.Bool.{_&&_};
+ghost use Prim.Native.Nat.{_%_, _<_};
+ghost use lib.Dec.{eqb};
+ghost use lib.ListN.{length, getD};
+ghost use Rattle.lists.specs.Filled.{zeros};
+ghost use Rattle.lists.specs.Tests.{all, first};
+ghost use Rattle.algebra.specs.Sum.{dot};
+ghost use Rattle.algebra.specs.Matrix.{vector};
+ghost use Rattle.sparse.specs.Words.{view};
+ghost use Rattle.sparse.specs.Row.{weigh};
+ghost use Rattle.sparse.specs.Matrix.{viewed, matrix};
+ghost use Rattle.sparse.specs.WorkingRow.{Subtracted};
+ghost use Rattle.pluq.specs.Judge.{agrees};
+ghost use Rattle.product.specs.Needs.{CombinesRows, CombinesRow, Comparable};
+use lists::index;
+use residue::Modulus;
+use sparse::kernel::subtract_row;
+use sparse::words::bytes_part;
+use sparse::words::count;
+use sparse::words::list_part;
+use sparse::words::word;
+
+// Whether all cells so far stood for 0, and this one does.
+fn still_zero(q: Modulus, zero: bool, x: u64) -> bool
+    requires { ⌜ 0 < q .p ⌝ }
+    ensures { λ r. ⌜ r ≡ (zero && eqb (x % q .p) 0) ⌝ }
+{
+    if !zero {
+        return false;
+    }
+    q.reduce(x) == 0
+}
+
+// Whether every cell stands for 0; all cells are set to 0.
+fn zero_and_clear(q: Modulus, work: &mut [u64]) -> bool
+    requires { ⌜ 0 < q .p ⌝ }
+    ensures { λ r. ⌜ (r ≡ all (length (now (work .entry))) (λ j. eqb (getD (now (work .entry)) j 0 % q .p) 0)) × (now (work .exit) ≡ zeros (length (now (work .entry)))) ⌝ }
+{
+    let mut zero = true;
+    let mut j = 0;
+    while j < work.len() {
+        zero = still_zero(q, zero, work[j]);
+        work[j] = 0;
+        j += 1;
+    }
+    zero
+}
+
+// Takes the rows of U away, each as often as the sparse row says.
+fn subtract_rows(
+    q: Modulus,
+    ks: &[u32],
+    kb: &[u8],
+    vs: &[u32],
+    vb: &[u8],
+    us: &[u32],
+    usb: &[u8],
+    uc: &[u32],
+    ucb: &[u8],
+    uv: &[u32],
+    uvb: &[u8],
+    r: usize,
+    work: &mut [u64],
+)
+    requires { ⌜ CombinesRows (q .p) r (view (now ks) (now kb)) (view (now vs) (now vb)) (viewed (now us) (now usb) (now uc) (now ucb) (now uv) (now uvb)) (now work) ⌝ }
+    ensures { λ _. ⌜ Subtracted (q .p) (λ j. weigh (view (now (ks .entry)) (now (kb .entry))) (view (now (vs .entry)) (now (vb .entry))) (λ k. matrix (viewed (now (us .entry)) (now (usb .entry)) (now (uc .entry)) (now (ucb .entry)) (now (uv .entry)) (now (uvb .entry))) k j)) (now (work .entry)) (now (work .exit)) ⌝ }
+{
+    let n = count(ks, kb);
+    let mut t = 0;
+    while t < n {
+        let k = index(word(ks, kb, t));
+        let v = word(vs, vb, t);
+        subtract_row(q, us, usb, uc, ucb, uv, uvb, k, v, work);
+        t += 1;
+    }
+}
+
+// Takes row i of the product of L and U away.
+fn subtract_product(
+    q: Modulus,
+    ls: &[u32],
+    lsb: &[u8],
+    lc: &[u32],
+    lcb: &[u8],
+    lv: &[u32],
+    lvb: &[u8],
+    us: &[u32],
+    usb: &[u8],
+    uc: &[u32],
+    ucb: &[u8],
+    uv: &[u32],
+    uvb: &[u8],
+    r: usize,
+    i: usize,
+    work: &mut [u64],
+)
+    requires { ⌜ CombinesRow (q .p) r i (viewed (now ls) (now lsb) (now lc) (now lcb) (now lv) (now lvb)) (viewed (now us) (now usb) (now uc) (now ucb) (now uv) (now uvb)) (now work) ⌝ }
+    ensures { λ _. ⌜ Subtracted (q .p) (λ j. dot r (matrix (viewed (now (ls .entry)) (now (lsb .entry)) (now (lc .entry)) (now (lcb .entry)) (now (lv .entry)) (now (lvb .entry))) i) (λ k. matrix (viewed (now (us .entry)) (now (usb .entry)) (now (uc .entry)) (now (ucb .entry)) (now (uv .entry)) (now (uvb .entry))) k j)) (now (work .entry)) (now (work .exit)) ⌝ }
+{
+    let a = index(word(ls, lsb, i));
+    let e = index(word(ls, lsb, i + 1));
+    subtract_rows(
+        q,
+        list_part(lc, a, e),
+        bytes_part(lc.len(), lcb, a, e),
+        list_part(lv, a, e),
+        bytes_part(lv.len(), lvb, a, e),
+        us,
+        usb,
+        uc,
+        ucb,
+        uv,
+        uvb,
+        r,
+        work,
+    );
+}
+
+// Whether row R[i] of A is row i of the product, at all columns.
+fn row_agrees(
+    q: Modulus,
+    ss: &[u32],
+    sb: &[u8],
+    cols: &[u32],
+    cb: &[u8],
+    vals: &[u32],
+    vb: &[u8],
+    ro: &[u32],
+    rob: &[u8],
+    ls: &[u32],
+    lsb: &[u8],
+    lc: &[u32],
+    lcb: &[u8],
+    lv: &[u32],
+    lvb: &[u8],
+    us: &[u32],
+    usb: &[u8],
+    uc: &[u32],
+    ucb: &[u8],
+    uv: &[u32],
+    uvb: &[u8],
+    r: usize,
+    n: usize,
+    i: usize,
+    work: &mut [u64],
+) -> bool
+    requires { ⌜ (i < n) × Comparable (q .p) n r (viewed (now ss) (now sb) (now cols) (now cb) (now vals) (now vb)) (view (now ro) (now rob)) (viewed (now ls) (now lsb) (now lc) (now lcb) (now lv) (now lvb)) (viewed (now us) (now usb) (now uc) (now ucb) (now uv) (now uvb)) (now work) ⌝ }
+    ensures { λ z. ⌜ (z ≡ agrees (q .p) (length (now (work .entry))) r (matrix (viewed (now (ss .entry)) (now (sb .entry)) (now (cols .entry)) (now (cb .entry)) (now (vals .entry)) (now (vb .entry)))) (vector (view (now (ro .entry)) (now (rob .entry)))) (matrix (viewed (now (ls .entry)) (now (lsb .entry)) (now (lc .entry)) (now (lcb .entry)) (now (lv .entry)) (now (lvb .entry)))) (matrix (viewed (now (us .entry)) (now (usb .entry)) (now (uc .entry)) (now (ucb .entry)) (now (uv .entry)) (now (uvb .entry)))) i) × (now (work .exit) ≡ now (work .entry)) ⌝ }
+{
+    subtract_product(
+        q,
+        ls,
+        lsb,
+        lc,
+        lcb,
+        lv,
+        lvb,
+        us,
+        usb,
+        uc,
+        ucb,
+        uv,
+        uvb,
+        r,
+        i,
+        work,
+    );
+    let k = index(word(ro, rob, i));
+    subtract_row(q, ss, sb, cols, cb, vals, vb, k, q.p - 1, work);
+    zero_and_clear(q, work)
+}
+
+// The first position whose row differs from the product's, or n.
+pub fn first_differing(
+    q: Modulus,
+    ss: &[u32],
+    sb: &[u8],
+    cols: &[u32],
+    cb: &[u8],
+    vals: &[u32],
+    vb: &[u8],
+    ro: &[u32],
+    rob: &[u8],
+    ls: &[u32],
+    lsb: &[u8],
+    lc: &[u32],
+    lcb: &[u8],
+    lv: &[u32],
+    lvb: &[u8],
+    us: &[u32],
+    usb: &[u8],
+    uc: &[u32],
+    ucb: &[u8],
+    uv: &[u32],
+    uvb: &[u8],
+    r: usize,
+    n: usize,
+    work: &mut [u64],
+) -> usize
+    requires { ⌜ Comparable (q .p) n r (viewed (now ss) (now sb) (now cols) (now cb) (now vals) (now vb)) (view (now ro) (now rob)) (viewed (now ls) (now lsb) (now lc) (now lcb) (now lv) (now lvb)) (viewed (now us) (now usb) (now uc) (now ucb) (now uv) (now uvb)) (now work) ⌝ }
+    ensures { λ z. ⌜ (z ≡ first n (agrees (q .p) (length (now (work .entry))) r (matrix (viewed (now (ss .entry)) (now (sb .entry)) (now (cols .entry)) (now (cb .entry)) (now (vals .entry)) (now (vb .entry)))) (vector (view (now (ro .entry)) (now (rob .entry)))) (matrix (viewed (now (ls .entry)) (now (lsb .entry)) (now (lc .entry)) (now (lcb .entry)) (now (lv .entry)) (now (lvb .entry)))) (matrix (viewed (now (us .entry)) (now (usb .entry)) (now (uc .entry)) (now (ucb .entry)) (now (uv .entry)) (now (uvb .entry)))))) × (now (work .exit) ≡ now (work .entry)) ⌝ }
+{
+    let mut i = 0;
+    while i < n {
+        if !row_agrees(
+            q,
+            ss,
+            sb,
+            cols,
+            cb,
+            vals,
+            vb,
+            ro,
+            rob,
+            ls,
+            lsb,
+            lc,
+            lcb,
+            lv,
+            lvb,
+            us,
+            usb,
+            uc,
+            ucb,
+            uv,
+            uvb,
+            r,
+            n,
+            i,
+            work,
+        ) {
+            return i;
+        }
+        i += 1;
+    }
+    n
+}

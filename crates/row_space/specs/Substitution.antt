@@ -1,0 +1,33 @@
+-- The two substitutions that give x and z from L and U.
+--   put z c v             z with v at place c
+--   less p d v row        d less v times a row, modulo p
+--   quotient p L k d      the value that row k of L gets: d[k] divided by L[k][k]
+--   backL p L k d         v with v L = d on the first k positions, from row k - 1 of L down
+--   missing p m row z     what row z lacks to be 0 modulo p
+--   backU p m C U k z     z with its pivot cells filled so that U z = 0 on the first k rows, from row k - 1 of U down
+use Prim.Native.Nat.{ℕ, zero, suc, _+_, _-_, _*_, _%_}
+use mathlib.Core.Bool.{cond}
+use lib.Dec.{eqb}
+use Rattle.algebra.specs.Sum.{dot}
+use Rattle.algebra.specs.Matrix.{Vector, Matrix}
+use Rattle.residue.specs.Inverse.{invMod}
+
+abbrev pub put : Vector → ℕ → ℕ → Vector
+put z c v = λ t. cond (eqb t c) v (z t)
+
+abbrev pub less : ℕ → Vector → ℕ → Vector → Vector
+less p d v row = λ l. (d l + (p - v) * row l) % p
+
+abbrev pub quotient : ℕ → Matrix → ℕ → Vector → ℕ
+quotient p L k d = (d k * invMod p (L k k)) % p
+
+unfoldable pub backL : ℕ → Matrix → ℕ → Vector → Vector
+backL p L zero d = λ i. 0
+backL p L (suc k) d = put (backL p L k (less p d (quotient p L k d) (L k))) k (quotient p L k d)
+
+abbrev pub missing : ℕ → ℕ → Vector → Vector → ℕ
+missing p m row z = (p - dot m row z % p) % p
+
+unfoldable pub backU : ℕ → ℕ → Vector → Matrix → ℕ → Vector → Vector
+backU p m C U zero z = z
+backU p m C U (suc k) z = backU p m C U k (put z (C k) (missing p m (U k) z))

@@ -1,0 +1,10 @@
+pub mod WordLaws
+pub mod Parts
+pub mod Forms
+pub mod Entries
+pub mod Rows
+pub mod Subtraction
+pub mod Nonzeros
+pub mod DenseSteps
+pub mod DenseLaws
+pub mod DenseForm

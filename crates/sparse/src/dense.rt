@@ -1,0 +1,152 @@
+// Rows on their way between storage and the working row, whose cells stand for their residues modulo p. Most cells of a
+// working row are 0, so a cell is divided only where it is not.
+ghost use mathlib.Core.Path.{_≡_};
+ghost use mathlib.Core.List.{[], _∷_};
+ghost use Prim.Native.Nat.{_+_, _*_, _%_, _<_};
+ghost use lib.Dec.{eqb};
+ghost use lib.ListN.{length, getD};
+ghost use Rattle.lists.specs.Tabulate.{tabulate};
+ghost use Rattle.lists.specs.Tests.{first};
+ghost use Rattle.algebra.specs.Matrix.{vector};
+ghost use Rattle.residue.specs.Arithmetic.{Residue, Residues};
+ghost use Rattle.sparse.specs.Words.{view};
+ghost use Rattle.sparse.specs.Row.{entry, weigh};
+ghost use Rattle.sparse.specs.WorkingRow.{Cell};
+ghost use Rattle.sparse.specs.Dense.{nonzeros, scaled};
+ghost use Rattle.sparse.specs.Storing.{LoadReady, DotReady, Room, Stored, StoreReady, RowStored};
+use crate::words::count;
+use crate::words::word;
+use lists::index;
+use residue::Modulus;
+
+// Puts a sparse row into a working row that is all zero. The modulus bounds the cells and is not computed with.
+pub fn load(cols: &[u32], cb: &[u8], vals: &[u32], vb: &[u8], p: u32, work: &mut [u64])
+    requires { ⌜ LoadReady p (view (now cols) (now cb)) (view (now vals) (now vb)) (now work) ⌝ }
+    ensures { λ _. ⌜ now (work .exit) ≡ tabulate (length (now (work .entry))) (entry (view (now (cols .entry)) (now (cb .entry))) (view (now (vals .entry)) (now (vb .entry)))) ⌝ }
+{
+    let n = count(cols, cb);
+    let mut t = 0;
+    while t < n {
+        let j = index(word(cols, cb, t));
+        let v = word(vals, vb, t);
+        work[j] = work[j] + v as u64;
+        t += 1;
+    }
+}
+
+// s + v x modulo p, below p p as s is: no division.
+fn add_product(q: Modulus, s: u64, v: u32, x: u32) -> u64
+    requires { ⌜ (s < q .p * q .p) × Residues (q .p) v x ⌝ }
+    ensures { λ r. ⌜ Cell (q .p) 0 (s + v * x) r ⌝ }
+{
+    let square = q.p as u64 * q.p as u64;
+    let product = v as u64 * x as u64;
+    let rest = square - product;
+    if s < rest { s + product } else { s - rest }
+}
+
+// The product of a sparse row and a vector of residues.
+pub fn dot(q: Modulus, cols: &[u32], cb: &[u8], vals: &[u32], vb: &[u8], z: &[u32]) -> u32
+    requires { ⌜ DotReady (q .p) (view (now cols) (now cb)) (view (now vals) (now vb)) (now z) ⌝ }
+    ensures { λ r. ⌜ Residue (q .p) (weigh (view (now (cols .entry)) (now (cb .entry))) (view (now (vals .entry)) (now (vb .entry))) (vector (now (z .entry))) % q .p) r ⌝ }
+{
+    let n = count(cols, cb);
+    let mut s: u64 = 0;
+    let mut t = 0;
+    while t < n {
+        let j = index(word(cols, cb, t));
+        let v = word(vals, vb, t);
+        s = add_product(q, s, v, z[j]);
+        t += 1;
+    }
+    q.reduce(s)
+}
+
+// Whether a cell stands for 0.
+fn is_zero(q: Modulus, x: u64) -> bool
+    requires { ⌜ 0 < q .p ⌝ }
+    ensures { λ r. ⌜ r ≡ eqb (x % q .p) 0 ⌝ }
+{
+    if x == 0 {
+        return true;
+    }
+    q.reduce(x) == 0
+}
+
+// How many cells stand for another residue than 0.
+pub fn count_nonzero(q: Modulus, work: &[u64]) -> usize
+    requires { ⌜ 0 < q .p ⌝ }
+    ensures { λ r. ⌜ r ≡ length (nonzeros (scaled (q .p) 1 (now (work .entry)))) ⌝ }
+{
+    let mut k = 0;
+    let mut j = 0;
+    while j < work.len() {
+        if !is_zero(q, work[j]) {
+            k += 1;
+        }
+        j += 1;
+    }
+    k
+}
+
+// The first cell that stands for another residue than 0, or the length.
+pub fn first_nonzero(q: Modulus, work: &[u64]) -> usize
+    requires { ⌜ 0 < q .p ⌝ }
+    ensures { λ r. ⌜ r ≡ first (length (now (work .entry))) (λ j. eqb (getD (now (work .entry)) j 0 % q .p) 0) ⌝ }
+{
+    let mut j = 0;
+    while j < work.len() {
+        if !is_zero(q, work[j]) {
+            return j;
+        }
+        j += 1;
+    }
+    j
+}
+
+// c times the residue that a cell stands for.
+fn scale(q: Modulus, c: u32, x: u64) -> u32
+    requires { ⌜ c < q .p ⌝ }
+    ensures { λ r. ⌜ Residue (q .p) (c * (x % q .p) % q .p) r ⌝ }
+{
+    if x == 0 {
+        return 0;
+    }
+    q.multiply(c, q.reduce(x))
+}
+
+// Stores the value v at column j in place `at`, unless it is 0; gives the next place.
+pub fn put(v: u32, j: u32, at: usize, cols: &mut [u32], vals: &mut [u32]) -> usize
+    requires { ⌜ Room at (v ∷ []) (now cols) (now vals) ⌝ }
+    ensures { λ next. ⌜ Stored j at (v ∷ []) (now (cols .entry)) (now (vals .entry)) (now (cols .exit)) (now (vals .exit)) next ⌝ }
+{
+    if v == 0 {
+        return at;
+    }
+    cols[at] = j;
+    vals[at] = v;
+    at + 1
+}
+
+// Stores the working row times c from place `start` on, and clears it; gives the next place.
+pub fn store(
+    q: Modulus,
+    c: u32,
+    start: usize,
+    work: &mut [u64],
+    cols: &mut [u32],
+    vals: &mut [u32],
+) -> usize
+    requires { ⌜ StoreReady (q .p) c start (now work) (now cols) (now vals) ⌝ }
+    ensures { λ next. ⌜ RowStored (q .p) c start (now (work .entry)) (now (cols .entry)) (now (vals .entry)) (now (work .exit)) (now (cols .exit)) (now (vals .exit)) next ⌝ }
+{
+    let mut at = start;
+    let mut j = 0;
+    while j < work.len() {
+        let v = scale(q, c, work[j]);
+        at = put(v, j as u32, at, cols, vals);
+        work[j] = 0;
+        j += 1;
+    }
+    at
+}

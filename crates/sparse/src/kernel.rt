@@ -1,0 +1,83 @@
+// Multiples of stored rows taken away from the working row, with no division in the loop.
+ghost use mathlib.Core.Path.{_≡_};
+ghost use Prim.Native.Nat.{_*_, _<_};
+ghost use Rattle.residue.specs.Arithmetic.{Residues};
+ghost use Rattle.sparse.specs.Words.{view};
+ghost use Rattle.sparse.specs.Row.{entry};
+ghost use Rattle.sparse.specs.Matrix.{viewed, matrix};
+ghost use Rattle.sparse.specs.WorkingRow.{Cell, Subtracted, RowReady, MatrixReady};
+use crate::words::bytes_part;
+use crate::words::count;
+use crate::words::list_part;
+use crate::words::word;
+use lists::index;
+use residue::Modulus;
+
+// a b, not reduced.
+fn product(a: u32, b: u32) -> u64
+    ensures { λ r. ⌜ r ≡ a * b ⌝ }
+{
+    a as u64 * b as u64
+}
+
+// The cell x less c v: below p * p, so that it is never reduced here.
+fn minus(q: Modulus, x: u64, c: u32, v: u32) -> u64
+    requires { ⌜ (x < q .p * q .p) × Residues (q .p) c v ⌝ }
+    ensures { λ r. ⌜ Cell (q .p) (c * v) x r ⌝ }
+{
+    let square = product(q.p, q.p);
+    let u = product(c, v);
+    if u <= x { x - u } else { x + (square - u) }
+}
+
+// work - c row, where the row is given by its columns and values.
+pub fn subtract(
+    q: Modulus,
+    cols: &[u32],
+    cb: &[u8],
+    vals: &[u32],
+    vb: &[u8],
+    c: u32,
+    work: &mut [u64],
+)
+    requires { ⌜ RowReady (q .p) c (view (now cols) (now cb)) (view (now vals) (now vb)) (now work) ⌝ }
+    ensures { λ _. ⌜ Subtracted (q .p) (λ j. c * entry (view (now (cols .entry)) (now (cb .entry))) (view (now (vals .entry)) (now (vb .entry))) j) (now (work .entry)) (now (work .exit)) ⌝ }
+{
+    let n = count(cols, cb);
+    let mut t = 0;
+    while t < n {
+        let j = index(word(cols, cb, t));
+        let v = word(vals, vb, t);
+        work[j] = minus(q, work[j], c, v);
+        t += 1;
+    }
+}
+
+// work - c M[k], where M is a stored matrix: the row is handed on as middle parts of its lists.
+pub fn subtract_row(
+    q: Modulus,
+    ss: &[u32],
+    sb: &[u8],
+    cols: &[u32],
+    cb: &[u8],
+    vals: &[u32],
+    vb: &[u8],
+    k: usize,
+    c: u32,
+    work: &mut [u64],
+)
+    requires { ⌜ MatrixReady (q .p) k c (viewed (now ss) (now sb) (now cols) (now cb) (now vals) (now vb)) (now work) ⌝ }
+    ensures { λ _. ⌜ Subtracted (q .p) (λ j. c * matrix (viewed (now (ss .entry)) (now (sb .entry)) (now (cols .entry)) (now (cb .entry)) (now (vals .entry)) (now (vb .entry))) k j) (now (work .entry)) (now (work .exit)) ⌝ }
+{
+    let a = index(word(ss, sb, k));
+    let e = index(word(ss, sb, k + 1));
+    subtract(
+        q,
+        list_part(cols, a, e),
+        bytes_part(cols.len(), cb, a, e),
+        list_part(vals, a, e),
+        bytes_part(vals.len(), vb, a, e),
+        c,
+        work,
+    );
+}

@@ -1,0 +1,77 @@
+"""One comparison each: what is handed to a program, and what the model expects.
+
+    Case         a call of a program with its input
+    expected     the result by the model
+    keep, load   a case as a file that can be replayed
+"""
+
+import hashlib
+import json
+from pathlib import Path
+from typing import NamedTuple
+
+from model.ask import ask
+from model.calls import check_certificate, make_certificate
+from model.report import report
+
+KEPT = Path(__file__).parent / "kept"
+
+
+class Case(NamedTuple):
+    """`call` is report, ask, make or check; the other fields as it needs them."""
+
+    call: str
+    text: bytes
+    question: tuple = ()
+    certificate: bytes = b""
+    buffer_length: int = 0
+    origin: str = "by hand"
+
+
+def expected(case):
+    """What is printed; for a C call the number returned and the certificate
+    bytes as the call leaves them."""
+    if case.call == "report":
+        return report(case.text)
+    if case.call == "ask":
+        return ask(case.text, case.question)
+    if case.call == "make":
+        return make_certificate(case.text, case.buffer_length)
+    return check_certificate(case.text, case.certificate), case.certificate
+
+
+def keep(case, folder=KEPT):
+    """Write the case to a file named after its content."""
+    content = json.dumps(
+        {
+            "call": case.call,
+            "text": case.text.decode("latin-1"),
+            "question": list(case.question),
+            "certificate": case.certificate.hex(),
+            "buffer_length": case.buffer_length,
+            "origin": case.origin,
+        },
+        indent=1,
+    )
+    folder.mkdir(exist_ok=True)
+    path = folder / f"{case.call}-{hashlib.sha256(content.encode()).hexdigest()[:12]}.json"
+    path.write_text(content + "\n")
+    return path
+
+
+def load(path):
+    """The case in a file."""
+    content = json.loads(Path(path).read_text())
+    return Case(
+        content["call"],
+        content["text"].encode("latin-1"),
+        tuple(content["question"]),
+        bytes.fromhex(content["certificate"]),
+        content["buffer_length"],
+        content["origin"],
+    )
+
+
+def kept_cases():
+    """Every case kept so far."""
+    return [load(path) for path in sorted(KEPT.glob("*.json"))]

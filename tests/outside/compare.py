@@ -1,0 +1,162 @@
+"""Programs beside the model on worked, kept and random cases.
+
+    plan_cases       all cases of one random plan
+    tiny_cases       every question on one tiny plan
+    fixed_cases      worked cases, limits, sweeps and damages of plan D
+    differences      the cases on which a program and the model differ
+"""
+
+from itertools import islice, product
+from random import Random
+from typing import Any, NamedTuple
+
+from cases import Case, expected
+from generate.certificates import (
+    broken_certificates,
+    bytes_changed,
+    foreign_certificates,
+    resized,
+    words_replaced,
+)
+from generate.edges import edge_texts, lower_edge, upper_edge
+from generate.plans import build, dense, random_plan, tiny_plan
+from generate.texts import damaged_text, plain_text, random_question, varied_text
+from model.certificate import write
+from model.factors import factor
+from model.limits import GREATEST_ENTRIES
+from model.plan_text import read_plan
+from model.refusals import Refusal
+from sweeps import buffer_cases
+from worked import EDITED, PLAN_D, QUESTIONS, REFUSALS, REPORTS
+
+SMALL = 1_500  # cells of a plan up to which its sets are varied at length
+SAMPLE = 24  # bytes or numbers changed in one certificate
+
+
+class Difference(NamedTuple):
+    case: Case
+    wanted: Any
+    found: Any
+
+
+def differences(cases, programs):
+    """Each program on the cases that it answers, in the order given."""
+    for program in programs:
+        answered = [case for case in cases if case.call in program.calls]
+        for case, found in zip(answered, program.results(answered)):
+            wanted = expected(case)
+            if found != wanted:
+                yield Difference(case, wanted, found)
+
+
+def _printed_cases(rng, plan, text, origin):
+    """The text and damaged copies of it through both programs."""
+    yield Case("report", text, origin=origin)
+    yield Case("ask", text, question=random_question(rng, plan), origin=origin)
+    for _ in range(2):
+        damaged = damaged_text(rng, text)
+        yield Case("report", damaged, origin=origin)
+        yield Case("make", damaged, buffer_length=rng.choice((0, 64, 4_096)), origin=origin)
+        yield Case("check", damaged, certificate=rng.randbytes(40), origin=origin)
+    if rng.random() < 0.25:
+        yield Case("ask", damaged, question=random_question(rng, plan), origin=origin)
+
+
+def _certificates(rng, plan, factors):
+    """Certificates to be checked for a plan; fewer for a large one."""
+    own = write(plan, factors)
+    yield from resized(rng, own)
+    yield from bytes_changed(rng, own, SAMPLE)
+    if plan.n * plan.m > SMALL:
+        yield own
+        return
+    yield from foreign_certificates(rng, plan, factors, 2)
+    yield from broken_certificates(rng, plan, factors, 6)
+    yield from words_replaced(rng, plan, own, SAMPLE)
+
+
+def _call_cases(rng, plan, text, origin):
+    """Making with a buffer about long enough, checking all sorts."""
+    factored = factor(plan, GREATEST_ENTRIES, GREATEST_ENTRIES)
+    if isinstance(factored, Refusal):
+        yield Case("make", text, buffer_length=4_096, origin=origin)
+        return
+    length = len(write(plan, factored.factors))
+    for size in (length + rng.randint(-1, 2), length + rng.randint(0, 100)):
+        yield Case("make", text, buffer_length=size, origin=origin)
+    for certificate in _certificates(rng, plan, factored.factors):
+        yield Case("check", text, certificate=certificate, origin=origin)
+
+
+def plan_cases(seed, index):
+    """All cases of the random plan with this index."""
+    rng = Random(f"plan {seed} {index}")
+    origin = f"seed {seed} plan {index}"
+    plan = random_plan(rng)
+    text = varied_text(rng, plan)
+    yield from _printed_cases(rng, plan, text, origin)
+    yield from _call_cases(rng, plan, text, origin)
+
+
+def tiny_cases(seed, index, most):
+    """Up to `most` questions on a tiny plan, spread over all of them."""
+    rng = Random(f"tiny {seed} {index}")
+    plan = tiny_plan(rng)
+    text = varied_text(rng, plan)
+    questions = list(product(range(plan.p), repeat=plan.m))
+    for y in rng.sample(questions, min(most, len(questions))):
+        yield Case("ask", text, question=y, origin=f"seed {seed} tiny {index}")
+
+
+def _plan_d_cases():
+    """The scope's questions and edits; then every byte of D's certificate
+    changed in every way that one bit or all bits make."""
+    plan = read_plan(PLAN_D, GREATEST_ENTRIES)
+    factors = factor(plan, GREATEST_ENTRIES, GREATEST_ENTRIES).factors
+    own = write(plan, factors)
+    for y, _ in QUESTIONS:
+        yield Case("ask", PLAN_D, question=y, origin="plan D")
+    yield Case("check", PLAN_D, certificate=own, origin="plan D")
+    for which, place, value, _ in EDITED:
+        stored = getattr(factors, which)
+        values = stored.values[:place] + (value,) + stored.values[place + 1 :]
+        edited = factors._replace(**{which: stored._replace(values=values)})
+        yield Case("check", PLAN_D, certificate=write(plan, edited), origin="plan D edited")
+    for place in range(len(own)):
+        for change in (1, 2, 4, 8, 16, 32, 64, 128, 255):
+            changed = own[:place] + bytes([own[place] ^ change]) + own[place + 1 :]
+            yield Case("check", PLAN_D, certificate=changed, origin=f"plan D byte {place}")
+
+
+def _large_set_cases():
+    """Sets with more entries than a plan may have: they are held only by
+    their lists, so they pass."""
+    for plan in (lower_edge(65_521, GREATEST_ENTRIES + 500), upper_edge(7, GREATEST_ENTRIES + 500)):
+        factors = factor(plan, 2 * GREATEST_ENTRIES, 2 * GREATEST_ENTRIES).factors
+        text = plain_text(plan)
+        yield Case("check", text, certificate=write(plan, factors), origin="large set")
+        last = factors.L.values[:-1] + (factors.L.values[-1] % (plan.p - 1) + 1,)
+        changed = factors._replace(L=factors.L._replace(values=last))
+        yield Case("check", text, certificate=write(plan, changed), origin="large set changed")
+
+
+def fixed_cases(seed):
+    """What every run compares, whatever its count."""
+    texts = [text for text, _ in REPORTS + REFUSALS] + list(edge_texts())
+    for text in texts:
+        yield Case("report", text, origin="worked or limit")
+        yield Case("make", text, buffer_length=150_000, origin="worked or limit")
+        yield Case("check", text, certificate=b"", origin="worked or limit")
+    yield from _plan_d_cases()
+    yield from _large_set_cases()
+    rng = Random(f"fixed {seed}")
+    for p, n, m in ((7, 0, 0), (2, 3, 0), (65_521, 4, 5), (251, 9, 6)):
+        text = plain_text(build(rng, dense, p, n, m))
+        yield from buffer_cases(text, f"buffers {p} {n} {m}")
+
+
+def in_groups(cases, size):
+    """Lists of at most `size` cases."""
+    iterator = iter(cases)
+    while group := list(islice(iterator, size)):
+        yield group

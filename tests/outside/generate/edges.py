@@ -1,0 +1,91 @@
+"""Plans and texts at the limits of the scope.
+
+    lower_edge, upper_edge   plans whose L or U has an exact number of entries
+    text_of_length           a text with an exact number of bytes
+    edge_texts               all of them around each limit
+"""
+
+from model.limits import GREATEST_ENTRIES, GREATEST_SIZE, GREATEST_TEXT
+from model.storage import Plan, store
+
+from .texts import plain_text, stated
+
+CHAIN = 120
+WIDE = 150
+
+
+def _chain(length):
+    """Rows 1 at i and -1 at i + 1: what starts at column 0 runs down to the end."""
+    return [{i: 1, i + 1: -1} for i in range(length)]
+
+
+def _runner():
+    """A row that starts at column 0 and is no structural pivot beside a chain."""
+    return {0: 1, 1: 1, 2: 1}
+
+
+def _padded(p, rows, missing):
+    """The plan with `missing` single entries more, each a pivot of its own."""
+    width = 1 + max(max(cells) for cells in rows)
+    rows = rows + [{width + i: 1} for i in range(missing)]
+    stored = store({j: v % p for j, v in cells.items()} for cells in rows)
+    return Plan(p, len(rows), width + missing, stored)
+
+
+def lower_edge(p, entries):
+    """A plan whose L has this many entries: dependent rows of three entries
+    each need the whole chain. p is odd and not 3."""
+    rows = _chain(CHAIN) + [{CHAIN: 1}]
+    total, each = CHAIN + 1, CHAIN + 1
+    while total + each <= entries:
+        rows.append(_runner())
+        total += each
+    return _padded(p, rows, entries - total)
+
+
+def upper_edge(p, entries):
+    """A plan whose U has this many entries: each further row runs down the
+    chain into one wide row, and has a pivot column of its own before it."""
+    rows = _chain(CHAIN)
+    each = WIDE + 1
+    count = (entries - 2 * CHAIN - each) // each
+    first_wide = CHAIN + 1 + count
+    wide = dict.fromkeys(range(first_wide, first_wide + WIDE), 1)
+    rows.append({CHAIN: 1, **wide})
+    rows += [{**_runner(), CHAIN + 1 + i: 1} for i in range(count)]
+    return _padded(p, rows, entries - 2 * CHAIN - each * (count + 1))
+
+
+def _stores_nothing(characters):
+    """A multiple of 7 within the text's range, written in 1 to 10 characters."""
+    return 7 * 10 ** (characters - 1) if characters < 10 else -7 * 10**8
+
+
+def text_of_length(length):
+    """A text of exactly this many bytes whose lines store nothing; the last
+    values have as many characters as are missing."""
+    missing = length - len(stated(7, GREATEST_SIZE, GREATEST_SIZE, []))
+    triples = []
+    for i, j in ((i, j) for i in range(1, GREATEST_SIZE) for j in range(1, GREATEST_SIZE)):
+        shortest = len(f"{i} {j} 0\n")
+        if missing < shortest:
+            break
+        spare = missing - shortest
+        characters = 1 + spare if spare < 10 else 1
+        triples.append((i, j, _stores_nothing(characters)))
+        missing -= shortest + characters - 1
+    return stated(7, GREATEST_SIZE, GREATEST_SIZE, triples)
+
+
+def edge_texts():
+    """Texts just within and just past each limit that a text can reach."""
+    for entries in range(GREATEST_ENTRIES - 1, GREATEST_ENTRIES + 3):
+        yield plain_text(lower_edge(65_521, entries))
+        yield plain_text(upper_edge(7, entries))
+    for length in (GREATEST_TEXT - 1, GREATEST_TEXT, GREATEST_TEXT + 1):
+        yield text_of_length(length)
+    for n in (GREATEST_SIZE, GREATEST_SIZE + 1):
+        for m in (0, 1, GREATEST_SIZE, GREATEST_SIZE + 1):
+            corner = [(n, m, 1)] if m else []
+            yield stated(2, n, m, corner)
+            yield stated(2, m, n, [(m, n, 1)] if m else [])

@@ -1,0 +1,88 @@
+"""The same notions by trying everything, for tiny plans (scope, "Factors": rank; "Questions").
+
+No factors are used but for which rows and columns are pivots. A matrix is a
+list of full rows.
+
+    full_rows    the plan's matrix with its zeros
+    combinations all lists of residues of a length
+    rank         the greatest number of independent rows
+    answer       x and z as the scope describes them, found by trying all
+    values       the values y.s over the settings s that give certain slots
+"""
+
+from itertools import combinations as subsets
+from itertools import product
+
+from .storage import row
+
+
+def full_rows(plan):
+    """A as a list of rows of m residues."""
+    rows = []
+    for i in range(plan.n):
+        cells = row(plan.rows, i)
+        rows.append([cells.get(j, 0) for j in range(plan.m)])
+    return rows
+
+
+def combinations(p, length):
+    return product(range(p), repeat=length)
+
+
+def times_rows(x, rows, width, p):
+    """xA."""
+    return tuple(sum(a * r[j] for a, r in zip(x, rows)) % p for j in range(width))
+
+
+def times_setting(rows, s, p):
+    """As."""
+    return tuple(sum(a * b for a, b in zip(r, s)) % p for r in rows)
+
+
+def rank(plan):
+    """The greatest number of rows of which only the all-zero combination is zero."""
+    rows = full_rows(plan)
+    zero = (0,) * plan.m
+
+    def independent(chosen):
+        return not any(
+            any(x) and times_rows(x, chosen, plan.m, plan.p) == zero
+            for x in combinations(plan.p, len(chosen))
+        )
+
+    return max(
+        size
+        for size in range(plan.n + 1)
+        if any(independent(chosen) for chosen in subsets(rows, size))
+    )
+
+
+def answer(plan, pivot_rows, pivot_columns, y):
+    """(open, x, z): the only x with xA = y that is 0 off the pivot rows; where
+    no x has xA = y, the z of the lowest non-pivot column whose y.z is not 0."""
+    rows = full_rows(plan)
+    p, n, m = plan.p, plan.n, plan.m
+    solutions = [x for x in combinations(p, n) if times_rows(x, rows, m, p) == tuple(y)]
+    if solutions:
+        (x,) = [x for x in solutions if _zero_off(x, pivot_rows)]
+        return True, x, (0,) * m
+    kernel = [z for z in combinations(p, m) if not any(times_setting(rows, z, p))]
+    for free in sorted(set(range(m)) - set(pivot_columns)):
+        (z,) = [z for z in kernel if z[free] == 1 and _zero_off(z, {free, *pivot_columns})]
+        if sum(a * b for a, b in zip(y, z)) % p:
+            return False, (0,) * n, z
+    raise AssertionError("a closed question without a witness")
+
+
+def _zero_off(cells, places):
+    return all(not value or place in places for place, value in enumerate(cells))
+
+
+def values(plan, y):
+    """For each list of slots that some setting gives, the set of values y.s."""
+    rows = full_rows(plan)
+    found = {}
+    for s in combinations(plan.p, plan.m):
+        slots = times_setting(rows, s, plan.p)
+        found.setdefault(slots, set()).add(sum(a * b for a, b in zip(y, s)) % plan.p)
+    return found

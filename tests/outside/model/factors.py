@@ -1,0 +1,104 @@
+"""Factoring a plan (scope, "Factors" and its pivot rules; number 7 in "What the library returns").
+
+    Factors      the scope's set: R, C, L, U and r
+    Factored     the factors with the number of structural pivots
+    structural   rule 1: the rows chosen by leftmost column
+    schedule     the processing order: the structural rows, then the others
+    reduce       a row reduced by rows of U, in order
+    factor       rules 1 to 3, within the lent rooms
+"""
+
+from typing import NamedTuple
+
+from .refusals import ROOM, Refusal
+from .storage import Rows, row, store
+
+
+class Factors(NamedTuple):
+    """R and C are orders of rows and columns; L is n by r, U is r by m."""
+
+    R: tuple
+    C: tuple
+    L: Rows
+    U: Rows
+    r: int
+
+
+class Factored(NamedTuple):
+    """What factoring returns beside refusals."""
+
+    factors: Factors
+    structural: int
+
+
+def structural(plan):
+    """Rule 1: for each leftmost column the row with fewest entries, then with
+    the lowest number; by rising leftmost column."""
+    chosen = {}
+    for i in range(plan.n):
+        cells = row(plan.rows, i)
+        if cells:
+            column = min(cells)
+            candidate = (len(cells), i)
+            chosen[column] = min(chosen.get(column, candidate), candidate)
+    return [chosen[column][1] for column in sorted(chosen)]
+
+
+def schedule(plan):
+    """The rows in processing order."""
+    first = structural(plan)
+    taken = set(first)
+    return first + [i for i in range(plan.n) if i not in taken]
+
+
+def reduce(cells, upper, pivots, p):
+    """The coefficients and the remainder of a row reduced by the rows of U in
+    order. A cell that cancels is not kept."""
+    remainder = dict(cells)
+    coefficients = {}
+    for k, pivot in enumerate(pivots):
+        if pivot not in remainder:
+            continue
+        coefficients[k] = factor = remainder[pivot]
+        for column, value in upper[k].items():
+            left = (remainder.get(column, 0) - factor * value) % p
+            if left:
+                remainder[column] = left
+            else:
+                remainder.pop(column, None)
+    return coefficients, remainder
+
+
+def factor(plan, lower_room, upper_room):
+    """The engine's own set, or 7 at the first row in processing order after
+    which L or U has more entries than its room."""
+    p, n, m = plan.p, plan.n, plan.m
+    pivots, pivot_rows, upper, lower = [], [], [], {}
+    lower_entries = upper_entries = 0
+    for i in schedule(plan):
+        coefficients, remainder = reduce(row(plan.rows, i), upper, pivots, p)
+        if remainder:
+            pivot = min(remainder)
+            value = remainder[pivot]
+            inverse = pow(value, -1, p)
+            coefficients[len(pivots)] = value
+            pivots.append(pivot)
+            pivot_rows.append(i)
+            upper.append({j: v * inverse % p for j, v in remainder.items()})
+            upper_entries += len(remainder)
+        lower[i] = coefficients
+        lower_entries += len(coefficients)
+        if lower_entries > lower_room or upper_entries > upper_room:
+            return Refusal(ROOM, i)
+
+    row_order = _completed(pivot_rows, n)
+    column_order = _completed(pivots, m)
+    lower_rows = store(lower[i] for i in row_order)
+    factors = Factors(row_order, column_order, lower_rows, store(upper), len(pivots))
+    return Factored(factors, len(structural(plan)))
+
+
+def _completed(first, size):
+    """Rule 3: the pivots as found, then the rest rising."""
+    taken = set(first)
+    return tuple(first) + tuple(i for i in range(size) if i not in taken)

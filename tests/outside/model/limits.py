@@ -1,0 +1,23 @@
+"""The limits of a plan (scope, "The product", the paragraph "Limits").
+
+    is_modulus   a prime from 2 to 65,521
+"""
+
+GREATEST_MODULUS = 65_521
+GREATEST_SIZE = 2_048
+GREATEST_ENTRIES = 16_384
+GREATEST_TEXT = 65_536
+LEAST_VALUE = -2_147_483_648
+GREATEST_VALUE = 2_147_483_647
+
+
+def is_modulus(p):
+    """Whether p is a prime within its range, by trial division."""
+    if not 2 <= p <= GREATEST_MODULUS:
+        return False
+    divisor = 2
+    while divisor * divisor <= p:
+        if p % divisor == 0:
+            return False
+        divisor += 1
+    return True

@@ -1,0 +1,105 @@
+"""Reading a plan text (scope, "Plan text"; order of refusals, "What the library returns").
+
+    read_plan    the stored plan that a text states, or the first refusal
+"""
+
+import re
+
+from .limits import (
+    GREATEST_SIZE,
+    GREATEST_TEXT,
+    GREATEST_VALUE,
+    LEAST_VALUE,
+    is_modulus,
+)
+from .refusals import (
+    LIMIT,
+    MALFORMED,
+    NOT_PRIME,
+    ORDER,
+    OUTSIDE,
+    ROOM,
+    VALUE_RANGE,
+    Refusal,
+)
+from .storage import Plan, store
+
+NUMBER = rb"(0|[1-9][0-9]{0,9})"
+SIGNED = rb"(0|-?[1-9][0-9]{0,9})"
+MODULUS_LINE = re.compile(NUMBER)
+SIZE_LINE = re.compile(NUMBER + rb" " + NUMBER + rb" M")
+TRIPLE_LINE = re.compile(NUMBER + rb" " + NUMBER + rb" " + SIGNED)
+LAST_LINE = b"0 0 0"
+
+
+def read_plan(text, room):
+    """The plan stated by `text`, with storage lent for `room` entries."""
+    if len(text) > GREATEST_TEXT:
+        return Refusal(LIMIT)
+    *lines, unterminated = text.split(b"\n")
+
+    p = _modulus(lines)
+    if isinstance(p, Refusal):
+        return p
+    sizes = _sizes(lines)
+    if isinstance(sizes, Refusal):
+        return sizes
+    n, m = sizes
+    cells = _triples(lines, p, n, m, room)
+    if isinstance(cells, Refusal):
+        return cells
+
+    last = 2 + lines[2:].index(LAST_LINE) + 1
+    if len(lines) > last or unterminated:
+        return Refusal(MALFORMED, last + 1)
+    return Plan(p, n, m, store(cells))
+
+
+def _fields(lines, number, form):
+    """The numbers on a line (counted from 1), or 3 where the line is missing,
+    has no line feed or is not of the form."""
+    found = form.fullmatch(lines[number - 1]) if number <= len(lines) else None
+    return tuple(map(int, found.groups())) if found else Refusal(MALFORMED, number)
+
+
+def _modulus(lines):
+    """The first line: 3, then 1."""
+    fields = _fields(lines, 1, MODULUS_LINE)
+    if isinstance(fields, Refusal):
+        return fields
+    return fields[0] if is_modulus(fields[0]) else Refusal(NOT_PRIME)
+
+
+def _sizes(lines):
+    """The second line: 3, then 2."""
+    fields = _fields(lines, 2, SIZE_LINE)
+    if isinstance(fields, Refusal):
+        return fields
+    return fields if max(fields) <= GREATEST_SIZE else Refusal(LIMIT)
+
+
+def _triples(lines, p, n, m, room):
+    """The rows stated from the third line to the last: in a line 3, 4, 5, 6, 7."""
+    cells = [{} for _ in range(n)]
+    stored = 0
+    before = (0, 0)
+    number = 3
+    while number > len(lines) or lines[number - 1] != LAST_LINE:
+        fields = _fields(lines, number, TRIPLE_LINE)
+        if isinstance(fields, Refusal):
+            return fields
+        i, j, v = fields
+        if not (1 <= i <= n and 1 <= j <= m):
+            return Refusal(OUTSIDE, number)
+        if (i, j) <= before:
+            return Refusal(ORDER, number)
+        if not LEAST_VALUE <= v <= GREATEST_VALUE:
+            return Refusal(VALUE_RANGE, number)
+        if v % p != 0:
+            if stored == room:
+                return Refusal(ROOM, number)
+            cells[i - 1][j - 1] = v % p
+            stored += 1
+        before = (i, j)
+        number += 1
+    return cells

@@ -1,0 +1,47 @@
+"""The report program's output (scope, "Report and cases").
+
+    report       the output for a text
+    stages       reading, then factoring, with the rooms that the program lends
+    printed      lines as a program prints them
+    refused      the one line of a refusal
+"""
+
+from .factors import factor
+from .limits import GREATEST_ENTRIES
+from .plan_text import read_plan
+from .questions import open_words
+from .refusals import Refusal
+
+
+def report(text):
+    """Sizes, rank line and open words, or the one line of a refusal."""
+    result = stages(text)
+    if isinstance(result, Refusal):
+        return refused(result)
+    plan, (factors, structural) = result
+    lower, upper = len(factors.L.columns), len(factors.U.columns)
+    return printed(
+        f"modulus {plan.p} slots {plan.n} words {plan.m} entries {len(plan.rows.columns)}",
+        f"rank {factors.r} structural {structural} L {lower} U {upper}",
+        *(f"open {column + 1}" for column in open_words(plan, factors)),
+    )
+
+
+def stages(text):
+    """The plan and what factoring returned, or the refusal as it is printed:
+    a row counts from 1, a line does so already."""
+    plan = read_plan(text, GREATEST_ENTRIES)
+    if isinstance(plan, Refusal):
+        return plan
+    factored = factor(plan, GREATEST_ENTRIES, GREATEST_ENTRIES)
+    if isinstance(factored, Refusal):
+        return Refusal(factored.number, factored.detail + 1)
+    return plan, factored
+
+
+def printed(*lines):
+    return "".join(line + "\n" for line in lines).encode()
+
+
+def refused(refusal):
+    return printed(f"refused {refusal.number} at {refusal.detail}")

@@ -1,0 +1,135 @@
+"""The programs under test, each with the calls that it answers.
+
+    Report, Ask  programs that read a plan text on standard input
+    Calls        the driver of the two C calls, many cases in one process
+    compile_driver   the driver for a static library and its header
+    Crash        what stands for the result where a program did not end well
+"""
+
+import os
+import struct
+import subprocess
+from pathlib import Path
+from typing import NamedTuple, Optional
+
+FILLER = b"\xa5"
+REQUEST = struct.Struct("<cII")
+RESPONSE = struct.Struct("<QB")
+BATCH = 200
+PATIENCE = 120
+
+
+class Crash(NamedTuple):
+    """A program that ended by a signal or not at all, wrote to standard error,
+    or (a C call) changed what it was not lent."""
+
+    reason: str
+
+
+class Ended(NamedTuple):
+    """How a process ended: what it wrote, and what was wrong, or None."""
+
+    output: bytes
+    fault: Optional[Crash]
+
+
+def _run(command, data):
+    try:
+        done = subprocess.run(command, input=data, capture_output=True, timeout=PATIENCE)
+    except subprocess.TimeoutExpired as late:
+        return Ended(late.stdout or b"", Crash(f"no end within {PATIENCE} seconds"))
+    if done.returncode < 0:
+        return Ended(done.stdout, Crash(f"signal {-done.returncode}"))
+    if done.stderr:
+        return Ended(done.stdout, Crash(f"standard error {done.stderr[:200]!r}"))
+    return Ended(done.stdout, None)
+
+
+def _printed(command, text):
+    output, fault = _run(command, text)
+    return fault or output
+
+
+class Report:
+    """Prints the report of the plan text on standard input."""
+
+    calls = ("report",)
+
+    def __init__(self, command):
+        self.command = command
+
+    def results(self, cases):
+        for case in cases:
+            yield _printed(self.command, case.text)
+
+
+class Ask:
+    """Takes the question as arguments."""
+
+    calls = ("ask",)
+
+    def __init__(self, command):
+        self.command = command
+
+    def results(self, cases):
+        for case in cases:
+            yield _printed([*self.command, *map(str, case.question)], case.text)
+
+
+class Calls:
+    """Speaks the protocol of driver.c."""
+
+    calls = ("make", "check")
+
+    def __init__(self, command):
+        self.command = command
+
+    def results(self, cases):
+        """The results in order; a process that ends early crashed at its
+        first case without an answer, and the rest goes to another process."""
+        waiting = list(cases)
+        while waiting:
+            batch = waiting[:BATCH]
+            output, fault = _run(self.command, b"".join(map(_request, batch)))
+            results = list(_responses(batch, output))
+            if len(results) < len(batch):
+                results.append(fault or Crash("no answer"))
+            elif fault:
+                results[-1] = fault
+            yield from results
+            waiting = waiting[len(results) :]
+
+
+def _lent(case):
+    return FILLER * case.buffer_length if case.call == "make" else case.certificate
+
+
+def _request(case):
+    lent = _lent(case)
+    call = b"M" if case.call == "make" else b"C"
+    return REQUEST.pack(call, len(case.text), len(lent)) + case.text + lent
+
+
+def _responses(batch, output):
+    place = 0
+    for case in batch:
+        start, end = place + RESPONSE.size, place + RESPONSE.size + len(_lent(case))
+        if end > len(output):
+            return
+        number, kept = RESPONSE.unpack_from(output, place)
+        yield (number, output[start:end]) if kept else Crash("memory that was not lent changed")
+        place = end
+
+
+def compile_driver(library, header_folder, target):
+    """The command that runs the driver, compiled against the library."""
+    target.mkdir(parents=True, exist_ok=True)
+    driver = target / "driver"
+    source = Path(__file__).parent / "driver.c"
+    compiler = os.environ.get("CC", "cc")
+    subprocess.run(
+        [compiler, "-std=c11", "-O1", "-Wall", "-Wextra", "-I", header_folder, source, library]
+        + ["-o", driver],
+        check=True,
+    )
+    return [str(driver)]

@@ -1,0 +1,181 @@
+"""The comparison itself: it is content with right programs and notices wrong ones."""
+
+import shutil
+import subprocess
+import sys
+import tempfile
+import unittest
+from itertools import chain, islice
+from pathlib import Path
+
+from cases import Case, expected, keep, load
+from compare import differences, fixed_cases, in_groups, plan_cases, tiny_cases
+from generate.edges import edge_texts
+from programs import FILLER, Ask, Calls, Crash, Report, compile_driver
+from standin import DEFECTS
+from worked import PLAN_D, QUESTIONS
+
+HERE = Path(__file__).parent
+STUB_HEADER = """
+#include <stddef.h>
+#include <stdint.h>
+uint64_t plq_make_certificate(const uint8_t *, size_t, uint8_t *, size_t);
+uint64_t plq_check_certificate(const uint8_t *, size_t, const uint8_t *, size_t);
+"""
+# Makes nothing of the buffer's content and leaves its length there; refuses
+# texts that open with x, and steps outside its buffer where they open with y.
+STUB_SOURCE = """
+#include "plq.h"
+uint64_t plq_make_certificate(const uint8_t *text, size_t n, uint8_t *c, size_t m) {
+    for (size_t i = 0; i < m; i++) c[i] = (uint8_t)m;
+    if (n && text[0] == 'y') c[m] = 0;
+    return n && text[0] == 'x' ? 3 + 256 * 70000 : 0;
+}
+uint64_t plq_check_certificate(const uint8_t *text, size_t n, const uint8_t *c, size_t m) {
+    if (n && text[0] == 'z') __builtin_trap();
+    return n + m + (m ? c[0] : 0) + (n ? text[n - 1] : 0);
+}
+"""
+
+
+def standin(program, *defect):
+    command = [sys.executable, str(HERE / "standin.py"), program, *defect]
+    return {"report": Report, "ask": Ask, "calls": Calls}[program](command)
+
+
+# The programs that must show each defect.
+SHOWN_BY = {
+    "passes_all": ("calls",),
+    "passes_own_bytes_only": ("calls",),
+    "compares_stored_entries_only": ("calls",),
+    "structural_pivots_only": ("calls", "report", "ask"),
+    "no_storage": ("calls", "report", "ask"),
+    "storage_one_too_short": ("calls", "report"),
+    "closed_always": ("report", "ask"),
+    "same_x_always": ("report", "ask"),
+    "blank_factors": ("calls",),
+    "rank_made_up": ("report",),
+    "refuses_all": ("calls", "report", "ask"),
+    "reads_another_plan": ("calls", "report", "ask"),
+    "leaves_refused_output": ("calls",),
+}
+
+
+def given_cases():
+    """Plan D, plans at the edge of the rooms, and random plans."""
+    yield Case("report", PLAN_D)
+    for y, _ in QUESTIONS:
+        yield Case("ask", PLAN_D, question=y)
+    for text in islice(edge_texts(), 4):
+        yield Case("report", text)
+        yield Case("make", text, buffer_length=150_000)
+    for index in range(25):
+        yield from plan_cases("noticed", index)
+
+
+class Notices(unittest.TestCase):
+    def test_right_programs_show_no_difference(self):
+        cases = [case for index in range(4) for case in plan_cases("right", index)]
+        cases += tiny_cases("right", 0, 3)
+        programs = [standin("report"), standin("ask"), standin("calls")]
+        self.assertEqual(list(differences(cases, programs)), [])
+
+    def test_every_defect_is_noticed(self):
+        self.assertEqual(set(SHOWN_BY), set(DEFECTS))
+        cases = list(given_cases())
+        for defect, programs in SHOWN_BY.items():
+            for program in programs:
+                with self.subTest(defect=defect, program=program):
+                    self.assertTrue(any(differences(cases, [standin(program, defect)])))
+
+
+class Reaches(unittest.TestCase):
+    """The cases reach every number that the programs can return."""
+
+    def test_numbers_of_the_calls(self):
+        cases = chain(fixed_cases("reach"), *(plan_cases("reach", i) for i in range(30)))
+        numbers = {expected(c)[0] % 256 for c in cases if c.call in ("make", "check")}
+        self.assertEqual(numbers, set(range(15)) - {8})
+
+    def test_lines_of_the_programs(self):
+        cases = chain(fixed_cases("reach"), *(plan_cases("reach", i) for i in range(30)))
+        printed = [expected(c) for c in cases if c.call in ("report", "ask")]
+        refusals = [b"refused %d at " % number for number in (1, 2, 3, 4, 5, 6, 7, 15)]
+        for opening in (*refusals, b"modulus", b"open", b"closed"):
+            self.assertTrue(any(line.startswith(opening) for line in printed), opening)
+
+    def test_a_seed_gives_the_same_cases(self):
+        self.assertEqual(*(list(plan_cases("same", 3)) for _ in range(2)))
+
+
+class Files(unittest.TestCase):
+    def test_a_kept_case_is_the_same_when_loaded(self):
+        with tempfile.TemporaryDirectory() as folder:
+            for case in (*plan_cases("kept", 0), Case("report", bytes(range(256)))):
+                self.assertEqual(load(keep(case, Path(folder))), case)
+
+    def test_groups(self):
+        self.assertEqual(list(in_groups(range(5), 2)), [[0, 1], [2, 3], [4]])
+
+
+@unittest.skipUnless(shutil.which("cc"), "no C compiler")
+class Driver(unittest.TestCase):
+    """driver.c with a library of a few lines."""
+
+    @classmethod
+    def setUpClass(cls):
+        cls.folder = tempfile.TemporaryDirectory()
+        place = Path(cls.folder.name)
+        (place / "plq.h").write_text(STUB_HEADER)
+        (place / "stub.c").write_text(STUB_SOURCE)
+        subprocess.run(["cc", "-c", "stub.c", "-o", "stub.o"], cwd=place, check=True)
+        cls.driver = Calls(compile_driver(place / "stub.o", place, place))
+
+    @classmethod
+    def tearDownClass(cls):
+        cls.folder.cleanup()
+
+    def results(self, *cases):
+        return list(self.driver.results(cases))
+
+    def test_results_in_order(self):
+        found = self.results(
+            Case("make", b"ab", buffer_length=3),
+            Case("make", b"x", buffer_length=0),
+            Case("check", b"abc", certificate=b"\x10\x00"),
+            Case("check", b"", certificate=b""),
+        )
+        wanted = [
+            (0, b"\3\3\3"),
+            (3 + 256 * 70_000, b""),
+            (3 + 2 + 16 + ord("c"), b"\x10\x00"),
+            (0, b""),
+        ]
+        self.assertEqual(found, wanted)
+
+    def test_steps_outside_are_reported(self):
+        (found,) = self.results(Case("make", b"y", buffer_length=3))
+        self.assertIsInstance(found, Crash)
+
+    def test_a_crash_costs_one_case(self):
+        found = self.results(
+            Case("check", b"a"), Case("check", b"z"), Case("make", b"a", buffer_length=1)
+        )
+        self.assertEqual(found[0], (1 + ord("a"), b""))
+        self.assertIsInstance(found[1], Crash)
+        self.assertEqual(found[2], (0, b"\1"))
+
+    def test_many_batches(self):
+        lengths = [i % 7 for i in range(1_000)]
+        found = self.results(*(Case("check", bytes(length)) for length in lengths))
+        self.assertEqual([number for number, _ in found], lengths)
+
+    def test_wrong_results_are_differences(self):
+        case = Case("make", PLAN_D, buffer_length=400)
+        (found,) = differences([case], [self.driver])
+        self.assertEqual(found.wanted, expected(case))
+        self.assertNotIn(FILLER, found.found[1])
+
+
+if __name__ == "__main__":
+    unittest.main()

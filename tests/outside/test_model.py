@@ -1,0 +1,97 @@
+"""Reading and factoring in the model: variations, enumeration and every room."""
+
+import unittest
+
+from generate import edges, texts
+from generate.plans import tiny_plan
+from model import enumeration
+from model.certificate import write
+from model.check import check_certificate, check_factors
+from model.factors import factor
+from model.limits import GREATEST_ENTRIES
+from model.plan_text import read_plan
+from model.refusals import Refusal
+from model.storage import Plan, Rows, plan_refusal, row
+from samples import FACTORS, PLAN, factors_of, plans, small_plans
+from sweeps import AMPLE, reading_differences, room_differences
+
+
+class Reading(unittest.TestCase):
+    def test_every_variation_states_the_plan(self):
+        for rng, plan in plans("variations", 150):
+            self.assertEqual(read_plan(texts.plain_text(plan), AMPLE), plan)
+            self.assertEqual(read_plan(texts.varied_text(rng, plan), AMPLE), plan)
+
+    def test_every_room(self):
+        for _, plan in small_plans("reading rooms", 60):
+            self.assertFalse(list(reading_differences(read_plan, texts.plain_text(plan))))
+
+    def test_a_value_that_reduces_to_zero_needs_no_room(self):
+        text = b"7\n1 2 M\n1 1 -14\n1 2 5\n0 0 0\n"
+        self.assertEqual(read_plan(text, 0), Refusal(7, 4))
+        self.assertEqual(read_plan(text, 1), Plan(7, 1, 2, Rows((0, 1), (1,), (5,))))
+
+    def test_room_comes_in_text_order(self):
+        text = b"7\n1 3 M\n1 1 1\n1 2 1\n1 3 x\n"
+        self.assertEqual(read_plan(text, 1), Refusal(7, 4))
+        self.assertEqual(read_plan(text, 2), Refusal(3, 5))
+
+    def test_length(self):
+        for length in (65_535, 65_536, 65_537):
+            text = edges.text_of_length(length)
+            self.assertEqual(len(text), length)
+            found = read_plan(text, 0)
+            self.assertEqual(found == Refusal(2), length > 65_536)
+            self.assertIsInstance(found, Refusal if length > 65_536 else Plan)
+
+    def test_no_text_reaches_the_entry_limit(self):
+        self.assertLess(65_536 // len("1 1 1\n"), GREATEST_ENTRIES)
+
+
+class Factoring(unittest.TestCase):
+    def test_own_set_passes(self):
+        for _, plan in plans("own", 200):
+            self.assertIsNone(check_factors(plan, factors_of(plan)))
+
+    def test_rank_by_enumeration(self):
+        for _, plan in plans("ranks", 120, tiny_plan):
+            self.assertEqual(factors_of(plan).r, enumeration.rank(plan))
+
+    def test_every_room(self):
+        for _, plan in small_plans("rooms", 40):
+            self.assertFalse(list(room_differences(factor, plan)))
+
+    def test_entries_at_the_edge(self):
+        for entries in (GREATEST_ENTRIES, GREATEST_ENTRIES + 1):
+            lower = factors_of(edges.lower_edge(65_521, entries))
+            upper = factors_of(edges.upper_edge(7, entries))
+            self.assertEqual(len(lower.L.columns), entries)
+            self.assertEqual(len(upper.U.columns), entries)
+
+    def test_structural_rows_keep_their_entries(self):
+        for _, plan in small_plans("structural", 100):
+            factored = factor(plan, AMPLE, AMPLE)
+            for k in range(factored.structural):
+                self.assertEqual(list(row(factored.factors.L, k)), [k])
+
+    def test_stored_plans(self):
+        self.assertIsNone(plan_refusal(PLAN))
+        good = PLAN.rows
+        for plan, number in (
+            (PLAN._replace(n=4), 9),
+            (PLAN._replace(rows=good._replace(values=good.values[1:])), 9),
+            (PLAN._replace(p=8), 1),
+            (PLAN._replace(m=2_049), 2),
+            (PLAN._replace(m=4), 8),
+            (PLAN._replace(p=3), 8),
+            (PLAN._replace(rows=good._replace(starts=(1, *good.starts[1:]))), 8),
+            (PLAN._replace(rows=good._replace(starts=(*good.starts[:-1], 10))), 8),
+            (PLAN._replace(rows=good._replace(columns=(2, 0, *good.columns[2:]))), 8),
+            (PLAN._replace(rows=good._replace(values=(0, *good.values[1:]))), 8),
+        ):
+            self.assertEqual(plan_refusal(plan), Refusal(number))
+            self.assertEqual(check_certificate(plan, write(PLAN, FACTORS)), Refusal(number))
+
+
+if __name__ == "__main__":
+    unittest.main()
