@@ -8,3 +8,5 @@ pub mod Progress
 pub mod Printed
 pub mod Accepted
 pub mod Answers
+pub mod Ordered
+pub mod WellFormed

@@ -61,7 +61,7 @@ unfolding valuesOf
 values-more room es t h = list-more (λ x. x .value) room es t h
 
 -- ---- row starts
-count-all : (n k : ℕ) (es : List Entry) → RowsWithin n es → n ≤ k → countTo k es ≡ length es
+pub count-all : (n k : ℕ) (es : List Entry) → RowsWithin n es → n ≤ k → countTo k es ≡ length es
 unfolding RowsWithin countTo
 count-all n k [] r h = refl
 count-all n k (t ∷ ts) r h = rw (le-leb (t .row) k (omega (arith, r))) (ap (λ (x : ℕ). x + 1) (count-all n k ts (r .2) h) ∙ add-one (length ts))
