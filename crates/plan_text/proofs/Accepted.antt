@@ -1,6 +1,6 @@
 -- Each text that is accepted states a plan, and is read as that plan: `accepted-states`.
 use mathlib.Core.Path.{_≡_, refl, sym, ap, ap₂, _∙_, subst}
-use mathlib.Core.List.{List, [], _∷_, _++_, map, reverseAux}
+use mathlib.Core.List.{List, [], _∷_, map, reverseAux}
 use mathlib.Core.Bool.{Bool, true, false, cond, _&&_, not}
 use Prim.Native.Nat.{ℕ, _+_, _≤_, zero-le}
 use native.Mathlib.Omega.{arith}
@@ -10,7 +10,7 @@ use borrow.Author.Tests.{leb-false, leb-true, ltb-false, eqb-true, eqb-false}
 use Rattle.lists.proofs.Bools.{and-left, and-right}
 use Rattle.fields.specs.Pieces.{Pieces, last, more, pieces, joined}
 use Rattle.fields.specs.Number.{numberOf, signedOf, isNegative, magnitude}
-use Rattle.fields.specs.Decimal.{decimal, signedText, Proper}
+use Rattle.fields.specs.Decimal.{decimal, Proper}
 use Rattle.fields.specs.declared.numbers.Number.{Number}
 use Rattle.fields.specs.declared.numbers.Number.the-variants.{Value, NotNumber}
 use Rattle.fields.specs.declared.numbers.Signed.{Signed}
@@ -20,7 +20,6 @@ use Rattle.fields.proofs.CanonicalSigned.{signed-prints}
 use Rattle.fields.proofs.Joins.{joined-pieces}
 use Rattle.residue.specs.Range.{isModulus}
 use Rattle.residue.proofs.Signed.{residue-value}
-use Rattle.plan_text.specs.declared.line.Line.{Line}
 use Rattle.plan_text.specs.declared.line.Line.the-variants.{Triple, NotTriple}
 use Rattle.plan_text.specs.declared.header.Header.{Header}
 use Rattle.plan_text.specs.declared.header.Header.the-variants.{Given, NotHeader}
@@ -30,10 +29,10 @@ use Rattle.plan_text.specs.declared.judge.Verdict.the-variants.{Refused,
 use Rattle.plan_text.specs.Limits.{largestSize, largestText}
 use Rattle.plan_text.specs.Line.{fieldsOf, lineOf, lineIn, lineWith, headerOf, headerIn, headerWith, isM}
 use Rattle.plan_text.specs.Judge.{mayStand}
-use Rattle.plan_text.specs.Reading.{Entry, ReadResult, refused, accepted, kept, lastRow, lastColumn, verdictOn, ending, onward, triples, withSizes, fromSecond, withModulus, fromFirst, readOf}
-use Rattle.plan_text.specs.Stating.{StatedEntry, tripleText, sizesText, tripleLines, planText, Follows, Rising, entryOf, entriesOf, Plan, States}
+use Rattle.plan_text.specs.Reading.{Entry, refused, accepted, kept, lastRow, lastColumn, verdictOn, ending, onward, triples, withSizes, fromSecond, withModulus, fromFirst, readOf}
+use Rattle.plan_text.specs.Stating.{StatedEntry, tripleText, sizesText, tripleLines, planText, Rising, entryOf, States}
 use Rattle.plan_text.proofs.Storing.{kept-zero, kept-more}
-use Rattle.plan_text.proofs.Verdicts.{IsEntry, judged-entry, judged-last}
+use Rattle.plan_text.proofs.Verdicts.{judged-entry, judged-last}
 
 refused-not : {A : Type 0} {c k : ℕ} {s : Sizes} {seen : List Entry} → refused c k ≡ accepted s seen → A
 refused-not e = let z : _≡_ {A = ℕ} 0 1 = cc in absurd (omega arith)
@@ -125,12 +124,15 @@ triples-back s s′ room (more l rest) k seen out h e = go (verdictOn s room see
         let one : Entry = record { row = i; column = j; value = v } in
         let value = k .value ∙ sym (residue-value (s .modulus .p) (isNegative (k .sign)) (magnitude (k .sign))) in
         let b : Back room s s′ rest (entryOf (s .modulus .p) t ∷ seen) out =
-            subst (λ (n : ℕ). Back room s s′ rest (record { row = i; column = j; value = n } ∷ seen) out) value (ih one (room-kept room seen one (k .room) h) x) in
+        subst (λ (n : ℕ). Back room s s′ rest (record { row = i; column = j; value = n } ∷ seen) out) value (ih one (room-kept room seen one (k .room) h) x) in
         record {
           ts = t ∷ b .ts;
           lines = ap₂ more (w .text) (b .lines);
           rising = (record { row-inside = k .row-inside; column-inside = k .column-inside; order = sym (ap (mayStand (lastRow seen) (lastColumn seen)) (k .line)) ∙ k .order; range = k .range; proper = w .proper }, b .rising);
-          result = b .result; sizes = b .sizes; fits = b .fits }
+          result = b .result;
+          sizes = b .sizes;
+          fits = b .fits;
+        }
 
 pub triples-sizes : (s s′ : Sizes) (room : ℕ) (p : Pieces) (k : ℕ) (out : List Entry) → triples s room k [] p ≡ accepted s′ out → s′ ≡ s
 unfolding kept
@@ -170,12 +172,14 @@ unfolding planText kept
 closes room s s′ text l l₂ rest out short cut num prime head hn hm e =
     let b = triples-back s s′ room rest 3 [] out zero-le e in
     let is : text ≡ planText s (b .ts) =
-        sym (joined-pieces 10 text) ∙ ap (joined 10) (cut ∙ ap₂ more (number-prints l (s .modulus .p) num .1) (ap₂ more (header-prints l₂ s head) (b .lines))) in
+    sym (joined-pieces 10 text) ∙ ap (joined 10) (cut ∙ ap₂ more (number-prints l (s .modulus .p) num .1) (ap₂ more (header-prints l₂ s head) (b .lines))) in
     subst (λ (z : Sizes). States room z text out) (sym (b .sizes))
     (record {
       stated = b .ts;
       plan = record { modulus = prime; rows = hn; columns = hm; rising = b .rising; fits = subst (λ (y : List Entry). length (kept y) ≤ room) (b .result) (b .fits); short = subst (λ (y : List ℕ). length y ≤ largestText) is short };
-      text-is = is; entries-are = b .result })
+      text-is = is;
+      entries-are = b .result;
+    })
 
 module _ (room : ℕ) (s : Sizes) (text : List ℕ) (out : List Entry) (short : length text ≤ largestText) where
   sizes-back : (p : ℕ) (l l₂ : List ℕ) (rest : Pieces) → pieces 10 text ≡ more l (more l₂ rest) → numberOf l ≡ Value p → isModulus p ≡ true

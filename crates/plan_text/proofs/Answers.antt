@@ -1,5 +1,5 @@
 -- From what the steps of reading return to the call's answer.
-use mathlib.Core.Path.{_≡_, refl, sym, ap, _∙_, subst}
+use mathlib.Core.Path.{_≡_, sym, ap, _∙_, subst}
 use mathlib.Core.List.{List, []}
 use Prim.Native.Nat.{ℕ, _≤_, _<_}
 use native.Mathlib.Omega.{arith}
@@ -61,7 +61,8 @@ module _ (s : Sizes) (room : ℕ) (p : Pieces) (r : TripleLines) (st co va : Lis
         result-is = (λ j. record { number = 0; detail = 0; p = same j .modulus .p; n = same j .n; m = same j .m; count = both .0 j });
         starts-are = extend (kept seen) rows (both .0) (h .1 .starts-are ∙ ap (λ (n : ℕ). startsOf n (kept seen)) (sym (both .1))) ∙ ap (λ (z : Sizes). startsOf (z .n) (kept seen)) same;
         columns-are = h .1 .columns-are;
-        values-are = h .1 .values-are }
+        values-are = h .1 .values-are;
+      }
 
 -- ---- the call: wrong lengths are 9
 module _ (text : List ℕ) (a b c : ℕ) (r : Reading) (st co va : List ℕ) where

@@ -1,14 +1,14 @@
 -- A line cut at its spaces: a and b are its first two pieces, c is the third.
-use mathlib.Core.Path.{_≡_, refl, sym, ap, ap₂, _∙_}
+use mathlib.Core.Path.{_≡_, refl, sym, ap, _∙_}
 use mathlib.Core.List.{List}
 use Prim.Native.Nat.{ℕ, _+_, _-_, _≤_, _<_, zero-le}
 use native.Mathlib.Nat.{add-sub-cancel-left}
 use native.Mathlib.Omega.{arith}
 use lib.ListN.{length, take, drop, length-drop}
 use lib.Seq.{take-all}
-use Rattle.fields.specs.Pieces.{Pieces, last, more, pieces, firstPiece}
+use Rattle.fields.specs.Pieces.{Pieces, more, pieces, firstPiece}
 use Rattle.fields.proofs.Cuts.{first-prefix, piece-end, piece-last, piece-more}
-use Rattle.plan_text.specs.Line.{Fields, three, notThree, fieldsOf, fieldsAt}
+use Rattle.plan_text.specs.Line.{three, notThree, fieldsOf, fieldsAt}
 use Rattle.plan_text.specs.declared.line.Spaces.the-variants.{At}
 
 -- a piece is the part of the line that it covers

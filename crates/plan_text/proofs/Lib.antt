@@ -10,3 +10,5 @@ pub mod Accepted
 pub mod Answers
 pub mod Ordered
 pub mod WellFormed
+pub mod EntryLimit
+pub mod Done

@@ -1,23 +1,22 @@
 -- Entries that stand in order, each in the plan and with a value that is stored.
 use mathlib.Core.Path.{_≡_, refl, sym, ap, _∙_}
 use mathlib.Core.List.{List, [], _∷_, _++_, append-nil, append-assoc, map, reverse, reverseAux}
-use mathlib.Core.Bool.{Bool, true, false, cond, _&&_, _||_}
+use mathlib.Core.Bool.{Bool, true, false, cond, _&&_}
 use mathlib.Core.Logic.{_⊎_, inl, inr}
-use Prim.Native.Nat.{ℕ, zero, suc, _+_, _-_, _%_, _≤_, _<_}
+use Prim.Native.Nat.{ℕ, _-_, _%_, _≤_, _<_}
 use native.Mathlib.Nat.{mod-lt}
 use native.Mathlib.Omega.{arith}
 use lib.Dec.{eqb, ltb}
-use borrow.Author.Tests.{eq-eqb, ne-eqb, eqb-true, eqb-false, ltb-true}
+use borrow.Author.Tests.{eqb-true, eqb-false, ltb-true}
 use Rattle.lists.proofs.Bools.{and-right, or-cases, and-left}
 use Rattle.fields.specs.Number.{isNegative, magnitude}
-use Rattle.residue.specs.Range.{isModulus}
-use Rattle.residue.specs.Signed.{residueOf, signedResidue}
+use Rattle.residue.specs.Signed.{signedResidue}
 use Rattle.residue.proofs.Signed.{residue-value}
 use Rattle.plan_text.specs.declared.judge.Sizes.{Sizes}
 use Rattle.plan_text.specs.Judge.{before}
 use Rattle.plan_text.specs.Reading.{Entry, kept}
 use Rattle.plan_text.specs.Stored.{RowsWithin}
-use Rattle.plan_text.specs.Stating.{StatedEntry, integerOf, Follows, Rising, entryOf, entriesOf}
+use Rattle.plan_text.specs.Stating.{StatedEntry, Rising, entryOf}
 use Rattle.plan_text.proofs.Storing.{kept-zero, kept-more}
 use Rattle.plan_text.proofs.Verdicts.{within-bounds}
 
@@ -57,11 +56,18 @@ after-trans a b t u (inr (e, h)) (inr (f, k)) = inr (omega arith, omega arith)
 earlier : (s : Sizes) (a b : ℕ) (t : Entry) (es : List Entry) → After a b t → Ordered s (t .row) (t .column) es → Ordered s a b es
 earlier s a b t [] h o = tt
 earlier s a b t (u ∷ us) h o =
-    let x = o .0 in
-    (record {
-      order = after-trans a b t u h (x .order); row-low = x .row-low; row-high = x .row-high; column-low = x .column-low; column-high = x .column-high;
-      value-low = x .value-low; value-high = x .value-high },
-      o .1)
+    let x = o .0 in (
+      record {
+        order = after-trans a b t u h (x .order);
+        row-low = x .row-low;
+        row-high = x .row-high;
+        column-low = x .column-low;
+        column-high = x .column-high;
+        value-low = x .value-low;
+        value-high = x .value-high;
+      },
+      o .1,
+    )
 
 -- ---- the stored entries of a plan, in the order in which they are stated
 unfoldable pub nonzero : List Entry → List Entry
@@ -113,8 +119,15 @@ rising-ordered s a b (t ∷ ts) h r = go (eqb (e .value) 0) refl (rising-ordered
     go true q ih = earlier s a b e rest after ih
     go false q ih =
         let row = within-bounds (t .row) (s .n) (r .0 .row-inside) in
-        let column = within-bounds (t .column) (s .m) (r .0 .column-inside) in
-        (record {
-          order = after; row-low = row .0; row-high = row .1; column-low = column .0; column-high = column .1;
-          value-low = omega (arith, eqb-false (e .value) 0 q); value-high = value-below (s .modulus .p) t h },
-          ih)
+        let column = within-bounds (t .column) (s .m) (r .0 .column-inside) in (
+          record {
+            order = after;
+            row-low = row .0;
+            row-high = row .1;
+            column-low = column .0;
+            column-high = column .1;
+            value-low = omega (arith, eqb-false (e .value) 0 q);
+            value-high = value-below (s .modulus .p) t h;
+          },
+          ih,
+        )

@@ -1,15 +1,15 @@
 -- Each text that states a plan is accepted, as that plan: `reads-stated`.
 use mathlib.Core.Path.{_≡_, refl, sym, ap, _∙_}
 use mathlib.Core.List.{List, [], _∷_, _++_, map, reverseAux}
-use mathlib.Core.Bool.{Bool, true, false, cond, _&&_, not}
+use mathlib.Core.Bool.{Bool, true, false, _&&_, not}
 use Prim.Native.Nat.{ℕ, _+_, _^_, _≤_, _<_}
 use native.Mathlib.Nat.{le-refl, le-trans}
 use native.Mathlib.Omega.{arith}
 use lib.ListN.{length, length-append}
 use lib.Dec.{eqb, leb}
 use borrow.Author.Tests.{ne-eqb, eqb-true, eqb-false, le-leb, lt-leb, leb-true, le-ltb}
-use Rattle.fields.specs.Pieces.{Pieces, last, more, pieces, joined}
-use Rattle.fields.specs.Number.{signedOf, isNegative, magnitude}
+use Rattle.fields.specs.Pieces.{more, pieces, joined}
+use Rattle.fields.specs.Number.{isNegative, magnitude}
 use Rattle.fields.specs.Decimal.{decimal, signedText, Proper}
 use Rattle.fields.specs.declared.numbers.Signed.{Signed}
 use Rattle.fields.specs.declared.numbers.Signed.the-variants.{Plus, Minus, NotSigned}
@@ -18,17 +18,15 @@ use Rattle.fields.proofs.CanonicalSigned.{signed-printed}
 use Rattle.fields.proofs.Joins.{Free, free-append, free-decimal, free-signed, pieces-free, pieces-line}
 use Rattle.residue.proofs.Primes.{modulus-range}
 use Rattle.residue.proofs.Signed.{residue-value}
-use Rattle.residue.specs.Signed.{residueOf}
-use Rattle.plan_text.specs.declared.line.Line.{Line}
 use Rattle.plan_text.specs.declared.line.Line.the-variants.{Triple}
 use Rattle.plan_text.specs.declared.header.Header.the-variants.{Given}
 use Rattle.plan_text.specs.declared.judge.Sizes.{Sizes}
 use Rattle.plan_text.specs.declared.judge.Verdict.the-variants.{Last, Entry as AnEntry}
 use Rattle.plan_text.specs.Limits.{largestSize, largestText}
-use Rattle.plan_text.specs.Line.{fieldsOf, lineOf, lineIn, withSigned, headerOf}
+use Rattle.plan_text.specs.Line.{fieldsOf, lineOf, withSigned, headerOf}
 use Rattle.plan_text.specs.Judge.{judge, inRange, isLast, residueAt}
 use Rattle.plan_text.specs.Reading.{Entry, accepted, kept, lastRow, lastColumn, verdictOn, triples, readOf}
-use Rattle.plan_text.specs.Stating.{StatedEntry, integerOf, tripleText, sizesText, lastLine, tripleLines, planText, Follows, Rising, entryOf, entriesOf, Plan}
+use Rattle.plan_text.specs.Stating.{StatedEntry, tripleText, sizesText, lastLine, tripleLines, planText, Follows, Rising, entryOf, entriesOf, Plan}
 use Rattle.plan_text.proofs.Storing.{kept-zero, kept-more}
 use Rattle.plan_text.proofs.Verdicts.{within-bounds}
 
@@ -47,10 +45,14 @@ with-signed i j NotSigned p = absurd p
 line-printed : (t : StatedEntry) → t .row < 10 ^ 10 → t .column < 10 ^ 10 → inRange (t .value) ≡ true → Proper (t .value) → lineOf (tripleText t) ≡ Triple (t .row) (t .column) (t .value)
 unfolding tripleText joined lineOf fieldsOf
 line-printed t hi hj r p =
-    rw (pieces-line 32 (decimal (t .row)) (decimal (t .column) ++ 32 ∷ signedText (t .value)) (free-decimal 32 (t .row) (omega arith)),
+    rw (
+      pieces-line 32 (decimal (t .row)) (decimal (t .column) ++ 32 ∷ signedText (t .value)) (free-decimal 32 (t .row) (omega arith)),
       pieces-line 32 (decimal (t .column)) (signedText (t .value)) (free-decimal 32 (t .column) (omega arith)),
       pieces-free 32 (signedText (t .value)) (free-signed 32 (t .value) (omega arith)),
-      number-printed (t .row) hi, number-printed (t .column) hj, signed-printed (t .value) (range-small (t .value) r) p)
+      number-printed (t .row) hi,
+      number-printed (t .column) hj,
+      signed-printed (t .value) (range-small (t .value) r) p,
+    )
     (with-signed (t .row) (t .column) (t .value) p)
 
 free-triple : (t : StatedEntry) → Free 10 (tripleText t)
@@ -95,8 +97,16 @@ unfolding judge
 verdict-printed s room seen t hn hm f h =
     let wi = within-bounds (t .row) (s .n) (f .row-inside) in
     let wj = within-bounds (t .column) (s .m) (f .column-inside) in
-    rw (line-printed t (omega arith) (omega arith) (f .range) (f .proper), not-last (t .row) (t .column) (t .value) (wi .0), f .row-inside, f .column-inside, f .order, f .range,
-      value-is (s .modulus .p) t, has-room room seen (entryOf (s .modulus .p) t) h)
+    rw (
+      line-printed t (omega arith) (omega arith) (f .range) (f .proper),
+      not-last (t .row) (t .column) (t .value) (wi .0),
+      f .row-inside,
+      f .column-inside,
+      f .order,
+      f .range,
+      value-is (s .modulus .p) t,
+      has-room room seen (entryOf (s .modulus .p) t) h,
+    )
 
 verdict-last : (s : Sizes) (room : ℕ) (seen : List Entry) → verdictOn s room seen lastLine ≡ Last
 unfolding judge
@@ -133,15 +143,25 @@ plan-pieces s ts =
 header-printed : (s : Sizes) → s .n ≤ largestSize → s .m ≤ largestSize → headerOf (sizesText s) ≡ Given (s .n) (s .m)
 unfolding sizesText joined headerOf fieldsOf
 header-printed s hn hm =
-    rw (pieces-line 32 (decimal (s .n)) (decimal (s .m) ++ 32 ∷ 77 ∷ []) (free-decimal 32 (s .n) (omega arith)),
+    rw (
+      pieces-line 32 (decimal (s .n)) (decimal (s .m) ++ 32 ∷ 77 ∷ []) (free-decimal 32 (s .n) (omega arith)),
       pieces-line 32 (decimal (s .m)) (77 ∷ []) (free-decimal 32 (s .m) (omega arith)),
       pieces-free 32 (77 ∷ []) ((λ e. omega arith), tt),
-      number-printed (s .n) (omega arith), number-printed (s .m) (omega arith))
+      number-printed (s .n) (omega arith),
+      number-printed (s .m) (omega arith),
+    )
 
 -- Each text that states a plan is read as that plan.
 pub reads-stated : (room : ℕ) (s : Sizes) (ts : List StatedEntry) → Plan room s ts → readOf room (planText s ts) ≡ accepted s (entriesOf (s .modulus .p) ts)
 unfolding readOf
 reads-stated room s ts h =
-    rw (le-ltb largestText (length (planText s ts)) (h .short), plan-pieces s ts, number-printed (s .modulus .p) (omega (arith, modulus-range (s .modulus .p) (h .modulus))), h .modulus,
-      header-printed s (h .rows) (h .columns), le-leb (s .n) largestSize (h .rows), le-leb (s .m) largestSize (h .columns))
+    rw (
+      le-ltb largestText (length (planText s ts)) (h .short),
+      plan-pieces s ts,
+      number-printed (s .modulus .p) (omega (arith, modulus-range (s .modulus .p) (h .modulus))),
+      h .modulus,
+      header-printed s (h .rows) (h .columns),
+      le-leb (s .n) largestSize (h .rows),
+      le-leb (s .m) largestSize (h .columns),
+    )
     (triples-printed s room (h .rows) (h .columns) ts 3 [] (h .rising) (h .fits))

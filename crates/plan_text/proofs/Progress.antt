@@ -1,23 +1,21 @@
 -- The loop over the triples: where it stands before each line, and what a line leads to.
 use mathlib.Core.Path.{_≡_, refl, sym, ap, _∙_, subst}
-use mathlib.Core.List.{List, [], _∷_, _++_}
+use mathlib.Core.List.{List, [], _∷_}
 use mathlib.Core.Bool.{Bool, true, false, cond, _&&_, not}
-use Prim.Native.Nat.{ℕ, _+_, _-_, _^_, _≤_, _<_, zero-le}
+use Prim.Native.Nat.{ℕ, _+_, _≤_, _<_, zero-le}
 use native.Mathlib.Nat.{le-of-eq}
 use native.Mathlib.Omega.{arith}
 use lib.ListN.{drop-of-length-le, length, drop, length-append, length-drop}
 use lib.Dec.{eqb, leb}
 use borrow.Author.Tests.{eqb-true, eqb-false, ne-eqb, leb-false}
-use Rattle.lists.specs.Filled.{zeros}
 use Rattle.fields.specs.Pieces.{Pieces, last, more, prepend, pieces, firstPiece}
 use Rattle.fields.proofs.Cuts.{piece-end, piece-last, piece-more}
 use Rattle.plan_text.specs.declared.judge.Sizes.{Sizes}
 use Rattle.plan_text.specs.declared.judge.Verdict.{Verdict}
 use Rattle.plan_text.specs.declared.judge.Verdict.the-variants.{Refused, Last, Entry as AnEntry}
 use Rattle.plan_text.specs.declared.triples.TripleLines.the-variants.{Read}
-use Rattle.plan_text.specs.Limits.{largestSize, largestText, startsLength}
+use Rattle.plan_text.specs.Limits.{startsLength}
 use Rattle.plan_text.specs.Line.{lineOf}
-use Rattle.plan_text.specs.declared.line.Line.the-variants.{Triple}
 use Rattle.plan_text.specs.Judge.{judge, mayStand, before}
 use Rattle.plan_text.specs.Reading.{Entry, ReadResult, refused, accepted, kept, lastRow, lastColumn, ending, onward, triples, verdictOn}
 use Rattle.plan_text.specs.Stored.{startsOf, RowsWithin, Stored, Storable}
@@ -42,13 +40,23 @@ pub record Progress (text : List ℕ) (from : ℕ) (s : Sizes) (room : ℕ) (st 
 pub progress-starts : (text : List ℕ) (from : ℕ) (s : Sizes) (st co va : List ℕ) → Begins text from s st co va → Progress text from s (length co) st co va from 3 0 0 0
 unfolding kept RowsWithin
 progress-starts text from s st co va h = record {
-    limits = h .limits; seen = []; same = refl; last-a = refl; last-b = refl;
-    stored = record {
-      rows = tt; number = refl;
-      starts-are = h .cleared .starts-zero ∙ sym starts-none;
-      columns-are = h .cleared .columns-zero ∙ sym (columns-none (length co));
-      values-are = h .cleared .values-zero ∙ sym (values-none (length co)) };
-    row-limit = zero-le; few = zero-le; enough = zero-le; line-at = omega arith }
+  limits = h .limits;
+  seen = [];
+  same = refl;
+  last-a = refl;
+  last-b = refl;
+  stored = record {
+    rows = tt;
+    number = refl;
+    starts-are = h .cleared .starts-zero ∙ sym starts-none;
+    columns-are = h .cleared .columns-zero ∙ sym (columns-none (length co));
+    values-are = h .cleared .values-zero ∙ sym (values-none (length co));
+  };
+  row-limit = zero-le;
+  few = zero-le;
+  enough = zero-le;
+  line-at = omega arith;
+}
 
 -- something follows the last line
 ending-some : (s : Sizes) (k : ℕ) (seen : List Entry) (l : List ℕ) → (length l ≡ 0 → ⊥) → ending s k seen (pieces 10 l) ≡ refused 3 k
@@ -89,15 +97,17 @@ module _ {text : List ℕ} {from : ℕ} {s : Sizes} {room : ℕ} {st co va : Lis
   -- the text is accepted: what the loop returns and leaves
   pub shows-read : (o : ReadResult) → o ≡ accepted s (g .seen) → Shows room o (Read count a) st co va
   shows-read o q =
-      subst (λ (x : ReadResult). Shows room x (Read count a) st co va) (sym q)
-      ((λ k. Read (g .stored .number k) (g .last-a k)),
+      subst (λ (x : ReadResult). Shows room x (Read count a) st co va) (sym q) (
+        (λ k. Read (g .stored .number k) (g .last-a k)),
         record {
           rows = subst (λ (n : ℕ). RowsWithin n (kept (g .seen))) (g .last-a) (g .stored .rows);
           number = refl;
           starts-are = g .stored .starts-are ∙ ap (λ (n : ℕ). startsOf n (kept (g .seen))) (g .last-a);
           columns-are = g .stored .columns-are;
-          values-are = g .stored .values-are },
-        subst (λ (n : ℕ). n ≤ s .n) (g .last-a) (g .row-limit))
+          values-are = g .stored .values-are;
+        },
+        subst (λ (n : ℕ). n ≤ s .n) (g .last-a) (g .row-limit),
+      )
 
   -- the text ends where a line should begin
   pub no-line : length text ≤ at → whole ≡ refused 3 line
@@ -169,20 +179,26 @@ module _ {text : List ℕ} {from : ℕ} {s : Sizes} {room : ℕ} {st co va : Lis
               column-fits = omega (arith, column, g .limits .m-limit);
               count-fits = omega (arith, g .few, g .limits .place, g .limits .short);
               lists = columns-long ∙ sym values-long;
-              room = λ z. omega (arith, columns-long, space z) }
+              room = λ z. omega (arith, columns-long, space z);
+            }
 
         pub goes-on : (st′ co′ va′ : List ℕ) (n : ℕ)
             → (Stored a (length co) (kept (g .seen)) count st co va → Stored i (length co) (kept (entry ∷ g .seen)) n st′ co′ va′)
             → Progress text from s room st′ co′ va′ next (line + 1) i k n
         goes-on st′ co′ va′ n store =
             let h : Stored i room (kept (entry ∷ g .seen)) n st′ co′ va′ =
-                subst (λ (r : ℕ). Stored a r (kept (g .seen)) count st co va → Stored i r (kept (entry ∷ g .seen)) n st′ co′ va′) columns-long store (g .stored) in
+            subst (λ (r : ℕ). Stored a r (kept (g .seen)) count st co va → Stored i r (kept (entry ∷ g .seen)) n st′ co′ va′) columns-long store (g .stored) in
             let c = count-step entry (g .seen) room (λ z. omega (arith, g .stored .number, space z)) (omega (arith, g .stored .number, g .enough)) in
             let old = g .limits in
             record {
               limits = record { place = omega arith; short = old .short; modulus = old .modulus; n-limit = old .n-limit; m-limit = old .m-limit };
-              seen = entry ∷ g .seen; same = judged-line ∙ rw ve; last-a = refl; last-b = refl; stored = h;
+              seen = entry ∷ g .seen;
+              same = judged-line ∙ rw ve;
+              last-a = refl;
+              last-b = refl;
+              stored = h;
               row-limit = within-bounds i (s .n) (judged .row-inside) .1;
               few = omega (arith, c, h .number, g .few, g .stored .number);
               enough = omega (arith, c, h .number);
-              line-at = omega (arith, g .line-at) }
+              line-at = omega (arith, g .line-at);
+            }

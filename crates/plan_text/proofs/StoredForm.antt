@@ -1,9 +1,9 @@
 -- The stored form, one entry more at a time.
 use mathlib.Core.Path.{_≡_, refl, sym, ap, _∙_}
 use mathlib.Core.List.{List, [], _∷_, _++_, map}
-use mathlib.Core.Bool.{Bool, true, false, cond}
-use Prim.Native.Nat.{ℕ, zero, suc, _+_, _-_, _≤_, _<_, zero-le}
-use native.Mathlib.Nat.{le-refl, sub-zero}
+use mathlib.Core.Bool.{cond}
+use Prim.Native.Nat.{ℕ, zero, suc, _+_, _-_, _≤_, _<_}
+use native.Mathlib.Nat.{le-refl}
 use native.Mathlib.Numerals.{add-one}
 use native.Mathlib.Omega.{arith}
 use lib.ListN.{length, set, replicate, length-append, length-map}
@@ -12,7 +12,7 @@ use lib.Dec.{leb}
 use borrow.Author.Tests.{le-leb, lt-leb}
 use Rattle.lists.specs.Filled.{zeros, filled}
 use Rattle.lists.specs.Tabulate.{tabulate}
-use Rattle.lists.proofs.Filled.{filled-none, length-filled, zeros-replicate}
+use Rattle.lists.proofs.Filled.{filled-none, length-filled}
 use Rattle.lists.proofs.Tabulate.{length-tabulate, tabulate-ext}
 use Rattle.plan_text.specs.Limits.{startsLength}
 use Rattle.plan_text.specs.Reading.{Entry}

@@ -1,13 +1,12 @@
 -- The lists after one triple more: a value of 0 changes only the row that is reached.
-use mathlib.Core.Path.{_≡_, refl, sym, ap, _∙_, subst}
+use mathlib.Core.Path.{_≡_, sym, ap, _∙_, subst}
 use mathlib.Core.List.{List, [], _∷_, _++_}
-use mathlib.Core.Bool.{cond}
 use Prim.Native.Nat.{ℕ, _+_, _-_, _≤_, _<_}
 use native.Mathlib.Omega.{arith}
-use lib.ListN.{length, set, length-append}
+use lib.ListN.{set, length-append}
 use borrow.Author.Tests.{eq-eqb, ne-eqb}
 use Rattle.plan_text.specs.Reading.{Entry, kept}
-use Rattle.plan_text.specs.Stored.{startsOf, columnsOf, valuesOf, RowsWithin, Stored}
+use Rattle.plan_text.specs.Stored.{startsOf, RowsWithin, Stored}
 use Rattle.plan_text.proofs.StoredForm.{rows-wider, rows-more, starts-more, columns-more, values-more}
 
 pub kept-zero : (t : Entry) (seen : List Entry) → t .value ≡ 0 → kept (t ∷ seen) ≡ kept seen
@@ -36,4 +35,5 @@ module _ {row room count : ℕ} (seen : List Entry) {st co va : List ℕ} (h : S
         number = ap (λ (k : ℕ). k + 1) (h .number) ∙ sym (length-append (kept seen) (t ∷ []));
         starts-are = (λ k. set (extended k) (t .row) (h .number k + 1)) ∙ starts-more (kept seen) t reached one;
         columns-are = (λ k. set (h .columns-are k) ((e ∙ h .number) k) (t .column - 1)) ∙ columns-more room (kept seen) t (omega (arith, h .number));
-        values-are = (λ k. set (h .values-are k) ((e ∙ h .number) k) (t .value)) ∙ values-more room (kept seen) t (omega (arith, h .number)) })
+        values-are = (λ k. set (h .values-are k) ((e ∙ h .number) k) (t .value)) ∙ values-more room (kept seen) t (omega (arith, h .number));
+      })

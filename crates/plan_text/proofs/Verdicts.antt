@@ -1,8 +1,7 @@
 -- What a verdict says of its line.
-use mathlib.Core.Path.{_≡_, refl, ap, _∙_}
+use mathlib.Core.Path.{_≡_, refl, ap}
 use mathlib.Core.Bool.{Bool, true, false, cond, _&&_, _||_, not}
-use Prim.Native.Nat.{ℕ, _-_, _%_, _≤_, _<_}
-use native.Mathlib.Nat.{mod-lt}
+use Prim.Native.Nat.{ℕ, _≤_}
 use native.Mathlib.Omega.{arith}
 use lib.Dec.{eqb, leb, ltb}
 use borrow.Author.Tests.{eqb-true, leb-true, ltb-true}
@@ -12,7 +11,6 @@ use Rattle.fields.specs.declared.numbers.Signed.the-variants.{Plus, Minus, NotS
 use Rattle.plan_text.specs.declared.line.Line.{Line}
 use Rattle.plan_text.specs.declared.line.Line.the-variants.{Triple, NotTriple}
 use Rattle.plan_text.specs.declared.judge.Sizes.{Sizes}
-use Rattle.plan_text.specs.declared.judge.Verdict.{Verdict}
 use Rattle.plan_text.specs.declared.judge.Verdict.the-variants.{Refused, Last, Entry}
 use Rattle.plan_text.specs.Judge.{judge, residueAt, inRange, isLast, isZero, within, before}
 
@@ -62,9 +60,15 @@ judged-entry stands full s (Triple a b w) i j v e =
         let ev : residueAt (s .modulus .p) w ≡ v = cc in
         rw (← ea, ← eb, ← ev)
         (record {
-          sign = w; line = refl;
-          row-inside = and-left (within a (s .n)) (within b (s .m)) p₂; column-inside = and-right (within a (s .n)) (within b (s .m)) p₂;
-          order = p₃; range = p₄; value = refl; room = p₅ })
+          sign = w;
+          line = refl;
+          row-inside = and-left (within a (s .n)) (within b (s .m)) p₂;
+          column-inside = and-right (within a (s .n)) (within b (s .m)) p₂;
+          order = p₃;
+          range = p₄;
+          value = refl;
+          room = p₅;
+        })
 
 zero-sign : (v : Signed) → isZero v ≡ true → v ≡ Plus 0
 zero-sign (Plus n) e = ap Plus (eqb-true n 0 e)

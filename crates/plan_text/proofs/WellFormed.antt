@@ -1,13 +1,13 @@
 -- What reading accepts is stored well formed: `read-well-formed`. So no later call refuses it by 8.
 use mathlib.Core.Path.{_≡_, refl, sym, ap, _∙_, subst}
 use mathlib.Core.List.{List, [], _∷_, _++_, map}
-use mathlib.Core.Bool.{Bool, true, false, cond, _&&_}
-use mathlib.Core.Logic.{_⊎_, inl, inr}
+use mathlib.Core.Bool.{Bool, true, false, cond}
+use mathlib.Core.Logic.{inl, inr}
 use Prim.Native.Nat.{ℕ, zero, suc, _+_, _-_, _≤_, _<_}
-use native.Mathlib.Nat.{le-add-right, add-sub-cancel-left}
+use native.Mathlib.Nat.{add-sub-cancel-left}
 use native.Mathlib.Numerals.{add-one}
 use native.Mathlib.Omega.{arith}
-use lib.Dec.{eqb, leb, ltb}
+use lib.Dec.{leb}
 use lib.ListN.{length, take, drop, length-map}
 use lib.Seq.{slice, take-append-seam}
 use borrow.Author.Tests.{le-leb, lt-leb, lt-ltb, eq-eqb, leb-true, leb-false}
@@ -21,8 +21,7 @@ use Rattle.plan_text.specs.declared.judge.Sizes.{Sizes}
 use Rattle.plan_text.specs.Limits.{startsLength}
 use Rattle.plan_text.specs.Reading.{Entry, accepted, kept, readOf}
 use Rattle.plan_text.specs.Stored.{countTo, startsOf, columnsOf, valuesOf}
-use Rattle.plan_text.specs.Call.{answerOf}
-use Rattle.plan_text.specs.Stating.{entryOf, States}
+use Rattle.plan_text.specs.Stating.{entryOf}
 use Rattle.plan_text.proofs.Moduli.{modulus-two}
 use Rattle.plan_text.proofs.StoredForm.{count-all}
 use Rattle.plan_text.proofs.Accepted.{accepted-states}
@@ -60,8 +59,14 @@ past k es = drop (countTo k es) es
 begins-row : (s : Sizes) (a b k : ℕ) (t : Entry) → k < t .row → Sound s a b t → Sound s (suc k) 0 t
 begins-row s a b k t h x =
     record {
-      order = go (leb (t .row) (suc k)) refl; row-low = x .row-low; row-high = x .row-high; column-low = x .column-low; column-high = x .column-high;
-      value-low = x .value-low; value-high = x .value-high }
+      order = go (leb (t .row) (suc k)) refl;
+      row-low = x .row-low;
+      row-high = x .row-high;
+      column-low = x .column-low;
+      column-high = x .column-high;
+      value-low = x .value-low;
+      value-high = x .value-high;
+    }
   where
     go : (y : Bool) → leb (t .row) (suc k) ≡ y → After (suc k) 0 t
     go true e = inr (omega (arith, leb-true (t .row) (suc k) e), x .column-low)
@@ -178,7 +183,7 @@ pub read-well-formed : (room : ℕ) (s : Sizes) (text : List ℕ) (seen : List E
 unfolding startsOf columnsOf valuesOf
 read-well-formed room s text seen e =
     (λ j. wellFormed (s .modulus .p) (s .m)
-      (take-filled startsLength (s .n + 1) (tabulate (s .n + 1) (λ k. countTo k (kept seen))) (sym (length-tabulate (s .n + 1) (λ k. countTo k (kept seen)))) j)
-      (take-filled room (length (kept seen)) (map (λ (t : Entry). t .column - 1) (kept seen)) (sym (length-map (kept seen) (λ (t : Entry). t .column - 1))) j)
-      (take-filled room (length (kept seen)) (map (λ (t : Entry). t .value) (kept seen)) (sym (length-map (kept seen) (λ (t : Entry). t .value))) j))
+    (take-filled startsLength (s .n + 1) (tabulate (s .n + 1) (λ k. countTo k (kept seen))) (sym (length-tabulate (s .n + 1) (λ k. countTo k (kept seen)))) j)
+    (take-filled room (length (kept seen)) (map (λ (t : Entry). t .column - 1) (kept seen)) (sym (length-map (kept seen) (λ (t : Entry). t .column - 1))) j)
+    (take-filled room (length (kept seen)) (map (λ (t : Entry). t .value) (kept seen)) (sym (length-map (kept seen) (λ (t : Entry). t .value))) j))
     ∙ ordered-form s 0 0 (kept seen) (accepted-ordered room s text seen e)

@@ -47,7 +47,8 @@ answerOf room (accepted s seen) =
       result = record { number = 0; detail = 0; p = s .modulus .p; n = s .n; m = s .m; count = length es };
       starts = startsOf (s .n) es;
       columns = columnsOf room es;
-      values = valuesOf room es }
+      values = valuesOf room es;
+    }
 
 unfoldable pub callOf : List ℕ → ℕ → ℕ → ℕ → Answer
 callOf text a b c = cond (eqb a startsLength && eqb b c) (answerOf b (readOf b text)) (refuses 9 0 a b c)

@@ -8,7 +8,7 @@
 --   judge f u s l         the verdict on the line l of a plan with the sizes s, where f says whether it may stand here and u
 --                         whether the entry storage is used up: 3, then 4, 5, 6, 7
 use Prim.Native.Nat.{ℕ}
-use mathlib.Core.Bool.{Bool, true, false, cond, _&&_, _||_, not}
+use mathlib.Core.Bool.{Bool, false, cond, _&&_, _||_, not}
 use lib.Dec.{eqb, ltb, leb}
 use Rattle.fields.specs.Number.{isNegative, magnitude}
 use Rattle.fields.specs.declared.numbers.Signed.{Signed}

@@ -10,9 +10,7 @@ ghost use Rattle.plan_text.specs.Stored.{RowsWithin, startsOf, Stored, S
 // The starts after the rows `from` + 1 to `to`, which have no entry: all entries stand before them.
 pub fn extend_starts(starts: &mut [u32], from: usize, to: usize, count: u32)
     requires { ⌜ (from ≤ to) × (to < startsLength) × (length (now starts) ≡ startsLength) ⌝ }
-    ensures {
-        λ _. ⌜ ((es : List Entry) → RowsWithin from es → count ≡ length es → now (starts .entry) ≡ startsOf from es → now (starts .exit) ≡ startsOf to es) ⌝
-    }
+    ensures { λ _. ⌜ ((es : List Entry) → RowsWithin from es → count ≡ length es → now (starts .entry) ≡ startsOf from es → now (starts .exit) ≡ startsOf to es) ⌝ }
 {
     let mut k = from;
     while k < to {
@@ -33,9 +31,7 @@ pub fn store(
     v: u32,
 ) -> u32
     requires { ⌜ Storable (length (now starts)) (length (now columns)) (length (now values)) count row i j v ⌝ }
-    ensures {
-        λ r. ⌜ ((seen : List Entry) → Stored row (length (now (columns .entry))) (kept seen) count (now (starts .entry)) (now (columns .entry)) (now (values .entry)) → Stored i (length (now (columns .entry))) (kept (record { row = i; column = j; value = v } ∷ seen)) r (now (starts .exit)) (now (columns .exit)) (now (values .exit))) ⌝
-    }
+    ensures { λ r. ⌜ ((seen : List Entry) → Stored row (length (now (columns .entry))) (kept seen) count (now (starts .entry)) (now (columns .entry)) (now (values .entry)) → Stored i (length (now (columns .entry))) (kept (record { row = i; column = j; value = v } ∷ seen)) r (now (starts .exit)) (now (columns .exit)) (now (values .exit))) ⌝ }
 {
     let top = i as usize;
     extend_starts(starts, row as usize, top, count);

@@ -1,8 +1,8 @@
 // What the second line, `n m M`, says.
 ghost use mathlib.Core.Path.{_≡_};
 ghost use Rattle.plan_text.specs.Line.{isM, headerWith, headerOf};
-use fields::numbers::Number;
 use crate::line::Spaces;
+use fields::numbers::Number;
 
 // The byte `M`.
 const LETTER_M: u8 = 77;

@@ -5,12 +5,13 @@ ghost use mathlib.Core.Bool.{_&&_};
 ghost use Rattle.residue.specs.Arithmetic.{Residue};
 ghost use Rattle.plan_text.specs.Line.{lineOf};
 ghost use Rattle.plan_text.specs.Judge.{inRange, residueAt, isZero, isLast, within, before, mayStand, entryIf, judge};
-use fields::numbers::Signed;
 use crate::line::Line;
+use fields::numbers::Signed;
 use residue::Modulus;
 
 // The range of v: from -2,147,483,648 to 2,147,483,647.
 const LARGEST_V: u64 = 2147483647;
+
 const LARGEST_MINUS_V: u64 = 2147483648;
 
 // The modulus and the sizes of a plan.

@@ -43,13 +43,18 @@ fn refusal(number: u32, detail: u32) -> Reading
 // Reads into lists of the right lengths that are all zero.
 fn fill(text: &[u8], starts: &mut [u32], columns: &mut [u32], values: &mut [u32]) -> Reading
     requires { ⌜ Cleared (now starts) (now columns) (now values) ⌝ }
-    ensures {
-        λ r. ⌜ Gives (answerOf (length (now (columns .entry))) (readOf (length (now (columns .entry))) (now (text .entry)))) r (now (starts .exit)) (now (columns .exit)) (now (values .exit)) ⌝
-    }
+    ensures { λ r. ⌜ Gives (answerOf (length (now (columns .entry))) (readOf (length (now (columns .entry))) (now (text .entry)))) r (now (starts .exit)) (now (columns .exit)) (now (values .exit)) ⌝ }
 {
     match opening::open(text) {
         Opening::Refused { number, detail } => refusal(number, detail),
-        Opening::Opened { s, at } => match triples::read_triples(text, at, s, starts, columns, values) {
+        Opening::Opened { s, at } => match triples::read_triples(
+            text,
+            at,
+            s,
+            starts,
+            columns,
+            values,
+        ) {
             TripleLines::Refused { number, line } => {
                 lists::clear(starts);
                 lists::clear(columns);
@@ -78,9 +83,7 @@ fn fill(text: &[u8], starts: &mut [u32], columns: &mut [u32], values: &mut [u32]
 // Refuses with: 9 for a wrong length; 2 for a longer text; then the first line at fault: 3, then 1, 2, or 4, 5, 6, 7.
 // Leaves: after a refusal every number 0 and every lent list all zero. The text never changes.
 pub fn read(text: &[u8], starts: &mut [u32], columns: &mut [u32], values: &mut [u32]) -> Reading
-    ensures {
-        λ r. ⌜ Gives (callOf (now (text .entry)) (length (now (starts .entry))) (length (now (columns .entry))) (length (now (values .entry)))) r (now (starts .exit)) (now (columns .exit)) (now (values .exit)) ⌝
-    }
+    ensures { λ r. ⌜ Gives (callOf (now (text .entry)) (length (now (starts .entry))) (length (now (columns .entry))) (length (now (values .entry)))) r (now (starts .exit)) (now (columns .exit)) (now (values .exit)) ⌝ }
 {
     lists::clear(starts);
     lists::clear(columns);

@@ -50,8 +50,16 @@ fn line_with(a: Number, b: Number, c: Signed) -> Line
         return Line::NotTriple;
     };
     match c {
-        Signed::Plus(n) => Line::Triple { i, j, v: Signed::Plus(n) },
-        Signed::Minus(n) => Line::Triple { i, j, v: Signed::Minus(n) },
+        Signed::Plus(n) => Line::Triple {
+            i,
+            j,
+            v: Signed::Plus(n),
+        },
+        Signed::Minus(n) => Line::Triple {
+            i,
+            j,
+            v: Signed::Minus(n),
+        },
         Signed::NotSigned => Line::NotTriple,
     }
 }

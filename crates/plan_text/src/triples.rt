@@ -24,9 +24,7 @@ pub fn read_triples(
     values: &mut [u32],
 ) -> TripleLines
     requires { ⌜ Begins (now text) from s (now starts) (now columns) (now values) ⌝ }
-    ensures {
-        λ r. ⌜ Shows (length (now (columns .entry))) (triples s (length (now (columns .entry))) 3 [] (pieces 10 (drop from (now (text .entry))))) r (now (starts .exit)) (now (columns .exit)) (now (values .exit)) ⌝
-    }
+    ensures { λ r. ⌜ Shows (length (now (columns .entry))) (triples s (length (now (columns .entry))) 3 [] (pieces 10 (drop from (now (text .entry))))) r (now (starts .exit)) (now (columns .exit)) (now (values .exit)) ⌝ }
 {
     let room = columns.len();
     let mut at = from;

@@ -69,7 +69,8 @@ fill-requires c κs =
     record {
       starts-zero = k .before .before .before .before .before .before .before .before .before .before .clear .ensures ∙ ap zeros (sym (h .0) ∙ e .before .if1 .left);
       columns-zero = k .before .before .before .before .before .before .clear2 .ensures ∙ ap zeros (sym (h .1));
-      values-zero = k .before .before .clear3 .ensures ∙ ap zeros (sym (h .2) ∙ sym (e .if2 .left)) }
+      values-zero = k .before .before .clear3 .ensures ∙ ap zeros (sym (h .2) ∙ sym (e .if2 .left));
+    }
 
 same-length-7 : tie.Need-same-length-7
 same-length-7 c = search needs

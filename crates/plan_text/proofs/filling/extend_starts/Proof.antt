@@ -37,10 +37,14 @@ loop-again : tie.Need-loop-again Inv-loop μ-loop
 loop-again c =
     let l = c .before .loop in
     let v = l .inv in
-    let a = c .before .before .args in
-    (omega arith, omega arith, length-set (l .starts) (l .k + 1) (a .count) ∙ v .2, λ es r n s.
-      ap (λ (x : List ℕ). set x (l .k + 1) (a .count)) (v .3 es r n s)
-      ∙ starts-extend (a .from) (l .k) (a .count) es r (v .0) (omega (arith, c .before .before .pre)) n)
+    let a = c .before .before .args in (
+      omega arith,
+      omega arith,
+      length-set (l .starts) (l .k + 1) (a .count) ∙ v .2,
+      λ es r n s.
+          ap (λ (x : List ℕ). set x (l .k + 1) (a .count)) (v .3 es r n s)
+          ∙ starts-extend (a .from) (l .k) (a .count) es r (v .0) (omega (arith, c .before .before .pre)) n,
+    )
 
 same-length : tie.Need-same-length Inv-loop μ-loop
 same-length c = c .before .loop .inv .2

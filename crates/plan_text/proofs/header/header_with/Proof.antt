@@ -1,4 +1,4 @@
-use mathlib.Core.Path.{_≡_, refl, sym, ap, _∙_}
+-- `header_with` meets its contract: each field picks a case of `headerWith`. Assumes nothing.
 use borrow.Author.Needs.{needs}
 use Rattle.plan_text.proofs.header.header_with.Statement.{statement}
 use Rattle.plan_text.proofs.header.header_with.Tie as tie

@@ -1,5 +1,5 @@
-use mathlib.Core.Path.{_≡_, refl, sym, ap, _∙_}
-use borrow.Author.Tests.{lt-ltb, le-ltb, lt-leb, le-leb, eq-eqb, ne-eqb, not-true, not-false}
+-- `entry_if` meets its contract: each test picks a case of `entryIf`. Assumes nothing.
+use borrow.Author.Tests.{eq-eqb, ne-eqb}
 use Rattle.plan_text.proofs.judge.entry_if.Statement.{statement}
 use Rattle.plan_text.proofs.judge.entry_if.Tie as tie
 

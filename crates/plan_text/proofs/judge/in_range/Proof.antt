@@ -1,4 +1,4 @@
-use mathlib.Core.Path.{_≡_, refl, sym, ap, _∙_}
+-- `in_range` meets its contract: the sign picks a case of `inRange`. Assumes nothing.
 use borrow.Author.Needs.{needs}
 use Rattle.plan_text.proofs.judge.in_range.Statement.{statement}
 use Rattle.plan_text.proofs.judge.in_range.Tie as tie

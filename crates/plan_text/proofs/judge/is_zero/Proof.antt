@@ -1,4 +1,4 @@
-use mathlib.Core.Path.{_≡_, refl, sym, ap, _∙_}
+-- `is_zero` meets its contract: the sign picks a case of `isZero`. Assumes nothing.
 use borrow.Author.Needs.{needs}
 use Rattle.plan_text.proofs.judge.is_zero.Statement.{statement}
 use Rattle.plan_text.proofs.judge.is_zero.Tie as tie

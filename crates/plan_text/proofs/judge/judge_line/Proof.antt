@@ -1,29 +1,22 @@
+-- `judge_line` meets its contract: the line picks a case of `judge`. Assumes nothing.
 use Rattle.plan_text.specs.Judge.{judge}
 use mathlib.Core.Path.{ap, sym, _∙_}
 use borrow.Author.Needs.{needs}
 use Rattle.plan_text.proofs.judge.judge_line.Statement.{statement}
 use Rattle.plan_text.proofs.judge.judge_line.Tie as tie
-use Rattle.plan_text.proofs.judge.judge_line.Reads as reads
-use Rattle.plan_text.proofs.judge.judge_line.Lts as lts
-use Rattle.plan_text.proofs.judge.judge_triple.Reads as judge-triple-reads
 
--- src/judge.rt:156:24
 enum-known-line : tie.Need-enum-known-line
 enum-known-line c = search needs
 
--- src/judge.rt:156:37
 judge-triple-requires : tie.Need-judge-triple-requires
 judge-triple-requires c κs = search needs
 
--- src/judge.rt:157:28
 enum-told : tie.Need-enum-told
 enum-told c = search needs
 
--- src/judge.rt:151:1
 returns : tie.Need-returns
 returns c = c .judge-triple .ensures ∙ sym (ap (judge _ _ _) (c .before .before .line .given .1))
 
--- src/judge.rt:151:1
 returns-2 : tie.Need-returns-2
 unfolding judge
 returns-2 c = sym (ap (judge _ _ _) (c .enum-told .given .1))

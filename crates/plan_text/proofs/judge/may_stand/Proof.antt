@@ -1,29 +1,22 @@
+-- `may_stand` meets its contract: the line picks a case of `mayStand`. Assumes nothing.
 use mathlib.Core.Path.{ap, sym, _∙_}
 use Rattle.plan_text.specs.Judge.{mayStand}
 use borrow.Author.Needs.{needs}
 use Rattle.plan_text.proofs.judge.may_stand.Statement.{statement}
 use Rattle.plan_text.proofs.judge.may_stand.Tie as tie
-use Rattle.plan_text.proofs.judge.may_stand.Reads as reads
-use Rattle.plan_text.proofs.judge.may_stand.Lts as lts
-use Rattle.plan_text.proofs.judge.is_before.Reads as is-before-reads
 
--- src/judge.rt:111:24
 enum-known-line : tie.Need-enum-known-line
 enum-known-line c = search needs
 
--- src/judge.rt:111:40
 is-before-requires : tie.Need-is-before-requires
 is-before-requires c κs = search needs
 
--- src/judge.rt:112:28
 enum-told : tie.Need-enum-told
 enum-told c = search needs
 
--- src/judge.rt:107:1
 returns : tie.Need-returns
 returns c = c .is-before .ensures ∙ sym (ap (mayStand _ _) (c .before .before .line .given .1))
 
--- src/judge.rt:107:1
 returns-2 : tie.Need-returns-2
 returns-2 c = search needs
 

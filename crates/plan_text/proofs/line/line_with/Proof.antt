@@ -1,3 +1,4 @@
+-- `line_with` meets its contract: each field picks a case of `lineWith`. Assumes nothing.
 use borrow.Author.Needs.{needs}
 use Rattle.plan_text.proofs.line.line_with.Statement.{statement}
 use Rattle.plan_text.proofs.line.line_with.Tie as tie

@@ -61,7 +61,8 @@ returns-3 c =
     let e = f .before .before in
     record {
       fields = more-spaces _ _ (e .before .piece .ensures) _ (first e) (f .before .piece2 .ensures) _ (second f) (c .before .piece3 .ensures) (c .if3 .taken);
-      inside = tt }
+      inside = tt;
+    }
 
 returns-4 : tie.Need-returns-4
 returns-4 c =
@@ -69,7 +70,8 @@ returns-4 c =
     let e = f .before .before in
     record {
       fields = two-spaces _ _ (e .before .piece .ensures) _ (first e) (f .before .piece2 .ensures) _ (second f) (c .before .piece3 .ensures) (c .if3 .left);
-      inside = (omega arith, omega (arith, second f)) }
+      inside = (omega arith, omega (arith, second f));
+    }
 
 pub spaces-of-spec : {M : Type 1} → statement M
 spaces-of-spec =

@@ -1,25 +1,19 @@
+-- `accepts` meets its contract: a number past 32 bits is no modulus. Assumes nothing.
 use mathlib.Core.Path.{sym}
 use Rattle.plan_text.proofs.Moduli.{not-modulus}
 use borrow.Author.Needs.{needs}
 use Rattle.plan_text.proofs.opening.accepts.Statement.{statement}
 use Rattle.plan_text.proofs.opening.accepts.Tie as tie
-use Rattle.plan_text.proofs.opening.accepts.Reads as reads
-use Rattle.plan_text.proofs.opening.accepts.Lts as lts
-use Rattle.residue.proofs.is_modulus.Reads as is-modulus-reads
 
--- src/opening.rt:29:9
 returns : tie.Need-returns
 returns c = sym (not-modulus _ (c .if1 .taken))
 
--- src/opening.rt:31:25
 cast-is-modulus : tie.Need-cast-is-modulus
 cast-is-modulus c = search needs
 
--- src/opening.rt:31:5
 is-modulus-requires : tie.Need-is-modulus-requires
 is-modulus-requires c κs = search needs
 
--- src/opening.rt:25:1
 returns-2 : tie.Need-returns-2
 returns-2 c = search needs
 

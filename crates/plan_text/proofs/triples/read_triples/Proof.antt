@@ -1,14 +1,12 @@
 -- `read_triples` meets its contract. The invariant: the lines that remain, after the triples seen, come to what all lines come to, and the lists hold the triples seen. Assumes nothing.
-use mathlib.Core.Path.{_≡_, refl, sym, ap, _∙_, subst}
-use Prim.Native.Nat.{ℕ, _+_, _-_, _≤_, _<_}
+use mathlib.Core.Path.{_≡_, refl, sym, ap, _∙_}
+use Prim.Native.Nat.{_+_, _-_, _<_}
 use native.Mathlib.Omega.{arith}
-use lib.ListN.{length, drop}
+use lib.ListN.{length}
 use denote.Ref.{now}
 use borrow.Author.Needs.{needs}
 use Rattle.lists.proofs.Filled.{length-zeros}
-use Rattle.fields.specs.Pieces.{pieces, firstPiece}
 use Rattle.plan_text.specs.Limits.{startsLength}
-use Rattle.plan_text.specs.Stored.{Stored}
 use Rattle.plan_text.proofs.Moduli.{modulus-two}
 use Rattle.plan_text.proofs.Progress.{Progress, progress-starts, starts-long, columns-long, values-long, shows-read, no-line, line-end, no-feed, is-refused, is-finished, not-finished, storable, goes-on}
 use Rattle.plan_text.proofs.triples.read_triples.Statement.{statement}
@@ -153,10 +151,13 @@ loop-again c =
     let j = e .before .before in
     let o = j .before in
     let h = o .before .before .before .loop .inv in
-    let g = h .0 in
-    (goes-on g (o .before .line-from .ensures) (j .judge-after .ensures) (ends o) (e .verdict2 .given .1) _ _ _ _
-      (w .store .ensures (g .seen)),
-      h .1, h .2, h .3)
+    let g = h .0 in (
+      goes-on g (o .before .line-from .ensures) (j .judge-after .ensures) (ends o) (e .verdict2 .given .1) _ _ _ _
+          (w .store .ensures (g .seen)),
+      h .1,
+      h .2,
+      h .3,
+    )
 
 same-length-13 : tie.Need-same-length-13 Inv-loop μ-loop
 same-length-13 c = lengths (c .before) .0
