@@ -5,26 +5,26 @@ use borrow.Author.Needs.{needs}
 use Rattle.reading_cases.proofs.show_parts.Statement.{statement}
 use Rattle.reading_cases.proofs.show_parts.Tie as tie
 
-slice-relend-prefix-show : tie.Need-slice-relend-prefix-show
-slice-relend-prefix-show c = search needs
+slice-relend-prefix-show-case : tie.Need-slice-relend-prefix-show-case
+slice-relend-prefix-show-case c = search needs
 
-slice-aggregate-show : tie.Need-slice-aggregate-show
-slice-aggregate-show c = sym (length-take-le _ _ (c .before .before .before .before .before .before .pre .0))
+slice-aggregate-show-case : tie.Need-slice-aggregate-show-case
+slice-aggregate-show-case c = sym (length-take-le _ _ (c .before .before .before .before .before .pre .0))
 
-slice-relend-prefix-show-2 : tie.Need-slice-relend-prefix-show-2
-slice-relend-prefix-show-2 c = search needs
+slice-relend-prefix-show-case-2 : tie.Need-slice-relend-prefix-show-case-2
+slice-relend-prefix-show-case-2 c = search needs
 
-slice-aggregate-show-2 : tie.Need-slice-aggregate-show-2
-slice-aggregate-show-2 c = sym (length-take-le _ _ (c .before .before .before .before .before .before .before .pre .1))
+slice-aggregate-show-case-2 : tie.Need-slice-aggregate-show-case-2
+slice-aggregate-show-case-2 c = sym (length-take-le _ _ (c .before .before .before .before .before .before .pre .1))
 
-slice-relend-prefix-show-3 : tie.Need-slice-relend-prefix-show-3
-slice-relend-prefix-show-3 c = search needs
+slice-relend-prefix-show-case-3 : tie.Need-slice-relend-prefix-show-case-3
+slice-relend-prefix-show-case-3 c = search needs
 
-slice-aggregate-show-3 : tie.Need-slice-aggregate-show-3
-slice-aggregate-show-3 c = sym (length-take-le _ _ (c .before .before .before .before .before .before .before .before .pre .2))
+slice-aggregate-show-case-3 : tie.Need-slice-aggregate-show-case-3
+slice-aggregate-show-case-3 c = sym (length-take-le _ _ (c .before .before .before .before .before .before .before .pre .2))
 
-show-requires : tie.Need-show-requires
-show-requires c κs = search needs
+show-case-requires : tie.Need-show-case-requires
+show-case-requires c κs = search needs
 
 same-length : tie.Need-same-length
 same-length c = search needs
@@ -42,13 +42,13 @@ pub show-parts-spec : {M : Type 1} → statement M
 show-parts-spec =
     tie.close
     (tie.spec
-    slice-relend-prefix-show
-    slice-aggregate-show
-    slice-relend-prefix-show-2
-    slice-aggregate-show-2
-    slice-relend-prefix-show-3
-    slice-aggregate-show-3
-    show-requires
+    slice-relend-prefix-show-case
+    slice-aggregate-show-case
+    slice-relend-prefix-show-case-2
+    slice-aggregate-show-case-2
+    slice-relend-prefix-show-case-3
+    slice-aggregate-show-case-3
+    show-case-requires
     same-length
     same-length-2
     same-length-3
