@@ -25,7 +25,7 @@ use Rattle.plan_text.specs.Limits.{largestSize, largestText, startsLengt
 use Rattle.plan_text.specs.Line.{headerOf}
 use Rattle.plan_text.specs.Judge.{judge, inRange, isLast, within, residueAt}
 use Rattle.plan_text.specs.Reading.{Entry, ReadResult, refused, accepted, ending, onward, triples, verdictOn, withSizes, fromSecond, withModulus, fromFirst, readOf}
-use Rattle.plan_text.specs.Call.{Answer, refuses, answerOf, callOf}
+use Rattle.plan_text.specs.Call.{ReadAnswer, refuses, answerOf, callOf}
 use Rattle.plan_text.proofs.WellFormed.{read-well-formed}
 
 -- ---- no refusal has the number 0
@@ -125,7 +125,7 @@ done-accepts text a b c z = go (eqb a startsLength && eqb b c) (readOf b text) r
         }
 
 -- the plan that an answer holds is well formed: its lists cut back to n + 1 starts and the entries stored
-abbrev pub FormRight : Answer → Type 0
+abbrev pub FormRight : ReadAnswer → Type 0
 FormRight x =
     wellFormed (x .result .p) (x .result .m) (take (x .result .n + 1) (x .starts)) (take (x .result .count) (x .columns)) (take (x .result .count) (x .values)) ≡ true
 

@@ -18,7 +18,7 @@ use Rattle.plan_text.specs.Limits.{startsLength}
 use Rattle.plan_text.specs.Line.{lineOf}
 use Rattle.plan_text.specs.Judge.{judge, mayStand, before}
 use Rattle.plan_text.specs.Reading.{Entry, ReadResult, refused, accepted, kept, lastRow, lastColumn, ending, onward, triples, verdictOn}
-use Rattle.plan_text.specs.Stored.{startsOf, RowsWithin, Stored, Storable}
+use Rattle.plan_text.specs.Stored.{startsOf, RowsWithin, EntriesStored, Storable}
 use Rattle.plan_text.specs.Call.{Begins, Limits, Shows}
 use Rattle.plan_text.proofs.StoredForm.{starts-none, starts-length, columns-none, values-none, columns-length, values-length}
 use Rattle.plan_text.proofs.Storing.{kept-zero, kept-more}
@@ -31,7 +31,7 @@ pub record Progress (text : List ℕ) (from : ℕ) (s : Sizes) (room : ℕ) (st 
   pub same : triples s room 3 [] (pieces 10 (drop from text)) ≡ triples s room line seen (pieces 10 (drop at text))
   pub last-a : a ≡ lastRow seen
   pub last-b : b ≡ lastColumn seen
-  pub stored : Stored a room (kept seen) count st co va
+  pub stored : EntriesStored a room (kept seen) count st co va
   pub row-limit : a ≤ s .n
   pub few : count ≤ at
   pub enough : count ≤ room
@@ -183,11 +183,11 @@ module _ {text : List ℕ} {from : ℕ} {s : Sizes} {room : ℕ} {st co va : Lis
             }
 
         pub goes-on : (st′ co′ va′ : List ℕ) (n : ℕ)
-            → (Stored a (length co) (kept (g .seen)) count st co va → Stored i (length co) (kept (entry ∷ g .seen)) n st′ co′ va′)
+            → (EntriesStored a (length co) (kept (g .seen)) count st co va → EntriesStored i (length co) (kept (entry ∷ g .seen)) n st′ co′ va′)
             → Progress text from s room st′ co′ va′ next (line + 1) i k n
         goes-on st′ co′ va′ n store =
-            let h : Stored i room (kept (entry ∷ g .seen)) n st′ co′ va′ =
-            subst (λ (r : ℕ). Stored a r (kept (g .seen)) count st co va → Stored i r (kept (entry ∷ g .seen)) n st′ co′ va′) columns-long store (g .stored) in
+            let h : EntriesStored i room (kept (entry ∷ g .seen)) n st′ co′ va′ =
+            subst (λ (r : ℕ). EntriesStored a r (kept (g .seen)) count st co va → EntriesStored i r (kept (entry ∷ g .seen)) n st′ co′ va′) columns-long store (g .stored) in
             let c = count-step entry (g .seen) room (λ z. omega (arith, g .stored .number, space z)) (omega (arith, g .stored .number, g .enough)) in
             let old = g .limits in
             record {

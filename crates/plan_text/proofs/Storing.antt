@@ -6,7 +6,7 @@ use native.Mathlib.Omega.{arith}
 use lib.ListN.{set, length-append}
 use borrow.Author.Tests.{eq-eqb, ne-eqb}
 use Rattle.plan_text.specs.Reading.{Entry, kept}
-use Rattle.plan_text.specs.Stored.{startsOf, RowsWithin, Stored}
+use Rattle.plan_text.specs.Stored.{startsOf, RowsWithin, EntriesStored}
 use Rattle.plan_text.proofs.StoredForm.{rows-wider, rows-more, starts-more, columns-more, values-more}
 
 pub kept-zero : (t : Entry) (seen : List Entry) → t .value ≡ 0 → kept (t ∷ seen) ≡ kept seen
@@ -17,19 +17,19 @@ pub kept-more : (t : Entry) (seen : List Entry) → (t .value ≡ 0 → ⊥) →
 unfolding kept
 kept-more t seen z = rw (ne-eqb (t .value) 0 z)
 
-module _ {row room count : ℕ} (seen : List Entry) {st co va : List ℕ} (h : Stored row room (kept seen) count st co va) (t : Entry) (later : row ≤ t .row) {st′ : List ℕ} (extended : st′ ≡ startsOf (t .row) (kept seen)) where
+module _ {row room count : ℕ} (seen : List Entry) {st co va : List ℕ} (h : EntriesStored row room (kept seen) count st co va) (t : Entry) (later : row ≤ t .row) {st′ : List ℕ} (extended : st′ ≡ startsOf (t .row) (kept seen)) where
   reached : RowsWithin (t .row) (kept seen)
   reached = rows-wider row (t .row) (kept seen) later (h .rows)
 
-  pub stored-zero : t .value ≡ 0 → Stored (t .row) room (kept (t ∷ seen)) count st′ co va
+  pub stored-zero : t .value ≡ 0 → EntriesStored (t .row) room (kept (t ∷ seen)) count st′ co va
   stored-zero z =
-      subst (λ (es : List Entry). Stored (t .row) room es count st′ co va) (sym (kept-zero t seen z))
+      subst (λ (es : List Entry). EntriesStored (t .row) room es count st′ co va) (sym (kept-zero t seen z))
       (record { rows = reached; number = h .number; starts-are = extended; columns-are = h .columns-are; values-are = h .values-are })
 
   pub stored-more : (t .value ≡ 0 → ⊥) → 1 ≤ t .row → count < room → (at : ℕ) → at ≡ count
-      → Stored (t .row) room (kept (t ∷ seen)) (count + 1) (set st′ (t .row) (count + 1)) (set co at (t .column - 1)) (set va at (t .value))
+      → EntriesStored (t .row) room (kept (t ∷ seen)) (count + 1) (set st′ (t .row) (count + 1)) (set co at (t .column - 1)) (set va at (t .value))
   stored-more z one space at e =
-      subst (λ (es : List Entry). Stored (t .row) room es (count + 1) (set st′ (t .row) (count + 1)) (set co at (t .column - 1)) (set va at (t .value))) (sym (kept-more t seen z))
+      subst (λ (es : List Entry). EntriesStored (t .row) room es (count + 1) (set st′ (t .row) (count + 1)) (set co at (t .column - 1)) (set va at (t .value))) (sym (kept-more t seen z))
       (record {
         rows = rows-more (kept seen) t reached one;
         number = ap (λ (k : ℕ). k + 1) (h .number) ∙ sym (length-append (kept seen) (t ∷ []));

@@ -1,5 +1,5 @@
 -- A call's answer, and what its steps start from and come to.
---   Answer              what a call returns and leaves in the lent lists
+--   ReadAnswer          what a call returns and leaves in the lent lists
 --   refusalOf c d       what a refusal returns: its number and detail, and 0 for all else
 --   refuses c d ..      the answer that is a refusal: all lists cleared
 --   answerOf room o     the answer for a text that is read as o
@@ -19,7 +19,7 @@ use Rattle.residue.specs.Range.{isModulus}
 use Rattle.fields.specs.Pieces.{pieces}
 use Rattle.plan_text.specs.Limits.{largestSize, largestText, startsLength}
 use Rattle.plan_text.specs.Reading.{Entry, kept, ReadResult, refused, accepted, lastRow, triples, readOf}
-use Rattle.plan_text.specs.Stored.{startsOf, columnsOf, valuesOf, Stored}
+use Rattle.plan_text.specs.Stored.{startsOf, columnsOf, valuesOf, EntriesStored}
 use Rattle.plan_text.specs.declared.Reading.{Reading}
 use Rattle.plan_text.specs.declared.judge.Sizes.{Sizes}
 use Rattle.plan_text.specs.declared.opening.Opening.{Opening}
@@ -27,7 +27,7 @@ use Rattle.plan_text.specs.declared.opening.Opening.the-variants.{Refuse
 use Rattle.plan_text.specs.declared.triples.TripleLines.{TripleLines}
 use Rattle.plan_text.specs.declared.triples.TripleLines.the-variants.{Refused, Read}
 
-pub record Answer : Type 0 where
+pub record ReadAnswer : Type 0 where
   pub result : Reading
   pub starts : List ℕ
   pub columns : List ℕ
@@ -36,10 +36,10 @@ pub record Answer : Type 0 where
 abbrev pub refusalOf : ℕ → ℕ → Reading
 refusalOf c d = record { number = c; detail = d; p = 0; n = 0; m = 0; count = 0 }
 
-abbrev pub refuses : ℕ → ℕ → ℕ → ℕ → ℕ → Answer
+abbrev pub refuses : ℕ → ℕ → ℕ → ℕ → ℕ → ReadAnswer
 refuses c d a b k = record { result = refusalOf c d; starts = zeros a; columns = zeros b; values = zeros k }
 
-unfoldable pub answerOf : ℕ → ReadResult → Answer
+unfoldable pub answerOf : ℕ → ReadResult → ReadAnswer
 answerOf room (refused c d) = refuses c d startsLength room room
 answerOf room (accepted s seen) =
     let es : List Entry = kept seen in
@@ -50,10 +50,10 @@ answerOf room (accepted s seen) =
       values = valuesOf room es;
     }
 
-unfoldable pub callOf : List ℕ → ℕ → ℕ → ℕ → Answer
+unfoldable pub callOf : List ℕ → ℕ → ℕ → ℕ → ReadAnswer
 callOf text a b c = cond (eqb a startsLength && eqb b c) (answerOf b (readOf b text)) (refuses 9 0 a b c)
 
-pub record Gives (x : Answer) (r : Reading) (starts columns values : List ℕ) : Type 0 where
+pub record Gives (x : ReadAnswer) (r : Reading) (starts columns values : List ℕ) : Type 0 where
   pub result-is : r ≡ x .result
   pub starts-are : starts ≡ x .starts
   pub columns-are : columns ≡ x .columns
@@ -81,7 +81,7 @@ pub record Begins (text : List ℕ) (from : ℕ) (s : Sizes) (starts columns val
 abbrev pub Shows : ℕ → ReadResult → TripleLines → List ℕ → List ℕ → List ℕ → Type 0
 Shows room (refused c k) r starts columns values = r ≡ Refused c k
 Shows room (accepted s seen) r starts columns values =
-    (r ≡ Read (length (kept seen)) (lastRow seen)) × Stored (lastRow seen) room (kept seen) (length (kept seen)) starts columns values × (lastRow seen ≤ s .n)
+    (r ≡ Read (length (kept seen)) (lastRow seen)) × EntriesStored (lastRow seen) room (kept seen) (length (kept seen)) starts columns values × (lastRow seen ≤ s .n)
 
 -- ---- the first two lines
 pub record Second (text : List ℕ) (at p : ℕ) : Type 0 where

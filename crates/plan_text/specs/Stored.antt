@@ -3,7 +3,7 @@
 --   startsOf n es            the row starts of n rows, zero past them
 --   columnsOf, valuesOf      the columns and the values, zero past the last entry
 --   RowsWithin n es          every entry stands in a row from 1 to n
---   Stored n room es ..      the lists, with room for so many entries, hold the entries es, all in the first n rows
+--   EntriesStored n room es ..   the lists, with room for so many entries, hold the entries es, all in the first n rows
 --   Storable ..              the lists have room for the entry v at i and j, after the row given
 use Prim.Native.Nat.{ℕ, _+_, _-_, _^_, _≤_, _<_}
 use mathlib.Core.Path.{_≡_}
@@ -33,7 +33,7 @@ unfoldable pub RowsWithin : ℕ → List Entry → Type 0
 RowsWithin n [] = Unit {0}
 RowsWithin n (t ∷ ts) = (1 ≤ t .row) × (t .row ≤ n) × RowsWithin n ts
 
-pub record Stored (n room : ℕ) (es : List Entry) (count : ℕ) (starts columns values : List ℕ) : Type 0 where
+pub record EntriesStored (n room : ℕ) (es : List Entry) (count : ℕ) (starts columns values : List ℕ) : Type 0 where
   pub rows : RowsWithin n es
   pub number : count ≡ length es
   pub starts-are : starts ≡ startsOf n es

@@ -5,7 +5,7 @@ ghost use Prim.Native.Nat.{_≤_, _<_};
 ghost use lib.ListN.{length};
 ghost use Rattle.plan_text.specs.Limits.{startsLength};
 ghost use Rattle.plan_text.specs.Reading.{Entry, kept};
-ghost use Rattle.plan_text.specs.Stored.{RowsWithin, startsOf, Stored, Storable};
+ghost use Rattle.plan_text.specs.Stored.{RowsWithin, startsOf, EntriesStored, Storable};
 
 // The starts after the rows `from` + 1 to `to`, which have no entry: all entries stand before them.
 pub fn extend_starts(starts: &mut [u32], from: usize, to: usize, count: u32)
@@ -31,7 +31,7 @@ pub fn store(
     v: u32,
 ) -> u32
     requires { ⌜ Storable (length (now starts)) (length (now columns)) (length (now values)) count row i j v ⌝ }
-    ensures { λ r. ⌜ ((seen : List Entry) → Stored row (length (now (columns .entry))) (kept seen) count (now (starts .entry)) (now (columns .entry)) (now (values .entry)) → Stored i (length (now (columns .entry))) (kept (record { row = i; column = j; value = v } ∷ seen)) r (now (starts .exit)) (now (columns .exit)) (now (values .exit))) ⌝ }
+    ensures { λ r. ⌜ ((seen : List Entry) → EntriesStored row (length (now (columns .entry))) (kept seen) count (now (starts .entry)) (now (columns .entry)) (now (values .entry)) → EntriesStored i (length (now (columns .entry))) (kept (record { row = i; column = j; value = v } ∷ seen)) r (now (starts .exit)) (now (columns .exit)) (now (values .exit))) ⌝ }
 {
     let top = i as usize;
     extend_starts(starts, row as usize, top, count);
