@@ -1,0 +1,62 @@
+use Rattle.certificate.proofs.header.starts_with.Statement.{statement}
+use Rattle.certificate.proofs.header.starts_with.Tie as tie
+use Rattle.certificate.proofs.header.starts_with.Reads as reads
+use Rattle.certificate.proofs.header.starts_with.Lts as lts
+
+abbrev Inv-loop : tie.InvT-loop
+Inv-loop s start i₀ i = ?
+
+abbrev μ-loop : tie.MeasureT-loop
+μ-loop s start i₀ i = ?
+
+-- src/header.rt:14:5
+loop-holds : tie.Need-loop-holds Inv-loop μ-loop
+loop-holds c = ?
+
+-- src/header.rt:16:13
+returns : tie.Need-returns Inv-loop μ-loop
+returns c = ?
+
+-- src/header.rt:18:12
+shared-slice-read-if2 : tie.Need-shared-slice-read-if2 Inv-loop μ-loop
+shared-slice-read-if2 c = ?
+
+-- src/header.rt:18:20
+shared-slice-read-if2-2 : tie.Need-shared-slice-read-if2-2 Inv-loop μ-loop
+shared-slice-read-if2-2 c = ?
+
+-- src/header.rt:19:13
+returns-2 : tie.Need-returns-2 Inv-loop μ-loop
+returns-2 c = ?
+
+-- src/header.rt:21:9
+add-i : tie.Need-add-i Inv-loop μ-loop
+add-i c = ?
+
+-- src/header.rt:14:5
+loop-less : tie.Need-loop-less Inv-loop μ-loop
+loop-less c = ?
+
+-- src/header.rt:14:5
+loop-again : tie.Need-loop-again Inv-loop μ-loop
+loop-again c = ?
+
+-- src/header.rt:10:1
+returns-3 : tie.Need-returns-3 Inv-loop μ-loop
+returns-3 c = ?
+
+pub starts-with-spec : {M : Type 1} → statement M
+starts-with-spec =
+    tie.close
+    (tie.spec
+    Inv-loop
+    μ-loop
+    loop-holds
+    returns
+    shared-slice-read-if2
+    shared-slice-read-if2-2
+    returns-2
+    add-i
+    loop-less
+    loop-again
+    returns-3)

@@ -1,0 +1,75 @@
+use borrow.Author.Needs.{needs}
+use Rattle.certificate.proofs.writer.put_word.Statement.{statement}
+use Rattle.certificate.proofs.writer.put_word.Tie as tie
+use Rattle.certificate.proofs.writer.put_word.Reads as reads
+use Rattle.certificate.proofs.writer.put_word.Lts as lts
+
+-- src/writer.rt:19:18
+cast-buffer : tie.Need-cast-buffer
+cast-buffer c = search needs
+
+-- src/writer.rt:19:5
+slice-write-buffer : tie.Need-slice-write-buffer
+slice-write-buffer c = search needs
+
+-- src/writer.rt:20:22
+cast-buffer-2 : tie.Need-cast-buffer-2
+cast-buffer-2 c = search needs
+
+-- src/writer.rt:20:12
+add-buffer : tie.Need-add-buffer
+add-buffer c = search needs
+
+-- src/writer.rt:20:5
+slice-write-buffer-2 : tie.Need-slice-write-buffer-2
+slice-write-buffer-2 c = ?
+
+-- src/writer.rt:21:22
+cast-buffer-3 : tie.Need-cast-buffer-3
+cast-buffer-3 c = search needs
+
+-- src/writer.rt:21:12
+add-buffer-2 : tie.Need-add-buffer-2
+add-buffer-2 c = search needs
+
+-- src/writer.rt:21:5
+slice-write-buffer-3 : tie.Need-slice-write-buffer-3
+slice-write-buffer-3 c = ?
+
+-- src/writer.rt:22:22
+cast-buffer-4 : tie.Need-cast-buffer-4
+cast-buffer-4 c = search needs
+
+-- src/writer.rt:22:12
+add-buffer-3 : tie.Need-add-buffer-3
+add-buffer-3 c = search needs
+
+-- src/writer.rt:22:5
+slice-write-buffer-4 : tie.Need-slice-write-buffer-4
+slice-write-buffer-4 c = ?
+
+-- src/writer.rt:15:1
+same-length : tie.Need-same-length
+same-length c = search needs
+
+-- src/writer.rt:15:1
+returns : tie.Need-returns
+returns c = ?
+
+pub put-word-spec : {M : Type 1} → statement M
+put-word-spec =
+    tie.close
+    (tie.spec
+    cast-buffer
+    slice-write-buffer
+    cast-buffer-2
+    add-buffer
+    slice-write-buffer-2
+    cast-buffer-3
+    add-buffer-2
+    slice-write-buffer-3
+    cast-buffer-4
+    add-buffer-3
+    slice-write-buffer-4
+    same-length
+    returns)

@@ -1,0 +1,65 @@
+// The parts of a certificate: the numbers of its header, and where the lists of its set stand.
+ghost use mathlib.Core.Path.{_≡_};
+ghost use Prim.Native.Nat.{_≤_, _<_};
+ghost use lib.ListN.{length};
+ghost use Rattle.certificate.specs.Reading.{field, placesOf, placesIn};
+use lists::index;
+use sparse::words::word;
+
+// The byte at which each list begins, and the one after the last list: R, C, then starts, columns and values of L and of U.
+pub struct Places {
+    pub rows: usize,
+    pub cols: usize,
+    pub lstarts: usize,
+    pub lcols: usize,
+    pub lvals: usize,
+    pub ustarts: usize,
+    pub ucols: usize,
+    pub uvals: usize,
+    pub end: usize,
+}
+
+// The places, by the sizes of a set: each list follows the one before.
+pub fn places_of(n: u32, m: u32, r: u32, lcount: u32, ucount: u32) -> Places
+    ensures { λ q. ⌜ q ≡ placesOf n m r lcount ucount ⌝ }
+{
+    let rows = 29;
+    let cols = rows + 4 * index(n);
+    let lstarts = cols + 4 * index(m);
+    let lcols = lstarts + 4 * (index(n) + 1);
+    let lvals = lcols + 4 * index(lcount);
+    let ustarts = lvals + 4 * index(lcount);
+    let ucols = ustarts + 4 * (index(r) + 1);
+    let uvals = ucols + 4 * index(ucount);
+    let end = uvals + 4 * index(ucount);
+    Places {
+        rows,
+        cols,
+        lstarts,
+        lcols,
+        lvals,
+        ustarts,
+        ucols,
+        uvals,
+        end,
+    }
+}
+
+// The header's number k: p, n, m, r, the entry counts of L and U.
+pub fn number(cert: &[u8], k: usize) -> u32
+    requires { ⌜ (k < 6) × (29 ≤ length (now cert)) ⌝ }
+    ensures { λ r. ⌜ r ≡ field (now (cert .entry)) k ⌝ }
+{
+    word(&[], &cert[5..], k)
+}
+
+// The places in a certificate for an n by m matrix, by the rank and the entry counts in its own header.
+pub fn places_in(cert: &[u8], n: u32, m: u32) -> Places
+    requires { ⌜ 29 ≤ length (now cert) ⌝ }
+    ensures { λ q. ⌜ q ≡ placesIn n m (now (cert .entry)) ⌝ }
+{
+    let r = number(cert, 3);
+    let lcount = number(cert, 4);
+    let ucount = number(cert, 5);
+    places_of(n, m, r, lcount, ucount)
+}
