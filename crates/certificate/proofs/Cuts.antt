@@ -4,14 +4,18 @@ use mathlib.Core.List.{List, [], _++_, append-assoc}
 use Prim.Native.Nat.{ℕ, _+_, _*_, _-_}
 use native.Mathlib.Omega.{arith}
 use native.Mathlib.Nat.{min-zero, sub-zero}
-use lib.ListN.{length, take, drop, take-append-drop}
-use lib.Seq.{slice, take-at, drop-at, drop-drop}
+use lib.ListN.{length, take, drop, length-drop, take-append-drop}
+use lib.Seq.{slice, take-all, take-at, drop-at, drop-drop}
 use Rattle.lists.proofs.Steps.{drop-take}
 use Rattle.sparse.specs.Words.{words, view}
 use Rattle.sparse.specs.Matrix.{Compressed, compressed}
 use Rattle.sparse.proofs.Parts.{view-cut}
 use Rattle.certificate.specs.Layout.{factorNumbers}
 use Rattle.certificate.specs.Reading.{numbers, numbersIn}
+
+-- a part up to the end
+pub part-end : (cert : List ℕ) (k : ℕ) → take (length cert - k) (drop k cert) ≡ drop k cert
+part-end cert k = take-all (length cert - k) (drop k cert) (let e : length (drop k cert) ≡ length cert - k = length-drop k cert in omega arith)
 
 words-part : (b : List ℕ) (a e : ℕ) → words (take (4 * e - 4 * a) (drop (4 * a) b)) ≡ slice a e (words b)
 unfolding view

@@ -1,6 +1,9 @@
 pub mod Bounds
 pub mod Bytes
+pub mod Lengths
 pub mod Cuts
 pub mod Beginnings
 pub mod ReadBack
 pub mod Passed
+pub mod Storing
+pub mod Rooms

@@ -16,7 +16,8 @@ use Rattle.sparse.specs.Set.{Set, setOf}
 use Rattle.certificate.specs.Layout.{bytes, mark, version, headerNumbers, factorNumbers, numbersOf, certificateOf, Sized}
 use Rattle.certificate.specs.Reading.{placesOf, certificateLength, numbers, field, numbersIn, setIn, setOfCertificate, begins, lengthOk, sizesOk, headerOk}
 use Rattle.certificate.proofs.Bounds.{below-none, below-cons, below-append}
-use Rattle.certificate.proofs.Bytes.{length-bytes, words-bytes}
+use Rattle.certificate.proofs.Bytes.{words-bytes}
+use Rattle.certificate.proofs.Lengths.{length-certificate}
 use Rattle.certificate.proofs.Cuts.{reads-here, reads-next, factor-here, factor-next}
 
 -- ---- every number is below a bound if each list's are
@@ -41,24 +42,6 @@ module _ (b p n m : ℕ) (s : Set) where
       below-append b (headerNumbers p n m (s .r) (length (s .L .cols)) (length (s .U .cols))) (s .R ++ (s .C ++ f))
       (header-below b p n m (s .r) (length (s .L .cols)) (length (s .U .cols)) hp hn hm hr hl hu)
       (below-append b (s .R) (s .C ++ f) x (below-append b (s .C) f y (below-append b (factorNumbers (s .L)) (factorNumbers (s .U)) z w)))
-
--- ---- the length
-
-length-factor : (h : Compressed) → length (factorNumbers h) ≡ length (h .starts) + (length (h .cols) + length (h .vals))
-unfolding factorNumbers
-length-factor h = length-append (h .starts) (h .cols ++ h .vals) ∙ ap (λ (k : ℕ). length (h .starts) + k) (length-append (h .cols) (h .vals))
-
-length-lists : (s : Set) → length (s .R ++ (s .C ++ (factorNumbers (s .L) ++ factorNumbers (s .U))))
-    ≡ length (s .R) + (length (s .C) + (length (factorNumbers (s .L)) + length (factorNumbers (s .U))))
-length-lists s =
-    length-append (s .R) (s .C ++ (factorNumbers (s .L) ++ factorNumbers (s .U)))
-    ∙ ap (λ (k : ℕ). length (s .R) + k) (length-append (s .C) (factorNumbers (s .L) ++ factorNumbers (s .U))
-    ∙ ap (λ (k : ℕ). length (s .C) + k) (length-append (factorNumbers (s .L)) (factorNumbers (s .U))))
-
-pub length-certificate : (p n m : ℕ) (s : Set) → Sized n m s → length (certificateOf p n m s) ≡ certificateLength n m (s .r) (length (s .L .cols)) (length (s .U .cols))
-unfolding certificateOf mark version numbersOf placesOf
-length-certificate p n m s z =
-    omega (arith, length-bytes (numbersOf p n m s), length-lists s, length-factor (s .L), length-factor (s .U), z .row-order, z .column-order, z .lower-starts, z .lower-values, z .upper-starts, z .upper-values)
 
 -- ---- reading back
 

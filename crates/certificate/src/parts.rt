@@ -23,15 +23,20 @@ pub struct Places {
 pub fn places_of(n: u32, m: u32, r: u32, lcount: u32, ucount: u32) -> Places
     ensures { λ q. ⌜ q ≡ placesOf n m r lcount ucount ⌝ }
 {
+    let height = index(n);
+    let width = index(m);
+    let rank = index(r);
+    let lower = index(lcount);
+    let upper = index(ucount);
     let rows = 29;
-    let cols = rows + 4 * index(n);
-    let lstarts = cols + 4 * index(m);
-    let lcols = lstarts + 4 * (index(n) + 1);
-    let lvals = lcols + 4 * index(lcount);
-    let ustarts = lvals + 4 * index(lcount);
-    let ucols = ustarts + 4 * (index(r) + 1);
-    let uvals = ucols + 4 * index(ucount);
-    let end = uvals + 4 * index(ucount);
+    let cols = rows + 4 * height;
+    let lstarts = cols + 4 * width;
+    let lcols = lstarts + 4 * (height + 1);
+    let lvals = lcols + 4 * lower;
+    let ustarts = lvals + 4 * lower;
+    let ucols = ustarts + 4 * (rank + 1);
+    let uvals = ucols + 4 * upper;
+    let end = uvals + 4 * upper;
     Places {
         rows,
         cols,

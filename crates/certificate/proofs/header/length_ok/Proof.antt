@@ -1,3 +1,9 @@
+use Prim.Native.Nat.{ℕ}
+use mathlib.Core.Path.{_≡_, _∙_, ap}
+use lib.ListN.{length}
+use lib.Dec.{eqb}
+use Rattle.certificate.specs.Reading.{placesIn, lengthOk}
+use Rattle.certificate.specs.declared.parts.Places.{Places}
 use borrow.Author.Needs.{needs}
 use Rattle.certificate.proofs.header.length_ok.Statement.{statement}
 use Rattle.certificate.proofs.header.length_ok.Tie as tie
@@ -20,7 +26,9 @@ places-in-requires c κs = search needs
 
 -- src/header.rt:27:1
 returns : tie.Need-returns
-returns c = ?
+unfolding lengthOk
+returns c = let cert = c .before .before .before .before .before .args .cert .now in
+    ap (λ (q : Places). eqb (q .end) (length cert)) (c .before .places-in .ensures ∙ (λ j. placesIn (c .before .before .before .number .ensures j) (c .before .before .number2 .ensures j) cert))
 
 pub length-ok-spec : {M : Type 1} → statement M
 length-ok-spec = tie.close (tie.spec number-requires number-requires-2 places-in-requires returns)

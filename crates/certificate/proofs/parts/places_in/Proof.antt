@@ -1,3 +1,5 @@
+use mathlib.Core.Path.{_≡_, _∙_}
+use Rattle.certificate.specs.Reading.{placesOf}
 use borrow.Author.Needs.{needs}
 use Rattle.certificate.proofs.parts.places_in.Statement.{statement}
 use Rattle.certificate.proofs.parts.places_in.Tie as tie
@@ -24,7 +26,8 @@ places-of-requires c κs = search needs
 
 -- src/parts.rt:57:1
 returns : tie.Need-returns
-returns c = ?
+returns c = let s = c .before .before .before .before .before in
+    c .places-of .ensures ∙ (λ j. placesOf (s .args .n) (s .args .m) (c .before .before .before .number .ensures j) (c .before .before .number2 .ensures j) (c .before .number3 .ensures j))
 
 pub places-in-spec : {M : Type 1} → statement M
 places-in-spec =

@@ -1,3 +1,8 @@
+use mathlib.Core.List.{_++_}
+use native.Mathlib.Omega.{arith}
+use Rattle.certificate.specs.Layout.{factorNumbers}
+use Rattle.certificate.proofs.Bytes.{length-bytes}
+use Rattle.certificate.proofs.Storing.{stored-length, numbers-then}
 use borrow.Author.Needs.{needs}
 use Rattle.certificate.proofs.writer.put_factor.Statement.{statement}
 use Rattle.certificate.proofs.writer.put_factor.Tie as tie
@@ -11,11 +16,13 @@ put-words-requires c κs = search needs
 
 -- src/writer.rt:72:9
 put-words-requires-2 : tie.Need-put-words-requires-2
-put-words-requires-2 c κs = ?
+put-words-requires-2 c κs = let s = c .before .before .before .before .before .before .before .before .before in let w = c .before .before .before .put-words .ensures in
+    omega (arith, s .pre, w .next-is, stored-length w, length-bytes (s .args .starts .now))
 
 -- src/writer.rt:73:5
 put-words-requires-3 : tie.Need-put-words-requires-3
-put-words-requires-3 c κs = ?
+put-words-requires-3 c κs = let s = c .before .before .before .before .before .before .before .before .before .before .before .before .before in let w = c .before .before .before .before .before .before .before .put-words .ensures in let v = c .before .before .before .put-words2 .ensures in
+    omega (arith, s .pre, w .next-is, stored-length w, v .next-is, stored-length v, length-bytes (s .args .starts .now), length-bytes (s .args .cols .now))
 
 -- src/writer.rt:67:1
 same-length : tie.Need-same-length
@@ -23,7 +30,10 @@ same-length c = search needs
 
 -- src/writer.rt:67:1
 returns : tie.Need-returns
-returns c = ?
+unfolding factorNumbers
+returns c = let s = c .before .before .before .before .before .before .before .before .before .before .before .before .before .before .before .before in
+    numbers-then (s .args .starts .now) (s .args .cols .now ++ s .args .vals .now) (c .before .before .before .before .before .before .before .before .before .before .put-words .ensures)
+    (numbers-then (s .args .cols .now) (s .args .vals .now) (c .before .before .before .before .before .before .put-words2 .ensures) (c .before .before .put-words3 .ensures))
 
 pub put-factor-spec : {M : Type 1} → statement M
 put-factor-spec =

@@ -1,3 +1,5 @@
+use Rattle.certificate.specs.Layout.{mark, version}
+use Rattle.certificate.proofs.Storing.{stored-then}
 use borrow.Author.Needs.{needs}
 use Rattle.certificate.proofs.writer.put_header.Statement.{statement}
 use Rattle.certificate.proofs.writer.put_header.Tie as tie
@@ -36,7 +38,8 @@ same-length c = search needs
 
 -- src/writer.rt:56:1
 returns : tie.Need-returns
-returns c = ?
+unfolding mark version
+returns c = stored-then (c .before .before .before .before .before .before .before .before .before .before .before .before .put-bytes .ensures) (stored-then (c .before .before .before .before .before .before .before .put-bytes2 .ensures) (c .before .before .put-words .ensures))
 
 pub put-header-spec : {M : Type 1} → statement M
 put-header-spec =
