@@ -7,3 +7,6 @@ pub mod ReadBack
 pub mod Passed
 pub mod Storing
 pub mod Rooms
+pub mod Views
+pub mod Counts
+pub mod Example
