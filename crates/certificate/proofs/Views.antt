@@ -1,9 +1,8 @@
 -- For a caller that hands on the parts of a certificate as slices: each lies inside the certificate, and together they mean its set.
 --   part-view       the list that a part means is the numbers that stand there
---   places-fit      the places rise, and the last is the certificate's end
+--   located         the places rise, and the last is the certificate's end
 --   set-of-parts    the set that the eight parts mean, each with an empty stored list, is the set that the certificate holds
-use mathlib.Core.Path.{_≡_, sym, ap, subst, _∙_}
-use mathlib.Core.Bool.{true}
+use mathlib.Core.Path.{_≡_, refl, sym, ap, subst, _∙_}
 use mathlib.Core.List.{List, []}
 use Prim.Native.Nat.{ℕ, _-_, _≤_}
 use native.Mathlib.Omega.{arith}
@@ -12,9 +11,8 @@ use Rattle.lists.proofs.Steps.{drop-take}
 use Rattle.sparse.specs.Words.{words, view}
 use Rattle.sparse.specs.Matrix.{compressed, viewed}
 use Rattle.sparse.specs.Set.{Set, setOf}
-use Rattle.certificate.specs.Reading.{placesOf, placesIn, field, numbersIn, setIn, setOfCertificate, headerOk}
+use Rattle.certificate.specs.Reading.{placesOf, placesIn, field, Located, numbersIn, setIn, setOfCertificate}
 use Rattle.certificate.specs.declared.parts.Places.{Places}
-use Rattle.certificate.proofs.Passed.{headed}
 
 -- the bytes from a up to e, as code takes them
 abbrev pub part : List ℕ → ℕ → ℕ → List ℕ
@@ -24,38 +22,32 @@ pub part-view : (cert : List ℕ) (a e : ℕ) → view [] (part cert a e) ≡ nu
 unfolding view
 part-view cert a e = ap words (sym (drop-take a e cert))
 
-pub record Rising (q : Places) (end : ℕ) : Type 0 where
-  pub header : 29 ≤ end
-  pub rows : q .rows ≤ q .cols
-  pub cols : q .cols ≤ q .lstarts
-  pub lstarts : q .lstarts ≤ q .lcols
-  pub lcols : q .lcols ≤ q .lvals
-  pub lvals : q .lvals ≤ q .ustarts
-  pub ustarts : q .ustarts ≤ q .ucols
-  pub ucols : q .ucols ≤ q .uvals
-  pub uvals : q .uvals ≤ q .end
-  pub last : q .end ≡ end
+-- the places of a certificate of the right length
+module _ (n m : ℕ) (cert : List ℕ) (h : length cert ≡ placesIn n m cert .end) where
+  pub header-fits : 29 ≤ length cert
+  unfolding placesOf
+  header-fits = omega arith
 
-rising : (n m r l u end : ℕ) → end ≡ placesOf n m r l u .end → Rising (placesOf n m r l u) end
-unfolding placesOf
-rising n m r l u end h =
-    record {
-      header = omega arith;
-      rows = omega arith;
-      cols = omega arith;
-      lstarts = omega arith;
-      lcols = omega arith;
-      lvals = omega arith;
-      ustarts = omega arith;
-      ucols = omega arith;
-      uvals = omega arith;
-      last = sym h;
-    }
+  located-here : Located n m cert (placesIn n m cert)
+  unfolding placesOf
+  located-here =
+      record {
+        is = refl;
+        rows = omega arith;
+        cols = omega arith;
+        lstarts = omega arith;
+        lcols = omega arith;
+        lvals = omega arith;
+        ustarts = omega arith;
+        ucols = omega arith;
+        uvals = omega arith;
+        end = sym h;
+      }
 
-module _ (p n m : ℕ) (cert : List ℕ) (q : Places) (e : q ≡ placesIn n m cert) where
-  pub places-fit : headerOk p n m cert ≡ true → Rising q (length cert)
-  places-fit t = subst (λ (x : Places). Rising x (length cert)) (sym e) (rising n m (field cert 3) (field cert 4) (field cert 5) (length cert) (headed p n m cert t .long))
+  pub located : (q : Places) → q ≡ placesIn n m cert → Located n m cert q
+  located q e = subst (Located n m cert) (sym e) located-here
 
+module _ (n m : ℕ) (cert : List ℕ) (q : Places) (e : q ≡ placesIn n m cert) where
   pub set-of-parts : (r : ℕ) → r ≡ field cert 3
       → setOf r
       (view [] (part cert (q .rows) (q .cols)))

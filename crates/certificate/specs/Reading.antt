@@ -4,13 +4,15 @@
 --   numbers cert                   the numbers after mark and version
 --   field cert k                   number k of them: p, n, m, the rank, the entry counts of L and U
 --   placesIn n m cert              the places of a certificate's lists, by the rank and the entry counts in its own header
+--   Located n m cert q             q are these places, and every list lies inside the certificate
 --   numbersIn cert a e             the numbers that stand from byte a up to byte e
 --   setIn cert q r                 the set of rank r whose lists stand at the places q
 --   setOfCertificate n m cert      the set that a certificate holds
 --   begins xs cert                 the bytes begin with xs
 --   lengthOk, sizesOk              the length is the one that the header's own numbers give; p, n and m are those of the matrix
 --   headerOk p n m cert            mark, version, length and sizes are right (else refusal 10)
-use Prim.Native.Nat.{ℕ, _+_, _*_}
+use Prim.Native.Nat.{ℕ, _+_, _*_, _≤_}
+use mathlib.Core.Path.{_≡_}
 use mathlib.Core.Bool.{Bool, true, false, _&&_}
 use mathlib.Core.List.{List, [], _∷_}
 use lib.Dec.{eqb}
@@ -47,6 +49,18 @@ field cert k = getD (numbers cert) k 0
 
 abbrev pub placesIn : ℕ → ℕ → List ℕ → Places
 placesIn n m cert = placesOf n m (field cert 3) (field cert 4) (field cert 5)
+
+pub record Located (n m : ℕ) (cert : List ℕ) (q : Places) : Type 0 where
+  pub is : q ≡ placesIn n m cert
+  pub rows : q .rows ≤ q .cols
+  pub cols : q .cols ≤ q .lstarts
+  pub lstarts : q .lstarts ≤ q .lcols
+  pub lcols : q .lcols ≤ q .lvals
+  pub lvals : q .lvals ≤ q .ustarts
+  pub ustarts : q .ustarts ≤ q .ucols
+  pub ucols : q .ucols ≤ q .uvals
+  pub uvals : q .uvals ≤ q .end
+  pub end : q .end ≡ length cert
 
 abbrev pub numbersIn : List ℕ → ℕ → ℕ → List ℕ
 numbersIn cert a e = words (slice a e cert)

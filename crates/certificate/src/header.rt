@@ -4,7 +4,7 @@ ghost use Prim.Native.Nat.{_≤_};
 ghost use lib.ListN.{length};
 ghost use Rattle.certificate.specs.Reading.{begins, lengthOk, sizesOk, headerOk};
 use crate::parts::number;
-use crate::parts::places_in;
+use crate::parts::places_of;
 
 // Whether s begins with the bytes of start.
 fn starts_with(s: &[u8], start: &[u8]) -> bool
@@ -30,7 +30,10 @@ fn length_ok(cert: &[u8]) -> bool
 {
     let n = number(cert, 1);
     let m = number(cert, 2);
-    let places = places_in(cert, n, m);
+    let r = number(cert, 3);
+    let lcount = number(cert, 4);
+    let ucount = number(cert, 5);
+    let places = places_of(n, m, r, lcount, ucount);
     places.end == cert.len()
 }
 

@@ -2,7 +2,7 @@
 ghost use mathlib.Core.Path.{_≡_};
 ghost use Prim.Native.Nat.{_≤_, _<_};
 ghost use lib.ListN.{length};
-ghost use Rattle.certificate.specs.Reading.{field, placesOf, placesIn};
+ghost use Rattle.certificate.specs.Reading.{field, placesOf, placesIn, Located};
 use lists::index;
 use sparse::words::word;
 
@@ -58,10 +58,10 @@ pub fn number(cert: &[u8], k: usize) -> u32
     word(&[], &cert[5..], k)
 }
 
-// The places in a certificate for an n by m matrix, by the rank and the entry counts in its own header.
+// The places in a certificate that has the right length for an n by m matrix and the rank and entry counts of its header.
 pub fn places_in(cert: &[u8], n: u32, m: u32) -> Places
-    requires { ⌜ 29 ≤ length (now cert) ⌝ }
-    ensures { λ q. ⌜ q ≡ placesIn n m (now (cert .entry)) ⌝ }
+    requires { ⌜ length (now cert) ≡ placesIn n m (now cert) .end ⌝ }
+    ensures { λ q. ⌜ Located n m (now (cert .entry)) q ⌝ }
 {
     let r = number(cert, 3);
     let lcount = number(cert, 4);
