@@ -6,7 +6,7 @@ use native.Mathlib.Omega.{arith}
 use lib.ListN.{length, length-append}
 use Rattle.sparse.specs.Matrix.{Compressed}
 use Rattle.sparse.specs.Set.{Set}
-use Rattle.certificate.specs.Layout.{bytes, mark, version, factorNumbers, numbersOf, certificateOf, Sized}
+use Rattle.certificate.specs.Layout.{mark, version, factorNumbers, numbersOf, certificateOf, Sized}
 use Rattle.certificate.specs.Reading.{placesOf, certificateLength}
 use Rattle.certificate.proofs.Bytes.{length-bytes}
 

@@ -4,8 +4,8 @@
 --   passed-small         the numbers of that set are below 2 ^ 32
 --   passed-is-written    it is the certificate of the set that it holds
 use mathlib.Core.Path.{_≡_, refl, sym, ap, subst, _∙_}
-use mathlib.Core.Bool.{Bool, true, false, _&&_}
-use mathlib.Core.List.{List, [], _∷_, _++_, append-nil}
+use mathlib.Core.Bool.{Bool, true, false}
+use mathlib.Core.List.{List, _∷_, _++_, append-nil}
 use Prim.Native.Nat.{ℕ, _+_, _*_, _-_, _/_, _≤_, _<_, _^_}
 use native.Mathlib.Omega.{arith}
 use lib.Dec.{eqb}
@@ -14,11 +14,9 @@ use lib.Seq.{drop-drop, drop-cons, slice, length-slice}
 use borrow.Author.Tests.{eqb-true}
 use Rattle.lists.proofs.Bools.{and-left, and-right}
 use Rattle.sparse.specs.Row.{Below}
-use Rattle.sparse.specs.Words.{words}
-use Rattle.sparse.specs.Set.{Set}
 use Rattle.sparse.proofs.WordLaws.{length-words}
 use Rattle.certificate.specs.Layout.{bytes, mark, version, factorNumbers, numbersOf, certificateOf, Sized}
-use Rattle.certificate.specs.Reading.{placesOf, placesIn, certificateLength, numbers, field, numbersIn, setIn, setOfCertificate, begins, lengthOk, sizesOk, headerOk}
+use Rattle.certificate.specs.Reading.{placesOf, placesIn, numbers, field, numbersIn, setIn, setOfCertificate, begins, lengthOk, sizesOk, headerOk}
 use Rattle.certificate.proofs.Bounds.{below-drop}
 use Rattle.certificate.proofs.Bytes.{bytes-words, words-below}
 use Rattle.certificate.proofs.Beginnings.{begins-is}
@@ -58,6 +56,15 @@ short-fails p n m cert h = go (headerOk p n m cert) refl
     go : (t : Bool) → headerOk p n m cert ≡ t → false ≡ headerOk p n m cert
     go false e = sym e
     go true e = let l = headed p n m cert e .long in absurd (omega (arith, l))
+
+six : (W : List ℕ) → 6 ≤ length W → W ≡ getD W 0 0 ∷ getD W 1 0 ∷ getD W 2 0 ∷ getD W 3 0 ∷ getD W 4 0 ∷ getD W 5 0 ∷ drop 6 W
+six W h =
+    drop-cons W 0 0 (omega arith)
+    ∙ ap (λ (x : List ℕ). getD W 0 0 ∷ x) (drop-cons W 1 0 (omega arith)
+    ∙ ap (λ (x : List ℕ). getD W 1 0 ∷ x) (drop-cons W 2 0 (omega arith)
+    ∙ ap (λ (x : List ℕ). getD W 2 0 ∷ x) (drop-cons W 3 0 (omega arith)
+    ∙ ap (λ (x : List ℕ). getD W 3 0 ∷ x) (drop-cons W 4 0 (omega arith)
+    ∙ ap (λ (x : List ℕ). getD W 4 0 ∷ x) (drop-cons W 5 0 (omega arith))))))
 
 pub length-numbers : (cert : List ℕ) (a e count : ℕ) → e ≡ a + 4 * count → e ≤ length cert → length (numbersIn cert a e) ≡ count
 length-numbers cert a e count p h =
@@ -112,15 +119,6 @@ module _ (p n m : ℕ) (cert : List ℕ) (t : headerOk p n m cert ≡ true) wher
       ∙ ap (λ (x : List ℕ). factorNumbers (s .L) ++ x) (factor-piece cert (q .ustarts) (q .ucols) (q .uvals) (q .end) w i′ v′ (v′ + u) (omega arith) (omega arith) (omega arith) (omega arith) (field cert 3 + 1) u refl refl refl
       ∙ ap (λ (x : List ℕ). factorNumbers (s .U) ++ x) (drop-of-length-le (numbers cert) (let z : length (numbers cert) ≤ v′ + u = omega (arith, length-all) in z))
       ∙ append-nil (factorNumbers (s .U)))))
-
-  six : (W : List ℕ) → 6 ≤ length W → W ≡ getD W 0 0 ∷ getD W 1 0 ∷ getD W 2 0 ∷ getD W 3 0 ∷ getD W 4 0 ∷ getD W 5 0 ∷ drop 6 W
-  six W h =
-      drop-cons W 0 0 (omega arith)
-      ∙ ap (λ (x : List ℕ). getD W 0 0 ∷ x) (drop-cons W 1 0 (omega arith)
-      ∙ ap (λ (x : List ℕ). getD W 1 0 ∷ x) (drop-cons W 2 0 (omega arith)
-      ∙ ap (λ (x : List ℕ). getD W 2 0 ∷ x) (drop-cons W 3 0 (omega arith)
-      ∙ ap (λ (x : List ℕ). getD W 3 0 ∷ x) (drop-cons W 4 0 (omega arith)
-      ∙ ap (λ (x : List ℕ). getD W 4 0 ∷ x) (drop-cons W 5 0 (omega arith))))))
 
   all : numbers cert ≡ numbersOf p n m (setOfCertificate n m cert)
   unfolding numbersOf field total setOfCertificate setIn

@@ -6,15 +6,14 @@ use mathlib.Core.Bool.{true}
 use mathlib.Core.List.{List, [], _∷_, _++_, append-nil}
 use Prim.Native.Nat.{ℕ, _+_, _*_, _<_, _^_}
 use native.Mathlib.Omega.{arith}
-use lib.ListN.{length, getD, drop, length-append}
+use lib.ListN.{length, getD, drop}
 use borrow.Author.Tests.{eq-eqb}
 use Rattle.lists.proofs.Bools.{and-both}
-use Rattle.sparse.specs.Words.{words}
 use Rattle.sparse.specs.Row.{Below}
-use Rattle.sparse.specs.Matrix.{Compressed, compressed}
+use Rattle.sparse.specs.Matrix.{Compressed}
 use Rattle.sparse.specs.Set.{Set, setOf}
-use Rattle.certificate.specs.Layout.{bytes, mark, version, headerNumbers, factorNumbers, numbersOf, certificateOf, Sized}
-use Rattle.certificate.specs.Reading.{placesOf, certificateLength, numbers, field, numbersIn, setIn, setOfCertificate, begins, lengthOk, sizesOk, headerOk}
+use Rattle.certificate.specs.Layout.{mark, version, headerNumbers, factorNumbers, numbersOf, certificateOf, Sized}
+use Rattle.certificate.specs.Reading.{placesOf, numbers, field, setIn, setOfCertificate, begins, lengthOk, sizesOk, headerOk}
 use Rattle.certificate.proofs.Bounds.{below-none, below-cons, below-append}
 use Rattle.certificate.proofs.Bytes.{words-bytes}
 use Rattle.certificate.proofs.Lengths.{length-certificate}

@@ -1,7 +1,7 @@
 -- Laws of writing into a lent buffer: both ways out, and how its length tells refusal 9.
 use mathlib.Core.Path.{_≡_, refl, sym, ap, _∙_}
 use mathlib.Core.Bool.{Bool, true, false, cond}
-use mathlib.Core.List.{List, [], _∷_, _++_}
+use mathlib.Core.List.{List, [], _++_}
 use Prim.Native.Nat.{ℕ, zero, suc, _+_, _-_, _≤_, _<_}
 use native.Mathlib.Omega.{arith}
 use native.Mathlib.Nat.{sub-zero, zero-sub, suc-sub-suc}
@@ -14,7 +14,7 @@ use Rattle.lists.specs.Refusals.{unless}
 use Rattle.lists.specs.declared.Outcome.the-variants.{Passed, Refused}
 use Rattle.lists.proofs.Filled.{length-zeros, filled-none}
 use Rattle.sparse.specs.Set.{Set}
-use Rattle.certificate.specs.Layout.{mark, version, certificateOf}
+use Rattle.certificate.specs.Layout.{mark, certificateOf}
 use Rattle.certificate.specs.Writing.{roomFor, written, Writes, Stored}
 
 drop-zeros : (k n : ℕ) → drop k (zeros n) ≡ zeros (n - k)

@@ -1,21 +1,23 @@
 -- Laws of `Stored`: bytes stored from a place on, one run after another, and the loops that store them.
 use mathlib.Core.Path.{_≡_, refl, sym, ap, subst, _∙_}
 use mathlib.Core.List.{List, [], _∷_, _++_}
-use Prim.Native.Nat.{ℕ, zero, suc, _+_, _*_, _-_, _/_, _%_, _≤_, _<_}
+use Prim.Native.Nat.{ℕ, suc, _+_, _*_, _/_, _%_, _≤_, _<_}
 use native.Mathlib.Omega.{arith}
-use native.Mathlib.Nat.{add-zero, sub-zero, zero-sub, suc-sub-suc}
+use native.Mathlib.Nat.{add-zero}
 use native.Mathlib.Numerals.{add-one}
 use lib.ListN.{length, getD, drop, set, length-append, length-set, drop-of-length-le}
-use lib.Seq.{sets, sets-eq, length-sets}
-use Rattle.lists.specs.Filled.{zeros, filled}
+use lib.Seq.{sets, length-sets}
 use Rattle.lists.proofs.Steps.{drop-step}
-use Rattle.lists.proofs.Filled.{length-zeros}
 use Rattle.certificate.specs.Layout.{bytes}
 use Rattle.certificate.specs.Writing.{Stored}
 use Rattle.certificate.proofs.Bytes.{length-bytes, bytes-append}
 
 pub stored-length : {b₀ b : List ℕ} {at next : ℕ} {ys : List ℕ} → Stored b₀ b at next ys → length b ≡ length b₀
 stored-length {b₀} {b} {at} {next} {ys} s = ap length (s .now-is) ∙ length-sets b₀ at ys
+
+-- where a run ends, and that the buffer keeps its length
+pub ends : {b₀ b : List ℕ} {at next : ℕ} {ys : List ℕ} → Stored b₀ b at next ys → (next ≡ at + length ys) × (length b ≡ length b₀)
+ends s = (s .next-is, stored-length s)
 
 sets-append : (l : List ℕ) (i : ℕ) (xs ys : List ℕ) → sets l i (xs ++ ys) ≡ sets (sets l i xs) (i + length xs) ys
 sets-append l i [] ys = ap (λ (k : ℕ). sets l k ys) (sym (add-zero i))

@@ -10,7 +10,7 @@ use lib.ListN.{length, take, drop}
 use Rattle.lists.proofs.Steps.{drop-take}
 use Rattle.sparse.specs.Words.{words, view}
 use Rattle.sparse.specs.Matrix.{compressed, viewed}
-use Rattle.sparse.specs.Set.{Set, setOf}
+use Rattle.sparse.specs.Set.{setOf}
 use Rattle.certificate.specs.Reading.{placesOf, placesIn, field, Located, numbersIn, setIn, setOfCertificate}
 use Rattle.certificate.specs.declared.parts.Places.{Places}
 

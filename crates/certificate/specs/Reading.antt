@@ -88,7 +88,7 @@ begins (x ∷ xs) [] = false
 begins (x ∷ xs) (y ∷ ys) = eqb x y && begins xs ys
 
 unfoldable pub lengthOk : List ℕ → Bool
-lengthOk cert = eqb (placesIn (field cert 1) (field cert 2) cert .end) (length cert)
+lengthOk cert = eqb (certificateLength (field cert 1) (field cert 2) (field cert 3) (field cert 4) (field cert 5)) (length cert)
 
 unfoldable pub sizesOk : ℕ → ℕ → ℕ → List ℕ → Bool
 sizesOk p n m cert = eqb (field cert 0) p && (eqb (field cert 1) n && eqb (field cert 2) m)

@@ -1,5 +1,6 @@
+-- `sizes_ok` meets its contract. Assumes nothing.
 use Prim.Native.Nat.{ℕ}
-use mathlib.Core.Path.{_≡_, _∙_, sym, ap}
+use mathlib.Core.Path.{_∙_, sym, ap}
 use lib.Dec.{eqb}
 use borrow.Author.Tests.{eq-eqb, ne-eqb}
 use Rattle.lists.proofs.Bools.{chain-false, chain-true}
@@ -7,33 +8,24 @@ use Rattle.certificate.specs.Reading.{sizesOk}
 use borrow.Author.Needs.{needs}
 use Rattle.certificate.proofs.header.sizes_ok.Statement.{statement}
 use Rattle.certificate.proofs.header.sizes_ok.Tie as tie
-use Rattle.certificate.proofs.header.sizes_ok.Reads as reads
-use Rattle.certificate.proofs.header.sizes_ok.Lts as lts
-use Rattle.certificate.proofs.parts.number.Reads as number-reads
 
--- src/header.rt:42:8
 number-requires : tie.Need-number-requires
 number-requires c κs = search needs
 
--- src/header.rt:43:9
 returns : tie.Need-returns
 unfolding sizesOk
 returns c = chain-false _ _ (ne-eqb _ _ (λ e. c .if1 .taken (c .before .number .ensures ∙ e)))
 
--- src/header.rt:45:8
 number-requires-2 : tie.Need-number-requires-2
 number-requires-2 c κs = search needs
 
--- src/header.rt:46:9
 returns-2 : tie.Need-returns-2
 unfolding sizesOk
 returns-2 c = chain-true _ _ _ (eq-eqb _ _ (sym (c .before .before .before .number .ensures) ∙ c .before .before .if1 .left)) (chain-false _ _ (ne-eqb _ _ (λ e. c .if2 .taken (c .before .number2 .ensures ∙ e))))
 
--- src/header.rt:48:5
 number-requires-3 : tie.Need-number-requires-3
 number-requires-3 c κs = search needs
 
--- src/header.rt:38:1
 returns-3 : tie.Need-returns-3
 unfolding sizesOk
 returns-3 c = chain-true _ _ _ (eq-eqb _ _ (sym (c .before .before .before .before .number .ensures) ∙ c .before .before .before .if1 .left))

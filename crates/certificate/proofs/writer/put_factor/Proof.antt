@@ -1,34 +1,27 @@
+-- `put_factor` meets its contract: three runs, one after another. Assumes nothing.
 use mathlib.Core.List.{_++_}
 use native.Mathlib.Omega.{arith}
 use Rattle.certificate.specs.Layout.{factorNumbers}
 use Rattle.certificate.proofs.Bytes.{length-bytes}
-use Rattle.certificate.proofs.Storing.{stored-length, numbers-then}
+use Rattle.certificate.proofs.Storing.{ends, numbers-then}
 use borrow.Author.Needs.{needs}
 use Rattle.certificate.proofs.writer.put_factor.Statement.{statement}
 use Rattle.certificate.proofs.writer.put_factor.Tie as tie
-use Rattle.certificate.proofs.writer.put_factor.Reads as reads
-use Rattle.certificate.proofs.writer.put_factor.Lts as lts
-use Rattle.certificate.proofs.writer.put_words.Reads as put-words-reads
 
--- src/writer.rt:71:9
 put-words-requires : tie.Need-put-words-requires
 put-words-requires c κs = search needs
 
--- src/writer.rt:72:9
 put-words-requires-2 : tie.Need-put-words-requires-2
-put-words-requires-2 c κs = let s = c .before .before .before .before .before .before .before .before .before in let w = c .before .before .before .put-words .ensures in
-    omega (arith, s .pre, w .next-is, stored-length w, length-bytes (s .args .starts .now))
+put-words-requires-2 c κs = let s = c .before .before .before .before .before .before .before .before .before in
+    omega (arith, s .pre, ends (c .before .before .before .put-words .ensures), length-bytes (s .args .starts .now))
 
--- src/writer.rt:73:5
 put-words-requires-3 : tie.Need-put-words-requires-3
-put-words-requires-3 c κs = let s = c .before .before .before .before .before .before .before .before .before .before .before .before .before in let w = c .before .before .before .before .before .before .before .put-words .ensures in let v = c .before .before .before .put-words2 .ensures in
-    omega (arith, s .pre, w .next-is, stored-length w, v .next-is, stored-length v, length-bytes (s .args .starts .now), length-bytes (s .args .cols .now))
+put-words-requires-3 c κs = let s = c .before .before .before .before .before .before .before .before .before .before .before .before .before in
+    omega (arith, s .pre, ends (c .before .before .before .before .before .before .before .put-words .ensures), ends (c .before .before .before .put-words2 .ensures), length-bytes (s .args .starts .now), length-bytes (s .args .cols .now))
 
--- src/writer.rt:67:1
 same-length : tie.Need-same-length
 same-length c = search needs
 
--- src/writer.rt:67:1
 returns : tie.Need-returns
 unfolding factorNumbers
 returns c = let s = c .before .before .before .before .before .before .before .before .before .before .before .before .before .before .before .before in

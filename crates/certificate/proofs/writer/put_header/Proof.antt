@@ -1,42 +1,31 @@
+-- `put_header` meets its contract: three runs, one after another. Assumes nothing.
 use Rattle.certificate.specs.Layout.{mark, version}
 use Rattle.certificate.proofs.Storing.{stored-then}
 use borrow.Author.Needs.{needs}
 use Rattle.certificate.proofs.writer.put_header.Statement.{statement}
 use Rattle.certificate.proofs.writer.put_header.Tie as tie
-use Rattle.certificate.proofs.writer.put_header.Reads as reads
-use Rattle.certificate.proofs.writer.put_header.Lts as lts
-use Rattle.certificate.proofs.writer.put_bytes.Reads as put-bytes-reads
-use Rattle.certificate.proofs.writer.put_words.Reads as put-words-reads
 
--- src/writer.rt:61:32
 slice-aggregate-put-bytes : tie.Need-slice-aggregate-put-bytes
 slice-aggregate-put-bytes c = search needs
 
--- src/writer.rt:61:9
 put-bytes-requires : tie.Need-put-bytes-requires
 put-bytes-requires c κs = search needs
 
--- src/writer.rt:62:35
 slice-aggregate-put-bytes-2 : tie.Need-slice-aggregate-put-bytes-2
 slice-aggregate-put-bytes-2 c = search needs
 
--- src/writer.rt:62:9
 put-bytes-requires-2 : tie.Need-put-bytes-requires-2
 put-bytes-requires-2 c κs = search needs
 
--- src/writer.rt:63:15
 slice-aggregate-put-words : tie.Need-slice-aggregate-put-words
 slice-aggregate-put-words c = search needs
 
--- src/writer.rt:63:5
 put-words-requires : tie.Need-put-words-requires
 put-words-requires c κs = search needs
 
--- src/writer.rt:56:1
 same-length : tie.Need-same-length
 same-length c = search needs
 
--- src/writer.rt:56:1
 returns : tie.Need-returns
 unfolding mark version
 returns c = stored-then (c .before .before .before .before .before .before .before .before .before .before .before .before .put-bytes .ensures) (stored-then (c .before .before .before .before .before .before .before .put-bytes2 .ensures) (c .before .before .put-words .ensures))

@@ -1,13 +1,11 @@
+-- `put_words` meets its contract; the loop keeps that storing what remains of the list completes the buffer. Assumes nothing.
 use Prim.Native.Nat.{_-_}
 use mathlib.Core.Path.{refl}
-use lib.ListN.{length}
 use native.Mathlib.Omega.{arith}
+use lib.ListN.{length}
 use Rattle.certificate.proofs.Storing.{Putting, putting-start, putting-turn, putting-end}
 use Rattle.certificate.proofs.writer.put_words.Statement.{statement}
 use Rattle.certificate.proofs.writer.put_words.Tie as tie
-use Rattle.certificate.proofs.writer.put_words.Reads as reads
-use Rattle.certificate.proofs.writer.put_words.Lts as lts
-use Rattle.certificate.proofs.writer.put_word.Reads as put-word-reads
 
 abbrev Inv-loop : tie.InvT-loop
 Inv-loop list buffer₀ at next₀ i₀ buffer next i = Putting list buffer₀ at buffer next i
@@ -15,43 +13,33 @@ Inv-loop list buffer₀ at next₀ i₀ buffer next i = Putting list buffer₀ a
 abbrev μ-loop : tie.MeasureT-loop
 μ-loop list buffer₀ at next₀ i₀ buffer next i = length list - i
 
--- src/writer.rt:32:5
 loop-holds : tie.Need-loop-holds Inv-loop μ-loop
 loop-holds c = putting-start _ _ _
 
--- src/writer.rt:33:18
 mul-put-word : tie.Need-mul-put-word Inv-loop μ-loop
 mul-put-word c = omega arith
 
--- src/writer.rt:33:18
 shared-slice-read-put-word : tie.Need-shared-slice-read-put-word Inv-loop μ-loop
 shared-slice-read-put-word c = omega arith
 
--- src/writer.rt:33:9
 put-word-requires : tie.Need-put-word-requires Inv-loop μ-loop
 put-word-requires c κs = omega arith
 
--- src/writer.rt:34:9
 add-next : tie.Need-add-next Inv-loop μ-loop
 add-next c = omega arith
 
--- src/writer.rt:35:9
 add-i : tie.Need-add-i Inv-loop μ-loop
 add-i c = omega arith
 
--- src/writer.rt:32:5
 loop-less : tie.Need-loop-less Inv-loop μ-loop
 loop-less c = omega arith
 
--- src/writer.rt:32:5
 loop-again : tie.Need-loop-again Inv-loop μ-loop
 loop-again c = let w = c .before .before in putting-turn (w .before .before .before .before .loop .inv) _ _ (w .before .before .before .loop-test .taken) refl (w .put-word .ensures)
 
--- src/writer.rt:26:1
 same-length : tie.Need-same-length Inv-loop μ-loop
 same-length c = c .before .loop .inv .long
 
--- src/writer.rt:26:1
 returns : tie.Need-returns Inv-loop μ-loop
 returns c = putting-end (c .before .loop .inv) (c .loop-test .left)
 

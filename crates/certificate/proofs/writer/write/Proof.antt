@@ -1,26 +1,19 @@
+-- `write` meets its contract: the buffer is cleared, then refused or filled. Assumes nothing.
 use Prim.Native.Nat.{ℕ}
-use mathlib.Core.Path.{_≡_, sym, ap, subst, _∙_}
+use mathlib.Core.Path.{_≡_, sym, ap, _∙_}
 use mathlib.Core.List.{List}
-use lib.ListN.{length}
 use native.Mathlib.Omega.{arith}
-use Rattle.lists.specs.Filled.{zeros}
+use lib.ListN.{length}
 use Rattle.lists.proofs.Filled.{length-zeros}
 use Rattle.sparse.specs.Matrix.{compressed}
-use Rattle.sparse.specs.Set.{Set, setOf}
+use Rattle.sparse.specs.Set.{setOf}
 use Rattle.certificate.specs.Layout.{certificateOf}
-use Rattle.certificate.specs.Writing.{Stored}
 use Rattle.certificate.specs.declared.parts.Places.{Places}
 use Rattle.certificate.proofs.Lengths.{length-certificate}
-use Rattle.certificate.proofs.Storing.{stored-length}
 use Rattle.certificate.proofs.Rooms.{writes-refused, writes-done}
 use borrow.Author.Needs.{needs}
 use Rattle.certificate.proofs.writer.write.Statement.{statement}
 use Rattle.certificate.proofs.writer.write.Tie as tie
-use Rattle.certificate.proofs.writer.write.Reads as reads
-use Rattle.certificate.proofs.writer.write.Lts as lts
-use Rattle.certificate.proofs.parts.places_of.Reads as places-of-reads
-use Rattle.certificate.proofs.writer.put_certificate.Reads as put-certificate-reads
-use Rattle.lists.proofs.clear_bytes.Reads as clear-bytes-reads
 
 abbrev certificate : tie.Start → List ℕ
 certificate s =
@@ -29,53 +22,48 @@ certificate s =
     (compressed (s .args .lstarts .now) (s .args .lcols .now) (s .args .lvals .now))
     (compressed (s .args .ustarts .now) (s .args .ucols .now) (s .args .uvals .now)))
 
-cleared-long : (a : tie.After-clear-bytes) → length (a .clear-bytes .last .0) ≡ length (a .before .before .before .before .before .before .before .before .before .before .before .args .buffer .now)
-cleared-long a = ap length (a .clear-bytes .ensures) ∙ length-zeros (length (a .before .before .before .before .before .before .before .before .before .before .before .args .buffer .now))
+abbrev start : tie.After-clear-bytes → tie.Start
+start a = a .before .before .before .before .before .before .before .before .before .before .before
 
-size : (a : tie.After-places-of) → a .places-of .result .end ≡ length (certificate (a .before .before .before .before .before .before .before .before .before .before .before .before .before .before))
-size a = let s = a .before .before .before .before .before .before .before .before .before .before .before .before .before .before in
+abbrev cleared : tie.After-places-of → tie.After-clear-bytes
+cleared a = a .before .before .before
+
+cleared-long : (a : tie.After-clear-bytes) → length (a .clear-bytes .last .0) ≡ length (start a .args .buffer .now)
+cleared-long a = ap length (a .clear-bytes .ensures) ∙ length-zeros (length (start a .args .buffer .now))
+
+size : (a : tie.After-places-of) → a .places-of .result .end ≡ length (certificate (start (cleared a)))
+size a = let s = start (cleared a) in
     ap (λ (q : Places). q .end) (a .places-of .ensures) ∙ sym (length-certificate (s .args .p) (s .args .n) (s .args .m) _ (s .pre .sized))
 
--- src/writer.rt:122:5
 clear-bytes-requires : tie.Need-clear-bytes-requires
 clear-bytes-requires c κs = search needs
 
--- src/writer.rt:123:37
 cast-places-of : tie.Need-cast-places-of
 cast-places-of c = search needs
 
--- src/writer.rt:123:57
 cast-places-of-2 : tie.Need-cast-places-of-2
 cast-places-of-2 c = search needs
 
--- src/writer.rt:123:9
 places-of-requires : tie.Need-places-of-requires
 places-of-requires c κs = search needs
 
--- src/writer.rt:125:9
 same-length : tie.Need-same-length
 same-length c = cleared-long (c .before .before .before .before .before)
 
--- src/writer.rt:125:9
 returns : tie.Need-returns
-returns c = let s = c .before .before .before .before .before .before .before .before .before .before .before .before .before .before .before .before in
-    writes-refused (certificate s) (s .args .buffer .now) _ (omega (arith, size (c .before .before), cleared-long (c .before .before .before .before .before), c .if1 .taken)) (c .before .before .before .before .before .clear-bytes .ensures)
+returns c = let q = c .before .before in let b = cleared q in let s = start b in
+    writes-refused (certificate s) (s .args .buffer .now) _ (omega (arith, size q, cleared-long b, c .if1 .taken)) (b .clear-bytes .ensures)
 
--- src/writer.rt:127:5
 put-certificate-requires : tie.Need-put-certificate-requires
-put-certificate-requires c κs = record {
-  writable = c .before .before .before .before .before .before .before .before .before .before .before .before .before .before .before .before .before .pre;
-  room = omega (arith, size (c .before .before .before), cleared-long (c .before .before .before .before .before .before), c .before .if1 .left);
-}
+put-certificate-requires c κs = let q = c .before .before .before in let b = cleared q in
+    record { writable = start b .pre; room = omega (arith, size q, cleared-long b, c .before .if1 .left) }
 
--- src/writer.rt:104:1
 same-length-2 : tie.Need-same-length-2
 same-length-2 c = search needs
 
--- src/writer.rt:104:1
 returns-2 : tie.Need-returns-2
-returns-2 c = let s = c .before .before .before .before .before .before .before .before .before .before .before .before .before .before .before .before .before .before .before .before in
-    writes-done (certificate s) (s .args .buffer .now) _ (omega (arith, size (c .before .before .before .before .before .before), cleared-long (c .before .before .before .before .before .before .before .before .before), c .before .before .before .before .if1 .left)) (c .before .before .before .before .before .before .before .before .before .clear-bytes .ensures) (c .before .before .put-certificate .ensures)
+returns-2 c = let q = c .before .before .before .before .before .before in let b = cleared q in let s = start b in
+    writes-done (certificate s) (s .args .buffer .now) _ (omega (arith, size q, cleared-long b, c .before .before .before .before .if1 .left)) (b .clear-bytes .ensures) (c .before .before .put-certificate .ensures)
 
 pub write-spec : {M : Type 1} → statement M
 write-spec =
