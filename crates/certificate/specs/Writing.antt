@@ -13,13 +13,14 @@ use lib.Dec.{leb}
 use lib.ListN.{length}
 use lib.Seq.{sets}
 use Rattle.lists.specs.Filled.{filled}
+use Rattle.lists.specs.Table.{wrongLength}
 use Rattle.lists.specs.Refusals.{unless}
 use Rattle.lists.specs.declared.Outcome.{Outcome}
 use Rattle.sparse.specs.Set.{Set}
 use Rattle.certificate.specs.Layout.{certificateOf, Sized}
 
 abbrev pub roomFor : ℕ → List ℕ → Outcome
-roomFor n cert = unless (leb (length cert) n) 9 0
+roomFor n cert = unless (leb (length cert) n) wrongLength 0
 
 unfoldable pub written : ℕ → List ℕ → List ℕ
 written n cert = cond (leb (length cert) n) cert []
