@@ -1,8 +1,8 @@
 -- `header_ok` meets its contract. Assumes nothing.
+use Prim.Native.Nat.{ℕ}
 use mathlib.Core.Path.{_≡_, ap, _∙_}
 use mathlib.Core.Bool.{Bool, _&&_}
 use mathlib.Core.List.{List}
-use Prim.Native.Nat.{ℕ}
 use lib.ListN.{drop}
 use Rattle.lists.proofs.Bools.{chain-stop, chain-on}
 use Rattle.certificate.specs.Reading.{begins, headerOk}
@@ -13,20 +13,27 @@ use borrow.Author.Needs.{needs}
 use Rattle.certificate.proofs.header.header_ok.Statement.{statement}
 use Rattle.certificate.proofs.header.header_ok.Tie as tie
 
-abbrev bytes : tie.After-starts-with2 → List ℕ
-bytes c = c .before .before .before .before .before .before .before .before .args .cert .now
+-- the bytes, where the mark and where the version are compared
+abbrev bytes : tie.After-starts-with → List ℕ
+bytes c = c .before .before .before .args .cert .now
 
--- the first comparison holds where the second is made
-mark-on : (c : tie.After-starts-with2) (x b : Bool) → x ≡ b → x ≡ (begins mark (bytes c) && b)
+abbrev mark-compared : tie.After-starts-with2 → tie.After-starts-with
+mark-compared c = c .before .before .before .before .before
+
+-- what the two comparisons say
+mark-test : (c : tie.After-starts-with) → c .starts-with .result ≡ begins mark (bytes c)
 unfolding mark
-mark-on c x b e = chain-on _ _ _ _ (c .before .before .before .before .before .starts-with .ensures) (c .before .before .before .before .if1 .left) e
+mark-test c = c .starts-with .ensures
 
--- what the second comparison says
-version-test : (c : tie.After-starts-with2) → c .starts-with2 .result ≡ begins version (drop 3 (bytes c))
+version-test : (c : tie.After-starts-with2) → c .starts-with2 .result ≡ begins version (drop 3 (bytes (mark-compared c)))
 unfolding version
-version-test c = c .starts-with2 .ensures ∙ ap (begins version) (part-end (bytes c) 3)
+version-test c = c .starts-with2 .ensures ∙ ap (begins version) (part-end (bytes (mark-compared c)) 3)
 
-version-on : (c : tie.Else3) (x b : Bool) → x ≡ b → x ≡ (begins version (drop 3 (bytes (c .before))) && b)
+-- past them, the tests that follow decide
+mark-on : (c : tie.After-starts-with2) (x b : Bool) → x ≡ b → x ≡ (begins mark (bytes (mark-compared c)) && b)
+mark-on c x b e = chain-on _ _ _ _ (mark-test (mark-compared c)) (c .before .before .before .before .if1 .left) e
+
+version-on : (c : tie.Else3) (x b : Bool) → x ≡ b → x ≡ (begins version (drop 3 (bytes (mark-compared (c .before)))) && b)
 version-on c x b e = chain-on _ _ _ _ (version-test (c .before)) (c .if3 .left) e
 
 slice-aggregate-starts-with : tie.Need-slice-aggregate-starts-with
@@ -36,8 +43,8 @@ starts-with-requires : tie.Need-starts-with-requires
 starts-with-requires c κs = search needs
 
 returns : tie.Need-returns
-unfolding headerOk mark
-returns c = chain-stop _ _ _ (c .before .starts-with .ensures) (c .if1 .taken)
+unfolding headerOk
+returns c = chain-stop _ _ _ (mark-test (c .before)) (c .if1 .taken)
 
 returns-2 : tie.Need-returns-2
 returns-2 c = let s = c .before .before .before .before .before in short-fails (s .args .p) (s .args .n) (s .args .m) (s .args .cert .now) (c .if2 .taken)

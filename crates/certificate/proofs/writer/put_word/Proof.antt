@@ -1,8 +1,6 @@
 -- `put_word` meets its contract. Assumes nothing.
-use Prim.Native.Nat.{_/_, _%_, _+_}
 use native.Mathlib.Omega.{arith}
-use lib.ListN.{set}
-use lib.Seq.{lt-length-set}
+use lib.ListN.{length-set}
 use Rattle.certificate.proofs.Storing.{word-stores}
 use borrow.Author.Needs.{needs}
 use Rattle.certificate.proofs.writer.put_word.Statement.{statement}
@@ -21,7 +19,7 @@ add-buffer : tie.Need-add-buffer
 add-buffer c = search needs
 
 slice-write-buffer-2 : tie.Need-slice-write-buffer-2
-slice-write-buffer-2 c = lt-length-set (c .args .buffer .now) (c .args .at) (c .args .x % 256) (omega arith)
+slice-write-buffer-2 c = simp length-set (omega arith)
 
 cast-buffer-3 : tie.Need-cast-buffer-3
 cast-buffer-3 c = search needs
@@ -30,8 +28,7 @@ add-buffer-2 : tie.Need-add-buffer-2
 add-buffer-2 c = search needs
 
 slice-write-buffer-3 : tie.Need-slice-write-buffer-3
-slice-write-buffer-3 c = let b = c .args .buffer .now in let at = c .args .at in let x = c .args .x in
-    lt-length-set (set b at (x % 256)) (at + 1) (x / 256 % 256) (lt-length-set b at (x % 256) (omega arith))
+slice-write-buffer-3 c = simp length-set (omega arith)
 
 cast-buffer-4 : tie.Need-cast-buffer-4
 cast-buffer-4 c = search needs
@@ -40,9 +37,7 @@ add-buffer-3 : tie.Need-add-buffer-3
 add-buffer-3 c = search needs
 
 slice-write-buffer-4 : tie.Need-slice-write-buffer-4
-slice-write-buffer-4 c = let b = c .args .buffer .now in let at = c .args .at in let x = c .args .x in
-    lt-length-set (set (set b at (x % 256)) (at + 1) (x / 256 % 256)) (at + 2) (x / 65536 % 256)
-    (lt-length-set (set b at (x % 256)) (at + 1) (x / 256 % 256) (lt-length-set b at (x % 256) (omega arith)))
+slice-write-buffer-4 c = simp length-set (omega arith)
 
 same-length : tie.Need-same-length
 same-length c = search needs
