@@ -1,8 +1,8 @@
 -- The loops that complete an order, one turn at a time.
-use mathlib.Core.Path.{_≡_, refl, sym, ap, _∙_, subst}
+use mathlib.Core.Path.{_≡_, refl, sym, ap, _∙_}
 use mathlib.Core.Bool.{Bool, true, false, cond, _||_, or-true, or-false}
 use mathlib.Core.List.{List, [], _∷_, _++_}
-use Prim.Native.Nat.{ℕ, zero, suc, _+_, _-_, _≤_, _<_}
+use Prim.Native.Nat.{ℕ, zero, suc, _+_, _≤_, _<_}
 use native.Mathlib.Decide.{ℕ-discrete}
 use native.Mathlib.Numerals.{add-one}
 use native.Mathlib.Omega.{arith}
@@ -12,7 +12,7 @@ use lib.Seq.{take-suc, length-take-le, getD-take, getD-set-same, getD-set-other}
 use borrow.Author.Tests.{eq-eqb, ne-eqb}
 use Rattle.lists.specs.Filled.{zeros}
 use Rattle.lists.specs.Tabulate.{tabulate}
-use Rattle.lists.proofs.Filled.{Clearing, zeros-at, length-zeros, clearing-starts, clearing-turn, clearing-ends}
+use Rattle.lists.proofs.Filled.{Clearing, zeros-at, clearing-starts, clearing-turn, clearing-ends}
 use Rattle.lists.proofs.Tabulate.{length-tabulate, tabulate-at, tabulated}
 use Rattle.algebra.specs.Matrix.{Distinct, vector}
 use Rattle.elimination.specs.Factoring.{isIn, rest}

@@ -2,7 +2,7 @@
 // each column, one more than the row chosen for it, or 0; the second writes the pairs by rising column and clears the row.
 // The modulus and the values are named in contracts only.
 ghost use mathlib.Core.Path.{_≡_};
-ghost use Prim.Native.Nat.{_+_, _-_, _≤_, _<_};
+ghost use Prim.Native.Nat.{_+_, _-_};
 ghost use lib.ListN.{length, getD};
 ghost use Rattle.sparse.specs.Matrix.{compressed};
 ghost use Rattle.elimination.specs.Structural.{paired};

@@ -1,6 +1,5 @@
 -- `append_unmarked` meets its contract; the loop's invariant is `Appending`, the measure what is left. Assumes nothing.
 use Prim.Native.Nat.{_-_, _<_}
-use mathlib.Core.Path.{_≡_}
 use native.Mathlib.Omega.{arith}
 use lib.ListN.{length}
 use Rattle.ordering.proofs.Writing.{written-length}

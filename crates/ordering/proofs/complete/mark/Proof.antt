@@ -1,8 +1,8 @@
 -- `mark` meets its contract; the loop's invariant is `Marking`, the measure what is left. Assumes nothing.
 use Prim.Native.Nat.{_-_, _≤_, _<_}
-use mathlib.Core.Path.{_≡_, sym, ap, _∙_}
+use mathlib.Core.Path.{_≡_, ap, _∙_}
 use native.Mathlib.Omega.{arith}
-use lib.ListN.{length, getD}
+use lib.ListN.{length}
 use borrow.Author.Needs.{needs}
 use Rattle.lists.proofs.Filled.{length-zeros}
 use Rattle.ordering.proofs.Completing.{Marking, marking-starts, marking-turn, marking-ends}

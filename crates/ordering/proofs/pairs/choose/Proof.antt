@@ -1,6 +1,6 @@
 -- `choose` meets its contract; the loop's invariant: the cells name the rows chosen among those passed. Assumes nothing.
 use Prim.Native.Nat.{_-_, _≤_}
-use mathlib.Core.Path.{_≡_, refl, sym, ap, _∙_}
+use mathlib.Core.Path.{_≡_, refl, _∙_}
 use native.Mathlib.Omega.{arith}
 use lib.ListN.{length}
 use Rattle.sparse.specs.Matrix.{compressed}

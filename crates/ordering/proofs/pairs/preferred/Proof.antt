@@ -1,5 +1,4 @@
 -- `preferred` meets its contract. Assumes nothing.
-use mathlib.Core.Path.{ap}
 use native.Mathlib.Omega.{arith}
 use borrow.Author.Needs.{needs}
 use Rattle.ordering.proofs.Choosing.{preferred-first, preferred-new, preferred-old}

@@ -3,7 +3,6 @@ use mathlib.Core.Path.{_≡_, ap, _∙_}
 use lib.ListN.{length}
 use borrow.Author.Needs.{needs}
 use Rattle.lists.proofs.Filled.{length-zeros}
-use Rattle.sparse.specs.Matrix.{Compressed, compressed}
 use Rattle.ordering.proofs.Collecting.{choose-ready, collect-ready, pairs-found}
 use Rattle.ordering.proofs.pairs.structural_pairs.Statement.{statement}
 use Rattle.ordering.proofs.pairs.structural_pairs.Tie as tie
