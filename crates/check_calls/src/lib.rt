@@ -4,9 +4,12 @@ ghost use lib.ListN.{length};
 ghost use Rattle.sparse.specs.Matrix.{compressed};
 ghost use Rattle.sparse.specs.Set.{setOf};
 ghost use Rattle.check_calls.specs.Calls.{factorsOutcome, certificateOutcome, checkFactorsOf, checkCertificateOf, Checks};
-use call_tests::{plan_lengths, plan_outcome, set_lengths};
+use call_tests::plan_lengths;
+use call_tests::plan_outcome;
+use call_tests::set_lengths;
 use certificate::header::header_ok;
-use certificate::parts::{number, places_in};
+use certificate::parts::number;
+use certificate::parts::places_in;
 use checker::check;
 use lists::Outcome;
 use lists::clear_row;
@@ -46,7 +49,16 @@ pub fn factors_outcome(
 }
 
 // The lengths, the plan and the header of a call with a certificate: 9, 1, 2, 8, 10.
-pub fn certificate_outcome(p: u32, n: u32, m: u32, ss: &[u32], cols: &[u32], vals: &[u32], cert: &[u8], width: usize) -> Outcome
+pub fn certificate_outcome(
+    p: u32,
+    n: u32,
+    m: u32,
+    ss: &[u32],
+    cols: &[u32],
+    vals: &[u32],
+    cert: &[u8],
+    width: usize,
+) -> Outcome
     ensures { λ o. ⌜ o ≡ certificateOutcome p n m (compressed (now (ss .entry)) (now (cols .entry)) (now (vals .entry))) (now (cert .entry)) width ⌝ }
 {
     if !plan_lengths(n, ss, cols, vals) {
@@ -91,12 +103,57 @@ pub fn check_factors(
     ensures { λ o. ⌜ Checks (checkFactorsOf p n m (compressed (now (ss .entry)) (now (cols .entry)) (now (vals .entry))) (setOf r (now (ro .entry)) (now (co .entry)) (compressed (now (ls .entry)) (now (lc .entry)) (now (lv .entry))) (compressed (now (us .entry)) (now (uc .entry)) (now (uv .entry)))) (length (now (work .entry)))) o (now (work .entry)) (now (work .exit)) ⌝ }
 {
     clear_row(work);
-    let tested = factors_outcome(p, n, m, ss, cols, vals, r, ro, co, ls, lc, lv, us, uc, uv, work.len());
+    let tested = factors_outcome(
+        p,
+        n,
+        m,
+        ss,
+        cols,
+        vals,
+        r,
+        ro,
+        co,
+        ls,
+        lc,
+        lv,
+        us,
+        uc,
+        uv,
+        work.len(),
+    );
     let Outcome::Passed = tested else {
         return tested;
     };
     let q = Modulus { p };
-    check(q, ss, b"", cols, b"", vals, b"", ro, b"", co, b"", ls, b"", lc, b"", lv, b"", us, b"", uc, b"", uv, b"", n, m, r, work)
+    check(
+        q,
+        ss,
+        b"",
+        cols,
+        b"",
+        vals,
+        b"",
+        ro,
+        b"",
+        co,
+        b"",
+        ls,
+        b"",
+        lc,
+        b"",
+        lv,
+        b"",
+        us,
+        b"",
+        uc,
+        b"",
+        uv,
+        b"",
+        n,
+        m,
+        r,
+        work,
+    )
 }
 
 // Checks a certificate, which is read from its own bytes.
@@ -104,7 +161,16 @@ pub fn check_factors(
 //   gives    passed, or the number and detail of the first fault
 //   refuses  9, 1, 2, 8, 10, 11, 12, 13, 14 at the first position
 //   leaves   the working row all zero
-pub fn check_certificate(p: u32, n: u32, m: u32, ss: &[u32], cols: &[u32], vals: &[u32], cert: &[u8], work: &mut [u64]) -> Outcome
+pub fn check_certificate(
+    p: u32,
+    n: u32,
+    m: u32,
+    ss: &[u32],
+    cols: &[u32],
+    vals: &[u32],
+    cert: &[u8],
+    work: &mut [u64],
+) -> Outcome
     ensures { λ o. ⌜ Checks (checkCertificateOf p n m (compressed (now (ss .entry)) (now (cols .entry)) (now (vals .entry))) (now (cert .entry)) (length (now (work .entry)))) o (now (work .entry)) (now (work .exit)) ⌝ }
 {
     clear_row(work);
@@ -124,5 +190,33 @@ pub fn check_certificate(p: u32, n: u32, m: u32, ss: &[u32], cols: &[u32], vals:
     let g = places.ucols;
     let h = places.uvals;
     let i = places.end;
-    check(q, ss, b"", cols, b"", vals, b"", &[], &cert[a..b], &[], &cert[b..c], &[], &cert[c..d], &[], &cert[d..e], &[], &cert[e..f], &[], &cert[f..g], &[], &cert[g..h], &[], &cert[h..i], n, m, r, work)
+    check(
+        q,
+        ss,
+        b"",
+        cols,
+        b"",
+        vals,
+        b"",
+        &[],
+        &cert[a..b],
+        &[],
+        &cert[b..c],
+        &[],
+        &cert[c..d],
+        &[],
+        &cert[d..e],
+        &[],
+        &cert[e..f],
+        &[],
+        &cert[f..g],
+        &[],
+        &cert[g..h],
+        &[],
+        &cert[h..i],
+        n,
+        m,
+        r,
+        work,
+    )
 }

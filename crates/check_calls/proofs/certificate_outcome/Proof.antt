@@ -1,50 +1,65 @@
+-- `certificate_outcome` meets its contract. Assumes nothing.
+use mathlib.Core.Path.{_≡_, refl, sym, ap, _∙_}
+use mathlib.Core.Bool.{true}
+use borrow.Author.Tests.{not-true, not-false}
+use Rattle.sparse.specs.Matrix.{Compressed, compressed}
+use Rattle.call_tests.specs.Tests.{planLengths}
+use Rattle.lists.specs.Refusals.{unless}
+use mathlib.Core.Bool.{Bool}
+use Rattle.check_calls.proofs.Tested.{plan-length, certificate-refused, certificate-work, certificate-plan, certificate-header}
 use borrow.Author.Needs.{needs}
 use Rattle.check_calls.proofs.certificate_outcome.Statement.{statement}
 use Rattle.check_calls.proofs.certificate_outcome.Tie as tie
-use Rattle.check_calls.proofs.certificate_outcome.Reads as reads
-use Rattle.check_calls.proofs.certificate_outcome.Lts as lts
-use Rattle.call_tests.proofs.plan_lengths.Reads as plan-lengths-reads
-use Rattle.call_tests.proofs.plan_outcome.Reads as plan-outcome-reads
-use Rattle.certificate.proofs.header.header_ok.Reads as header-ok-reads
 
--- src/lib.rt:52:9
+abbrev plan : tie.Start → Compressed
+plan s = compressed (s .args .ss .now) (s .args .cols .now) (s .args .vals .now)
+
+abbrev start : tie.After-plan-lengths → tie.Start
+start c = c .before .before .before .before .before
+
+plan-long : (c : tie.Else1) → let s = start (c .before) in planLengths (s .args .n) (plan s) ≡ true
+plan-long c = sym (c .before .plan-lengths .ensures) ∙ not-false (c .before .plan-lengths .result) (c .if1 .left)
+
 plan-lengths-requires : tie.Need-plan-lengths-requires
 plan-lengths-requires c κs = search needs
 
--- src/lib.rt:53:9
 returns : tie.Need-returns
-returns c = ?
+returns c = let s = start (c .before) in
+    certificate-refused (s .args .p) (s .args .n) (s .args .m) (plan s) (s .args .cert .now) (s .args .width) _ 9 0 refl
+    (plan-length (s .args .p) (s .args .n) (s .args .m) (plan s) _ (sym (c .before .plan-lengths .ensures) ∙ not-true (c .before .plan-lengths .result) (c .if1 .taken)))
 
--- src/lib.rt:56:9
 returns-2 : tie.Need-returns-2
-returns-2 c = ?
+returns-2 c = let e = c .before in let s = start (e .before) in
+    certificate-refused (s .args .p) (s .args .n) (s .args .m) (plan s) (s .args .cert .now) (s .args .width) _ 9 0 refl (certificate-work (s .args .p) (s .args .n) (s .args .m) (plan s) (s .args .cert .now) (s .args .width) (plan-long e) (c .if2 .taken))
 
--- src/lib.rt:58:9
 plan-outcome-requires : tie.Need-plan-outcome-requires
 plan-outcome-requires c κs = search needs
 
 enum-told : tie.Need-enum-told
 enum-told c = search needs
 
--- src/lib.rt:60:9
 enum-told-2 : tie.Need-enum-told-2
 enum-told-2 c = search needs
 
--- src/lib.rt:60:9
 returns-3 : tie.Need-returns-3
-returns-3 c = ?
+returns-3 c = let o = c .before .before in let f = o .before in let e = f .before in let s = start (e .before) in
+    certificate-refused (s .args .p) (s .args .n) (s .args .m) (plan s) (s .args .cert .now) (s .args .width) (o .plan-outcome .result) _ _ (c .enum-told2 .given .1)
+    (certificate-plan (s .args .p) (s .args .n) (s .args .m) (plan s) (s .args .cert .now) (s .args .width) (plan-long e) (f .if2 .left) (o .plan-outcome .result) (o .plan-outcome .ensures))
 
--- src/lib.rt:62:9
 header-ok-requires : tie.Need-header-ok-requires
 header-ok-requires c κs = search needs
 
--- src/lib.rt:63:9
 returns-4 : tie.Need-returns-4
-returns-4 c = ?
+returns-4 c = let h = c .before in let t = h .before in let o = t .before .before in let f = o .before in let e = f .before in let s = start (e .before) in
+    certificate-header (s .args .p) (s .args .n) (s .args .m) (plan s) (s .args .cert .now) (s .args .width) (o .plan-outcome .result) (t .enum-told .given .1)
+    (certificate-plan (s .args .p) (s .args .n) (s .args .m) (plan s) (s .args .cert .now) (s .args .width) (plan-long e) (f .if2 .left) (o .plan-outcome .result) (o .plan-outcome .ensures)) _
+    (ap (λ (b : Bool). unless b 10 0) (sym (sym (h .header-ok .ensures) ∙ not-true (h .header-ok .result) (c .if3 .taken))))
 
--- src/lib.rt:49:1
 returns-5 : tie.Need-returns-5
-returns-5 c = ?
+returns-5 c = let h = c .before in let t = h .before in let o = t .before .before in let f = o .before in let e = f .before in let s = start (e .before) in
+    certificate-header (s .args .p) (s .args .n) (s .args .m) (plan s) (s .args .cert .now) (s .args .width) (o .plan-outcome .result) (t .enum-told .given .1)
+    (certificate-plan (s .args .p) (s .args .n) (s .args .m) (plan s) (s .args .cert .now) (s .args .width) (plan-long e) (f .if2 .left) (o .plan-outcome .result) (o .plan-outcome .ensures)) _
+    (ap (λ (b : Bool). unless b 10 0) (sym (sym (h .header-ok .ensures) ∙ not-false (h .header-ok .result) (c .if3 .left))))
 
 pub certificate-outcome-spec : {M : Type 1} → statement M
 certificate-outcome-spec =
