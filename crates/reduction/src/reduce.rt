@@ -1,8 +1,6 @@
 // A vector less multiples of the rows of U, row after row: each takes the value at its own pivot column away. The multiple
 // stays in the cell of that column, which no later row of U reaches.
-ghost use mathlib.Core.Path.{_≡_};
 ghost use Prim.Native.Nat.{_*_, _%_, _<_};
-ghost use lib.ListN.{getD};
 ghost use Rattle.algebra.specs.Matrix.{vector};
 ghost use Rattle.residue.specs.Arithmetic.{Residue};
 ghost use Rattle.sparse.specs.Words.{view};
@@ -95,7 +93,7 @@ fn reduce_rows(
     }
 }
 
-// Makes each cell of a pivot column the residue that it stands for.
+// Makes each cell of a pivot column the residue that it stands for: `subtract_row` promises no more of a cell that it leaves alone.
 fn settle(q: Modulus, co: &[u32], cob: &[u8], r: usize, work: &mut [u64])
     requires { ⌜ SettleReady (q .p) r (view (now co) (now cob)) (now work) ⌝ }
     ensures { λ _. ⌜ PivotCells r (vector (view (now (co .entry)) (now (cob .entry)))) (λ x. x % q .p) (now (work .entry)) (now (work .exit)) ⌝ }

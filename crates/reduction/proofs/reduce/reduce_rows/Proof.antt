@@ -4,7 +4,7 @@ use native.Mathlib.Omega.{arith}
 use Rattle.algebra.specs.Matrix.{vector}
 use Rattle.sparse.specs.Matrix.{viewed, matrix}
 use Rattle.sparse.specs.Words.{view}
-use Rattle.reduction.proofs.Steps.{Reducing, reducing-starts, reducing-ready, reducing-turn, reducing-ends}
+use Rattle.reduction.proofs.Multiples.{Reducing, reducing-starts, reducing-ready, reducing-turn, reducing-ends}
 use Rattle.reduction.proofs.reduce.reduce_rows.Statement.{statement}
 use Rattle.reduction.proofs.reduce.reduce_rows.Tie as tie
 

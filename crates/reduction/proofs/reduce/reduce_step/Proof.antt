@@ -5,7 +5,7 @@ use native.Mathlib.Omega.{arith}
 use lib.ListN.{length, getD}
 use borrow.Author.Needs.{needs}
 use Rattle.sparse.specs.Words.{view}
-use Rattle.reduction.proofs.Steps.{multiple-kept}
+use Rattle.reduction.proofs.Multiples.{multiple-kept}
 use Rattle.reduction.proofs.reduce.reduce_step.Statement.{statement}
 use Rattle.reduction.proofs.reduce.reduce_step.Tie as tie
 

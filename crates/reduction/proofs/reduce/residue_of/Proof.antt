@@ -1,6 +1,6 @@
 -- `residue_of` meets its contract. Assumes nothing.
 use borrow.Author.Needs.{needs}
-use Rattle.reduction.proofs.Steps.{zero-residue}
+use Rattle.reduction.proofs.Multiples.{zero-residue}
 use Rattle.reduction.proofs.reduce.residue_of.Statement.{statement}
 use Rattle.reduction.proofs.reduce.residue_of.Tie as tie
 

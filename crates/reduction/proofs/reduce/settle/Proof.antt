@@ -1,72 +1,76 @@
+-- `settle` meets its contract; the loop's invariant is `Passing`, the measure what is left. Assumes nothing.
+use Prim.Native.Nat.{_-_, _%_, _<_}
+use mathlib.Core.Path.{_≡_, _∙_}
+use native.Mathlib.Omega.{arith}
+use lib.ListN.{length, getD}
+use borrow.Author.Needs.{needs}
+use Rattle.algebra.specs.Matrix.{vector}
+use Rattle.sparse.specs.Words.{view}
+use Rattle.reduction.proofs.Pivots.{Passing, passing-starts, passing-inside, passing-turn, passing-ends}
 use Rattle.reduction.proofs.reduce.settle.Statement.{statement}
 use Rattle.reduction.proofs.reduce.settle.Tie as tie
-use Rattle.reduction.proofs.reduce.settle.Reads as reads
-use Rattle.reduction.proofs.reduce.settle.Lts as lts
-use Rattle.lists.proofs.index.Reads as index-reads
-use Rattle.reduction.proofs.reduce.residue_of.Reads as residue-of-reads
-use Rattle.sparse.proofs.words.word.Reads as word-reads
 
 abbrev Inv-loop : tie.InvT-loop
-Inv-loop q co cob r work₀ k₀ work k = ?
+Inv-loop q co cob r work₀ k₀ work k = Passing r (vector (view co cob)) (λ x. x % q .p) work₀ work k
 
 abbrev μ-loop : tie.MeasureT-loop
-μ-loop q co cob r work₀ k₀ work k = ?
+μ-loop q co cob r work₀ k₀ work k = r - k
 
--- src/reduce.rt:104:5
+abbrev loop : tie.After-index Inv-loop μ-loop → tie.At-loop Inv-loop μ-loop
+loop c = c .before .before .before
+
+abbrev start : tie.At-loop Inv-loop μ-loop → tie.Start Inv-loop μ-loop
+start c = c .before .before .before .before
+
+-- the index is C[k]
+place : (c : tie.After-index Inv-loop μ-loop) → let s = start (loop c) in c .index .result ≡ getD (view (s .args .co .now) (s .args .cob .now)) (loop c .loop .k) 0
+place c = c .index .ensures ∙ c .before .word .ensures
+
+column : (c : tie.After-index Inv-loop μ-loop) → c .index .result < length (loop c .loop .work)
+column c = let l = loop c in passing-inside _ _ _ _ _ (l .loop .k) (start l .pre .pivots) (omega arith) (l .loop .inv) (c .index .result) (place c)
+
 loop-holds : tie.Need-loop-holds Inv-loop μ-loop
-loop-holds c = ?
+loop-holds c = passing-starts _ _ _ _
 
--- src/reduce.rt:105:23
 word-requires : tie.Need-word-requires Inv-loop μ-loop
-word-requires c κs = ?
+word-requires c κs = omega (arith, start (c .before) .pre .pivots .order)
 
--- src/reduce.rt:105:13
 index-requires : tie.Need-index-requires Inv-loop μ-loop
-index-requires c κs = ?
+index-requires c κs = search needs
 
--- src/reduce.rt:106:33
 mul-residue-of : tie.Need-mul-residue-of Inv-loop μ-loop
-mul-residue-of c = ?
+mul-residue-of c = let l = loop c in omega (arith, column c, l .loop .inv .cells .long, start l .good)
 
--- src/reduce.rt:106:33
 slice-read-residue-of : tie.Need-slice-read-residue-of Inv-loop μ-loop
-slice-read-residue-of c = ?
+slice-read-residue-of c = column (c .before)
 
--- src/reduce.rt:106:19
 residue-of-requires : tie.Need-residue-of-requires Inv-loop μ-loop
-residue-of-requires c κs = ?
+residue-of-requires c κs = start (loop (c .before)) .pre .positive
 
--- src/reduce.rt:106:19
 cast-work : tie.Need-cast-work Inv-loop μ-loop
-cast-work c = ?
+cast-work c = search needs
 
--- src/reduce.rt:106:9
 mul-work : tie.Need-mul-work Inv-loop μ-loop
-mul-work c = ?
+mul-work c = let l = loop (c .before .before) in omega (arith, column (c .before .before), l .loop .inv .cells .long, start l .good)
 
--- src/reduce.rt:106:9
 slice-write-work : tie.Need-slice-write-work Inv-loop μ-loop
-slice-write-work c = ?
+slice-write-work c = column (c .before .before)
 
--- src/reduce.rt:107:9
 add-k : tie.Need-add-k Inv-loop μ-loop
-add-k c = ?
+add-k c = let l = loop (c .before .before) in omega (arith, start l .fits .r)
 
--- src/reduce.rt:104:5
 loop-less : tie.Need-loop-less Inv-loop μ-loop
-loop-less c = ?
+loop-less c = omega arith
 
--- src/reduce.rt:104:5
 loop-again : tie.Need-loop-again Inv-loop μ-loop
-loop-again c = ?
+loop-again c = let i = c .before .before in let l = loop i in
+    passing-turn _ _ _ _ _ (l .loop .k) (start l .pre .pivots) (omega arith) (l .loop .inv) (i .index .result) (place i) (c .residue-of .result) (c .residue-of .ensures .value)
 
--- src/reduce.rt:99:1
 same-length : tie.Need-same-length Inv-loop μ-loop
-same-length c = ?
+same-length c = c .before .loop .inv .cells .long
 
--- src/reduce.rt:99:1
 returns : tie.Need-returns Inv-loop μ-loop
-returns c = ?
+returns c = let l = c .before in passing-ends _ _ _ _ _ (l .loop .k) (omega arith) (l .loop .inv)
 
 pub settle-spec : {M : Type 1} → statement M
 settle-spec =

@@ -1,6 +1,6 @@
 -- `subtract_multiple` meets its contract. Assumes nothing.
 use borrow.Author.Needs.{needs}
-use Rattle.reduction.proofs.Steps.{subtracted-zero}
+use Rattle.reduction.proofs.Multiples.{subtracted-zero}
 use Rattle.reduction.proofs.reduce.subtract_multiple.Statement.{statement}
 use Rattle.reduction.proofs.reduce.subtract_multiple.Tie as tie
 

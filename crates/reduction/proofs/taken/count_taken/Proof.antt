@@ -1,55 +1,68 @@
+-- `count_taken` meets its contract; the loop's invariant is `Counting`, the measure what is left. Assumes nothing.
+use Prim.Native.Nat.{_-_, _<_}
+use mathlib.Core.Path.{_≡_, _∙_}
+use mathlib.Core.Logic.{⊎-elim}
+use native.Mathlib.Omega.{arith}
+use lib.ListN.{length, getD}
+use borrow.Author.Needs.{needs}
+use Rattle.algebra.specs.Matrix.{vector}
+use Rattle.sparse.specs.Words.{view}
+use Rattle.reduction.proofs.Pivots.{Counting, counting-starts, counting-zero, counting-one, counting-ends}
 use Rattle.reduction.proofs.taken.count_taken.Statement.{statement}
 use Rattle.reduction.proofs.taken.count_taken.Tie as tie
-use Rattle.reduction.proofs.taken.count_taken.Reads as reads
-use Rattle.reduction.proofs.taken.count_taken.Lts as lts
-use Rattle.lists.proofs.index.Reads as index-reads
-use Rattle.sparse.proofs.words.word.Reads as word-reads
 
 abbrev Inv-loop : tie.InvT-loop
-Inv-loop co cob r work n₀ k₀ n k = ?
+Inv-loop co cob r work n₀ k₀ n k = Counting r (vector (view co cob)) work n k
 
 abbrev μ-loop : tie.MeasureT-loop
-μ-loop co cob r work n₀ k₀ n k = ?
+μ-loop co cob r work n₀ k₀ n k = r - k
 
--- src/taken.rt:20:5
+abbrev loop : tie.After-index Inv-loop μ-loop → tie.At-loop Inv-loop μ-loop
+loop c = c .before .before .before
+
+abbrev start : tie.At-loop Inv-loop μ-loop → tie.Start Inv-loop μ-loop
+start c = c .before .before .before .before
+
+-- the index is C[k]
+place : (c : tie.After-index Inv-loop μ-loop) → let s = start (loop c) in c .index .result ≡ getD (view (s .args .co .now) (s .args .cob .now)) (loop c .loop .k) 0
+place c = c .index .ensures ∙ c .before .word .ensures
+
+column : (c : tie.After-index Inv-loop μ-loop) → c .index .result < length (start (loop c) .args .work .now)
+column c = let l = loop c in omega (arith, place c, start l .pre .columns .below (l .loop .k) (omega arith))
+
 loop-holds : tie.Need-loop-holds Inv-loop μ-loop
-loop-holds c = ?
+loop-holds c = counting-starts _ _ _
 
--- src/taken.rt:21:23
 word-requires : tie.Need-word-requires Inv-loop μ-loop
-word-requires c κs = ?
+word-requires c κs = omega (arith, start (c .before) .pre .order)
 
--- src/taken.rt:21:13
 index-requires : tie.Need-index-requires Inv-loop μ-loop
-index-requires c κs = ?
+index-requires c κs = search needs
 
--- src/taken.rt:22:12
 mul-if1 : tie.Need-mul-if1 Inv-loop μ-loop
-mul-if1 c = ?
+mul-if1 c = omega (arith, column c, start (loop c) .good)
 
--- src/taken.rt:22:12
 shared-slice-read-if1 : tie.Need-shared-slice-read-if1 Inv-loop μ-loop
-shared-slice-read-if1 c = ?
+shared-slice-read-if1 c = column (c .before)
 
--- src/taken.rt:23:13
 add-n : tie.Need-add-n Inv-loop μ-loop
-add-n c = ?
+add-n c = let l = loop (c .before .before) in omega (arith, l .loop .inv .most, start l .fits .r)
 
--- src/taken.rt:25:9
 add-k : tie.Need-add-k Inv-loop μ-loop
-add-k c = ?
+add-k c = omega (arith, start (loop (c .before .before)) .fits .r)
 
--- src/taken.rt:20:5
 loop-less : tie.Need-loop-less Inv-loop μ-loop
-loop-less c = ?
+loop-less c = omega arith
 
--- src/taken.rt:20:5
 loop-again : tie.Need-loop-again Inv-loop μ-loop
-loop-again c = ?
+loop-again c = let i = c .before .before in let l = loop i in
+    ⊎-elim
+    (λ w. rw (w .1) (counting-one _ _ _ (l .loop .n) (l .loop .k) (i .index .result) (omega arith) (place i) (l .loop .inv) (w .0 .taken)))
+    (λ w. rw (w .1) (counting-zero _ _ _ (l .loop .n) (l .loop .k) (i .index .result) (omega arith) (place i) (l .loop .inv) (w .0 .left)))
+    (c .if1 .came)
 
--- src/taken.rt:14:1
 returns : tie.Need-returns Inv-loop μ-loop
-returns c = ?
+returns c = let l = c .before in counting-ends _ _ _ _ (l .loop .k) (omega arith) (l .loop .inv)
 
 pub count-taken-spec : {M : Type 1} → statement M
 count-taken-spec =

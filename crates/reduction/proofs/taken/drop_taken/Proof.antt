@@ -1,55 +1,64 @@
+-- `drop_taken` meets its contract; the loop's invariant is `Passing`, the measure what is left. Assumes nothing.
+use Prim.Native.Nat.{_-_, _<_}
+use mathlib.Core.Path.{_≡_, refl, _∙_}
+use native.Mathlib.Omega.{arith}
+use lib.ListN.{length, getD}
+use borrow.Author.Needs.{needs}
+use Rattle.algebra.specs.Matrix.{vector}
+use Rattle.sparse.specs.Words.{view}
+use Rattle.reduction.proofs.Pivots.{Passing, passing-starts, passing-inside, passing-turn, passing-ends}
 use Rattle.reduction.proofs.taken.drop_taken.Statement.{statement}
 use Rattle.reduction.proofs.taken.drop_taken.Tie as tie
-use Rattle.reduction.proofs.taken.drop_taken.Reads as reads
-use Rattle.reduction.proofs.taken.drop_taken.Lts as lts
-use Rattle.lists.proofs.index.Reads as index-reads
-use Rattle.sparse.proofs.words.word.Reads as word-reads
 
 abbrev Inv-loop : tie.InvT-loop
-Inv-loop co cob r work₀ k₀ work k = ?
+Inv-loop co cob r work₀ k₀ work k = Passing r (vector (view co cob)) (λ x. 0) work₀ work k
 
 abbrev μ-loop : tie.MeasureT-loop
-μ-loop co cob r work₀ k₀ work k = ?
+μ-loop co cob r work₀ k₀ work k = r - k
 
--- src/taken.rt:60:5
+abbrev loop : tie.After-index Inv-loop μ-loop → tie.At-loop Inv-loop μ-loop
+loop c = c .before .before .before
+
+abbrev start : tie.At-loop Inv-loop μ-loop → tie.Start Inv-loop μ-loop
+start c = c .before .before .before .before
+
+-- the index is C[k]
+place : (c : tie.After-index Inv-loop μ-loop) → let s = start (loop c) in c .index .result ≡ getD (view (s .args .co .now) (s .args .cob .now)) (loop c .loop .k) 0
+place c = c .index .ensures ∙ c .before .word .ensures
+
+column : (c : tie.After-index Inv-loop μ-loop) → c .index .result < length (loop c .loop .work)
+column c = let l = loop c in passing-inside _ _ _ _ _ (l .loop .k) (start l .pre) (omega arith) (l .loop .inv) (c .index .result) (place c)
+
 loop-holds : tie.Need-loop-holds Inv-loop μ-loop
-loop-holds c = ?
+loop-holds c = passing-starts _ _ _ _
 
--- src/taken.rt:61:23
 word-requires : tie.Need-word-requires Inv-loop μ-loop
-word-requires c κs = ?
+word-requires c κs = omega (arith, start (c .before) .pre .order)
 
--- src/taken.rt:61:13
 index-requires : tie.Need-index-requires Inv-loop μ-loop
-index-requires c κs = ?
+index-requires c κs = search needs
 
--- src/taken.rt:62:9
 mul-work : tie.Need-mul-work Inv-loop μ-loop
-mul-work c = ?
+mul-work c = let l = loop c in omega (arith, column c, l .loop .inv .cells .long, start l .good)
 
--- src/taken.rt:62:9
 slice-write-work : tie.Need-slice-write-work Inv-loop μ-loop
-slice-write-work c = ?
+slice-write-work c = column c
 
--- src/taken.rt:63:9
 add-k : tie.Need-add-k Inv-loop μ-loop
-add-k c = ?
+add-k c = omega (arith, start (loop c) .fits .r)
 
--- src/taken.rt:60:5
 loop-less : tie.Need-loop-less Inv-loop μ-loop
-loop-less c = ?
+loop-less c = omega arith
 
--- src/taken.rt:60:5
 loop-again : tie.Need-loop-again Inv-loop μ-loop
-loop-again c = ?
+loop-again c = let l = loop c in
+    passing-turn _ _ _ _ _ (l .loop .k) (start l .pre) (omega arith) (l .loop .inv) (c .index .result) (place c) 0 refl
 
--- src/taken.rt:55:1
 same-length : tie.Need-same-length Inv-loop μ-loop
-same-length c = ?
+same-length c = c .before .loop .inv .cells .long
 
--- src/taken.rt:55:1
 returns : tie.Need-returns Inv-loop μ-loop
-returns c = ?
+returns c = let l = c .before in passing-ends _ _ _ _ _ (l .loop .k) (omega arith) (l .loop .inv)
 
 pub drop-taken-spec : {M : Type 1} → statement M
 drop-taken-spec =

@@ -1,84 +1,92 @@
+-- `gather_taken` meets its contract; the loop's invariant is `Gathering`, the measure what is left. Assumes nothing.
+use Prim.Native.Nat.{_-_, _<_}
+use mathlib.Core.Path.{_≡_, _∙_}
+use native.Mathlib.Omega.{arith}
+use lib.ListN.{length, getD}
+use borrow.Author.Needs.{needs}
+use Rattle.algebra.specs.Matrix.{vector}
+use Rattle.sparse.specs.Words.{view}
+use Rattle.reduction.proofs.Pivots.{passing-inside, passing-cell, Gathering, gathering-starts, gathering-columns, gathering-values, gathering-room, gathering-turn, gathering-ends}
 use Rattle.reduction.proofs.taken.gather_taken.Statement.{statement}
 use Rattle.reduction.proofs.taken.gather_taken.Tie as tie
-use Rattle.reduction.proofs.taken.gather_taken.Reads as reads
-use Rattle.reduction.proofs.taken.gather_taken.Lts as lts
-use Rattle.lists.proofs.index.Reads as index-reads
-use Rattle.sparse.proofs.dense.put.Reads as put-reads
-use Rattle.sparse.proofs.words.word.Reads as word-reads
 
 abbrev Inv-loop : tie.InvT-loop
-Inv-loop co cob r at work₀ cols₀ vals₀ next₀ k₀ work cols vals next k = ?
+Inv-loop co cob r at work₀ cols₀ vals₀ next₀ k₀ work cols vals next k = Gathering at r (vector (view co cob)) work₀ cols₀ vals₀ work cols vals next k
 
 abbrev μ-loop : tie.MeasureT-loop
-μ-loop co cob r at work₀ cols₀ vals₀ next₀ k₀ work cols vals next k = ?
+μ-loop co cob r at work₀ cols₀ vals₀ next₀ k₀ work cols vals next k = r - k
 
--- src/taken.rt:45:5
+abbrev loop : tie.After-index Inv-loop μ-loop → tie.At-loop Inv-loop μ-loop
+loop c = c .before .before .before
+
+abbrev start : tie.At-loop Inv-loop μ-loop → tie.Start Inv-loop μ-loop
+start c = c .before .before .before .before .before .before
+
+-- a turn's last place, and the place of its index
+abbrev turn : tie.After-slice-known6 Inv-loop μ-loop → tie.After-index Inv-loop μ-loop
+turn c = c .before .before .before .before .before .before .before .before
+
+-- the index is C[k]
+place : (c : tie.After-index Inv-loop μ-loop) → let s = start (loop c) in c .index .result ≡ getD (view (s .args .co .now) (s .args .cob .now)) (loop c .loop .k) 0
+place c = c .index .ensures ∙ c .before .word .ensures
+
+column : (c : tie.After-index Inv-loop μ-loop) → c .index .result < length (loop c .loop .work)
+column c = let l = loop c in passing-inside _ _ _ _ _ (l .loop .k) (start l .pre .pivots) (omega arith) (l .loop .inv .passing) (c .index .result) (place c)
+
 loop-holds : tie.Need-loop-holds Inv-loop μ-loop
-loop-holds c = ?
+loop-holds c = gathering-starts _ _ _ _ _ _
 
--- src/taken.rt:46:23
 word-requires : tie.Need-word-requires Inv-loop μ-loop
-word-requires c κs = ?
+word-requires c κs = omega (arith, start (c .before) .pre .pivots .order)
 
--- src/taken.rt:46:13
 index-requires : tie.Need-index-requires Inv-loop μ-loop
-index-requires c κs = ?
+index-requires c κs = search needs
 
--- src/taken.rt:47:20
 mul-put : tie.Need-mul-put Inv-loop μ-loop
-mul-put c = ?
+mul-put c = let l = loop c in omega (arith, column c, l .loop .inv .passing .cells .long, start l .good)
 
--- src/taken.rt:47:20
 slice-read-put : tie.Need-slice-read-put Inv-loop μ-loop
-slice-read-put c = ?
+slice-read-put c = column (c .before)
 
--- src/taken.rt:47:20
+-- the multiple fits in 32 bits
 cast-put : tie.Need-cast-put Inv-loop μ-loop
-cast-put c = ?
+cast-put c = let i = c .before in let l = loop i in let s = start l in
+    omega (arith, passing-cell _ _ _ _ _ (l .loop .k) (s .pre .pivots) (omega arith) (l .loop .inv .passing) (i .index .result) (place i), s .pre .small (l .loop .k) (omega arith))
 
--- src/taken.rt:47:36
 cast-put-2 : tie.Need-cast-put-2 Inv-loop μ-loop
-cast-put-2 c = ?
+cast-put-2 c = let l = loop (c .before) in omega (arith, start l .pre .narrow)
 
--- src/taken.rt:47:9
 put-requires : tie.Need-put-requires Inv-loop μ-loop
-put-requires c κs = ?
+put-requires c κs = let i = c .before .before .before in let l = loop i in
+    gathering-room _ _ _ _ _ _ _ _ _ (l .loop .next) (l .loop .k) (i .index .result) (start l .pre) (omega arith) (place i) (l .loop .inv)
 
--- src/taken.rt:48:9
 mul-work : tie.Need-mul-work Inv-loop μ-loop
-mul-work c = ?
+mul-work c = let i = turn c in let l = loop i in omega (arith, column i, l .loop .inv .passing .cells .long, start l .good)
 
--- src/taken.rt:48:9
 slice-write-work : tie.Need-slice-write-work Inv-loop μ-loop
-slice-write-work c = ?
+slice-write-work c = column (turn c)
 
--- src/taken.rt:49:9
 add-k : tie.Need-add-k Inv-loop μ-loop
-add-k c = ?
+add-k c = omega (arith, start (loop (turn c)) .fits .r)
 
--- src/taken.rt:45:5
 loop-less : tie.Need-loop-less Inv-loop μ-loop
-loop-less c = ?
+loop-less c = omega arith
 
--- src/taken.rt:45:5
 loop-again : tie.Need-loop-again Inv-loop μ-loop
-loop-again c = ?
+loop-again c = let i = turn c in let l = loop i in
+    gathering-turn _ _ _ _ _ _ _ _ _ (l .loop .next) (l .loop .k) (i .index .result) (start l .pre) (omega arith) (place i) (l .loop .inv) _ _ _ (c .before .before .before .before .put .ensures)
 
--- src/taken.rt:31:1
 same-length : tie.Need-same-length Inv-loop μ-loop
-same-length c = ?
+same-length c = c .before .loop .inv .passing .cells .long
 
--- src/taken.rt:31:1
 same-length-2 : tie.Need-same-length-2 Inv-loop μ-loop
-same-length-2 c = ?
+same-length-2 c = gathering-columns _ _ _ _ _ _ _ _ _ _ _ (c .before .loop .inv)
 
--- src/taken.rt:31:1
 same-length-3 : tie.Need-same-length-3 Inv-loop μ-loop
-same-length-3 c = ?
+same-length-3 c = gathering-values _ _ _ _ _ _ _ _ _ _ _ (c .before .loop .inv)
 
--- src/taken.rt:31:1
 returns : tie.Need-returns Inv-loop μ-loop
-returns c = ?
+returns c = let l = c .before in gathering-ends _ _ _ _ _ _ _ _ _ _ (l .loop .k) (l .loop .inv) (omega arith)
 
 pub gather-taken-spec : {M : Type 1} → statement M
 gather-taken-spec =

@@ -1,25 +1,24 @@
--- The passes over the pivot columns, one turn at a time.
+-- Multiples of the rows of U taken away from the working row, one row after the other.
 use mathlib.Core.Path.{_≡_, refl, sym, ap, _∙_}
 use mathlib.Core.List.{List}
-use Prim.Native.Nat.{ℕ, zero, suc, _+_, _-_, _*_, _%_, _≤_, _<_}
+use Prim.Native.Nat.{ℕ, suc, _+_, _-_, _*_, _%_, _≤_, _<_}
 use native.Mathlib.Nat.{zero-mod, mod-lt, mul-le-mul-left}
 use native.Mathlib.Numerals.{add-one}
 use native.Mathlib.Omega.{arith}
-use native.Mathlib.Decide.{ℕ-discrete}
 use lib.ListN.{length, getD, set, length-set}
 use lib.Seq.{getD-set-same, getD-set-other}
 use Rattle.algebra.specs.Congruence.{_≈⟨_⟩_}
-use Rattle.algebra.specs.Matrix.{Vector, Matrix, Distinct, vector}
+use Rattle.algebra.specs.Matrix.{Vector, Matrix, vector}
 use Rattle.algebra.specs.Reduction.{reduced}
-use Rattle.algebra.proofs.Congruence.{exact, turn, _⊙_, _⊕_, _⊗_, same-refl, same-mod, by-multiples, cancel}
+use Rattle.algebra.proofs.Congruence.{exact, turn, _⊙_, _⊕_, same-mod, by-multiples}
 use Rattle.algebra.proofs.Dot.{below-suc}
 use Rattle.residue.specs.Arithmetic.{Residue}
 use Rattle.sparse.specs.Row.{Below}
-use Rattle.sparse.specs.Matrix.{Compressed, form, matrix}
+use Rattle.sparse.specs.Matrix.{Compressed, matrix}
 use Rattle.sparse.specs.WorkingRow.{Subtracted}
 use Rattle.sparse.proofs.Subtraction.{below-set, subtracted-none, subtracted-ext}
-use Rattle.reduction.specs.InPlace.{UpperReady, ReducedRow}
-use Rattle.reduction.specs.Pivots.{PivotsReady, PivotCells, StepReady, MultipleTaken, RowReducing, RowReduced}
+use Rattle.reduction.specs.InPlace.{UpperReady}
+use Rattle.reduction.specs.Pivots.{StepReady, MultipleTaken, RowReducing}
 
 -- ---- one multiple
 
