@@ -93,7 +93,8 @@ fn reduce_rows(
     }
 }
 
-// Makes each cell of a pivot column the residue that it stands for: `subtract_row` promises no more of a cell that it leaves alone.
+// Makes each cell of a pivot column the residue that it stands for: `subtract_row` promises no more of a cell that it leaves
+// alone.
 fn settle(q: Modulus, co: &[u32], cob: &[u8], r: usize, work: &mut [u64])
     requires { ⌜ SettleReady (q .p) r (view (now co) (now cob)) (now work) ⌝ }
     ensures { λ _. ⌜ PivotCells r (vector (view (now (co .entry)) (now (cob .entry)))) (λ x. x % q .p) (now (work .entry)) (now (work .exit)) ⌝ }

@@ -58,8 +58,7 @@ pub fn drop_taken(co: &[u32], cob: &[u8], r: usize, work: &mut [u64])
 {
     let mut k = 0;
     while k < r {
-        let c = index(word(co, cob, k));
-        work[c] = 0;
+        work[index(word(co, cob, k))] = 0;
         k += 1;
     }
 }
