@@ -7,7 +7,7 @@ use lib.ListN.{length, getD}
 use borrow.Author.Needs.{needs}
 use Rattle.algebra.specs.Matrix.{vector}
 use Rattle.sparse.specs.Words.{view}
-use Rattle.reduction.proofs.Pivots.{Counting, counting-starts, counting-zero, counting-one, counting-ends}
+use Rattle.reduction.proofs.Gathering.{Counting, counting-starts, counting-zero, counting-one, counting-ends}
 use Rattle.reduction.proofs.taken.count_taken.Statement.{statement}
 use Rattle.reduction.proofs.taken.count_taken.Tie as tie
 

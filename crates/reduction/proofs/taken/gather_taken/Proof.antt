@@ -6,7 +6,8 @@ use lib.ListN.{length, getD}
 use borrow.Author.Needs.{needs}
 use Rattle.algebra.specs.Matrix.{vector}
 use Rattle.sparse.specs.Words.{view}
-use Rattle.reduction.proofs.Pivots.{passing-inside, passing-cell, Gathering, gathering-starts, gathering-columns, gathering-values, gathering-room, gathering-turn, gathering-ends}
+use Rattle.reduction.proofs.Pivots.{passing-inside, passing-cell}
+use Rattle.reduction.proofs.Gathering.{Gathering, gathering-starts, gathering-columns, gathering-values, gathering-room, gathering-turn, gathering-ends}
 use Rattle.reduction.proofs.taken.gather_taken.Statement.{statement}
 use Rattle.reduction.proofs.taken.gather_taken.Tie as tie
 
