@@ -1,0 +1,14 @@
+pub mod Moduli
+pub mod Cutting
+pub mod Verdicts
+pub mod FirstLines
+pub mod StoredForm
+pub mod Storing
+pub mod Progress
+pub mod Printed
+pub mod Accepted
+pub mod Answers
+pub mod Ordered
+pub mod WellFormed
+pub mod EntryLimit
+pub mod Done

@@ -1,0 +1,204 @@
+-- The loop over the triples: where it stands before each line, and what a line leads to.
+use mathlib.Core.Path.{_≡_, refl, sym, ap, _∙_, subst}
+use mathlib.Core.List.{List, [], _∷_}
+use mathlib.Core.Bool.{Bool, true, false, cond, _&&_, not}
+use Prim.Native.Nat.{ℕ, _+_, _≤_, _<_, zero-le}
+use native.Mathlib.Nat.{le-of-eq}
+use native.Mathlib.Omega.{arith}
+use lib.ListN.{drop-of-length-le, length, drop, length-append, length-drop}
+use lib.Dec.{eqb, leb}
+use borrow.Author.Tests.{eqb-true, eqb-false, ne-eqb, leb-false}
+use Rattle.fields.specs.Pieces.{Pieces, last, more, prepend, pieces, firstPiece}
+use Rattle.fields.proofs.Cuts.{piece-end, piece-last, piece-more}
+use Rattle.plan_text.specs.declared.judge.Sizes.{Sizes}
+use Rattle.plan_text.specs.declared.judge.Verdict.{Verdict}
+use Rattle.plan_text.specs.declared.judge.Verdict.the-variants.{Refused, Last, Entry as AnEntry}
+use Rattle.plan_text.specs.declared.triples.TripleLines.the-variants.{Read}
+use Rattle.plan_text.specs.Limits.{startsLength}
+use Rattle.plan_text.specs.Line.{lineOf}
+use Rattle.plan_text.specs.Judge.{judge, mayStand, before}
+use Rattle.plan_text.specs.Reading.{Entry, ReadResult, refused, accepted, kept, lastRow, lastColumn, ending, onward, triples, verdictOn}
+use Rattle.plan_text.specs.Stored.{startsOf, RowsWithin, Stored, Storable}
+use Rattle.plan_text.specs.Call.{Begins, Limits, Shows}
+use Rattle.plan_text.proofs.StoredForm.{starts-none, starts-length, columns-none, values-none, columns-length, values-length}
+use Rattle.plan_text.proofs.Storing.{kept-zero, kept-more}
+use Rattle.plan_text.proofs.Verdicts.{IsEntry, judged-entry, within-bounds, before-row}
+
+-- the loop at the place `at`, before the line of number `line`, after the triple at a and b, with so many entries stored
+pub record Progress (text : List ℕ) (from : ℕ) (s : Sizes) (room : ℕ) (st co va : List ℕ) (at line a b count : ℕ) : Type 0 where
+  pub limits : Limits text s at
+  pub seen : List Entry
+  pub same : triples s room 3 [] (pieces 10 (drop from text)) ≡ triples s room line seen (pieces 10 (drop at text))
+  pub last-a : a ≡ lastRow seen
+  pub last-b : b ≡ lastColumn seen
+  pub stored : Stored a room (kept seen) count st co va
+  pub row-limit : a ≤ s .n
+  pub few : count ≤ at
+  pub enough : count ≤ room
+  pub line-at : line ≤ at + 3
+
+pub progress-starts : (text : List ℕ) (from : ℕ) (s : Sizes) (st co va : List ℕ) → Begins text from s st co va → Progress text from s (length co) st co va from 3 0 0 0
+unfolding kept RowsWithin
+progress-starts text from s st co va h = record {
+  limits = h .limits;
+  seen = [];
+  same = refl;
+  last-a = refl;
+  last-b = refl;
+  stored = record {
+    rows = tt;
+    number = refl;
+    starts-are = h .cleared .starts-zero ∙ sym starts-none;
+    columns-are = h .cleared .columns-zero ∙ sym (columns-none (length co));
+    values-are = h .cleared .values-zero ∙ sym (values-none (length co));
+  };
+  row-limit = zero-le;
+  few = zero-le;
+  enough = zero-le;
+  line-at = omega arith;
+}
+
+-- something follows the last line
+ending-some : (s : Sizes) (k : ℕ) (seen : List Entry) (l : List ℕ) → (length l ≡ 0 → ⊥) → ending s k seen (pieces 10 l) ≡ refused 3 k
+unfolding pieces
+ending-some s k seen [] h = absurd (h refl)
+ending-some s k seen (b ∷ bs) h = go (eqb b 10) (pieces 10 bs)
+  where
+    go : (t : Bool) (p : Pieces) → ending s k seen (cond t (more [] p) (prepend b p)) ≡ refused 3 k
+    go true p = refl
+    go false (last l) = refl
+    go false (more l q) = refl
+
+-- one triple more adds at most one entry, and none where there is no room
+count-step : (t : Entry) (seen : List Entry) (room : ℕ) → ((t .value ≡ 0 → ⊥) → length (kept seen) < room) → length (kept seen) ≤ room
+    → (length (kept (t ∷ seen)) ≤ length (kept seen) + 1) × (length (kept (t ∷ seen)) ≤ room)
+count-step t seen room h le = go (eqb (t .value) 0) refl
+  where
+    go : (x : Bool) → eqb (t .value) 0 ≡ x → (length (kept (t ∷ seen)) ≤ length (kept seen) + 1) × (length (kept (t ∷ seen)) ≤ room)
+    go true e = let long = ap length (kept-zero t seen (eqb-true (t .value) 0 e)) in (omega (arith, long), omega (arith, long))
+    go false e =
+        let z = eqb-false (t .value) 0 e in
+        let long = ap length (kept-more t seen z) ∙ length-append (kept seen) (t ∷ []) in
+        (omega (arith, long), omega (arith, long, h z))
+
+module _ {text : List ℕ} {from : ℕ} {s : Sizes} {room : ℕ} {st co va : List ℕ} {at line a b count : ℕ} (g : Progress text from s room st co va at line a b count) where
+  abbrev whole : ReadResult
+  whole = triples s room 3 [] (pieces 10 (drop from text))
+
+  pub starts-long : length st ≡ startsLength
+  starts-long = ap length (g .stored .starts-are) ∙ starts-length a (kept (g .seen)) (omega (arith, g .row-limit, g .limits .n-limit))
+
+  pub columns-long : length co ≡ room
+  columns-long = ap length (g .stored .columns-are) ∙ columns-length room (kept (g .seen)) (omega (arith, g .stored .number, g .enough))
+
+  pub values-long : length va ≡ room
+  values-long = ap length (g .stored .values-are) ∙ values-length room (kept (g .seen)) (omega (arith, g .stored .number, g .enough))
+
+  -- the text is accepted: what the loop returns and leaves
+  pub shows-read : (o : ReadResult) → o ≡ accepted s (g .seen) → Shows room o (Read count a) st co va
+  shows-read o q =
+      subst (λ (x : ReadResult). Shows room x (Read count a) st co va) (sym q) (
+        (λ k. Read (g .stored .number k) (g .last-a k)),
+        record {
+          rows = subst (λ (n : ℕ). RowsWithin n (kept (g .seen))) (g .last-a) (g .stored .rows);
+          number = refl;
+          starts-are = g .stored .starts-are ∙ ap (λ (n : ℕ). startsOf n (kept (g .seen))) (g .last-a);
+          columns-are = g .stored .columns-are;
+          values-are = g .stored .values-are;
+        },
+        subst (λ (n : ℕ). n ≤ s .n) (g .last-a) (g .row-limit),
+      )
+
+  -- the text ends where a line should begin
+  pub no-line : length text ≤ at → whole ≡ refused 3 line
+  unfolding triples pieces
+  no-line h = g .same ∙ rw (drop-of-length-le text h)
+
+  module _ {l : List ℕ} (e : l ≡ firstPiece (pieces 10 (drop at text))) where
+    pub line-end : at + length l ≤ length text
+    line-end = piece-end 10 text l at (g .limits .place) e
+
+    -- the line has no line feed
+    pub no-feed : at + length l ≡ length text → whole ≡ refused 3 line
+    unfolding triples
+    no-feed h = g .same ∙ ap (triples s room line (g .seen)) (piece-last 10 text l at (g .limits .place) e h)
+
+    module _ {verdict : Verdict} (j : verdict ≡ judge (mayStand a b (lineOf l)) (leb room count) s (lineOf l)) (short : at + length l < length text) where
+      abbrev next : ℕ
+      next = at + length l + 1
+
+      abbrev rest : Pieces
+      rest = pieces 10 (drop next text)
+
+      verdict-is : verdict ≡ verdictOn s room (g .seen) l
+      verdict-is = j ∙ (λ k. judge (mayStand (g .last-a k) (g .last-b k) (lineOf l)) (leb room (g .stored .number k)) s (lineOf l))
+
+      judged-line : whole ≡ onward s line (g .seen) rest (λ t. triples s room (line + 1) (t ∷ g .seen) rest) verdict
+      unfolding triples
+      judged-line =
+          g .same
+          ∙ ap (triples s room line (g .seen)) (piece-more 10 text l at (g .limits .place) e next short refl)
+          ∙ ap (onward s line (g .seen) rest (λ t. triples s room (line + 1) (t ∷ g .seen) rest)) (sym verdict-is)
+
+      pub is-refused : (c : ℕ) → verdict ≡ Refused c → whole ≡ refused c line
+      is-refused c v = judged-line ∙ rw v
+
+      -- the last line, and nothing after it
+      pub is-finished : verdict ≡ Last → next ≡ length text → whole ≡ accepted s (g .seen)
+      unfolding pieces
+      is-finished v n = judged-line ∙ rw (v, drop-of-length-le text (le-of-eq (sym n)))
+
+      -- the last line, and something after it
+      pub not-finished : verdict ≡ Last → (next ≡ length text → ⊥) → whole ≡ refused 3 (line + 1)
+      not-finished v n = judged-line ∙ rw v (ending-some s (line + 1) (g .seen) (drop next text) (λ q. n (omega (arith, length-drop next text))))
+
+      module _ {i k v : ℕ} (ve : verdict ≡ AnEntry i k v) where
+        abbrev entry : Entry
+        entry = record { row = i; column = k; value = v }
+
+        judged : IsEntry (mayStand a b (lineOf l)) (leb room count) s (lineOf l) i k v
+        judged = judged-entry (mayStand a b (lineOf l)) (leb room count) s (lineOf l) i k v (sym j ∙ ve)
+
+        ordered : before a b i k ≡ true
+        ordered = sym (ap (mayStand a b) (judged .line)) ∙ judged .order
+
+        -- a value that is stored has a place
+        space : (v ≡ 0 → ⊥) → count < room
+        space z = leb-false room count (sym (ap (λ (x : Bool). not x && leb room count) (ne-eqb v 0 z)) ∙ judged .room)
+
+        pub storable : Storable (length st) (length co) (length va) count a i k v
+        storable =
+            let row = within-bounds i (s .n) (judged .row-inside) in
+            let column = within-bounds k (s .m) (judged .column-inside) in
+            record {
+              order = before-row a b i k ordered;
+              inside = omega (arith, row, g .limits .n-limit);
+              starts-length = starts-long;
+              first-row = row .0;
+              first-column = column .0;
+              column-fits = omega (arith, column, g .limits .m-limit);
+              count-fits = omega (arith, g .few, g .limits .place, g .limits .short);
+              lists = columns-long ∙ sym values-long;
+              room = λ z. omega (arith, columns-long, space z);
+            }
+
+        pub goes-on : (st′ co′ va′ : List ℕ) (n : ℕ)
+            → (Stored a (length co) (kept (g .seen)) count st co va → Stored i (length co) (kept (entry ∷ g .seen)) n st′ co′ va′)
+            → Progress text from s room st′ co′ va′ next (line + 1) i k n
+        goes-on st′ co′ va′ n store =
+            let h : Stored i room (kept (entry ∷ g .seen)) n st′ co′ va′ =
+            subst (λ (r : ℕ). Stored a r (kept (g .seen)) count st co va → Stored i r (kept (entry ∷ g .seen)) n st′ co′ va′) columns-long store (g .stored) in
+            let c = count-step entry (g .seen) room (λ z. omega (arith, g .stored .number, space z)) (omega (arith, g .stored .number, g .enough)) in
+            let old = g .limits in
+            record {
+              limits = record { place = omega arith; short = old .short; modulus = old .modulus; n-limit = old .n-limit; m-limit = old .m-limit };
+              seen = entry ∷ g .seen;
+              same = judged-line ∙ rw ve;
+              last-a = refl;
+              last-b = refl;
+              stored = h;
+              row-limit = within-bounds i (s .n) (judged .row-inside) .1;
+              few = omega (arith, c, h .number, g .few, g .stored .number);
+              enough = omega (arith, c, h .number);
+              line-at = omega (arith, g .line-at);
+            }

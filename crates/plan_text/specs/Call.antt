@@ -1,0 +1,98 @@
+-- A call's answer, and what its steps start from and come to.
+--   Answer              what a call returns and leaves in the lent lists
+--   refusalOf c d       what a refusal returns: its number and detail, and 0 for all else
+--   refuses c d ..      the answer that is a refusal: all lists cleared
+--   answerOf room o     the answer for a text that is read as o
+--   callOf text a b c   the answer for lists of the lengths a, b and c: 9 where one is wrong
+--   Gives x r ..        the result and the lists are what the answer x says
+--   Begins, Shows       what reading the triples starts from, and what it returns and leaves
+--   Second              what reading the second line starts from
+--   afterOpen, Bounded  what the first two lines lead to, and the limits that sizes which were read keep
+use Prim.Native.Nat.{ℕ, _≤_}
+use mathlib.Core.Path.{_≡_}
+use mathlib.Core.List.{List, []}
+use mathlib.Core.Bool.{true, cond, _&&_}
+use lib.Dec.{eqb}
+use lib.ListN.{length, drop}
+use Rattle.lists.specs.Filled.{zeros}
+use Rattle.residue.specs.Range.{isModulus}
+use Rattle.fields.specs.Pieces.{pieces}
+use Rattle.plan_text.specs.Limits.{largestSize, largestText, startsLength}
+use Rattle.plan_text.specs.Reading.{Entry, kept, ReadResult, refused, accepted, lastRow, triples, readOf}
+use Rattle.plan_text.specs.Stored.{startsOf, columnsOf, valuesOf, Stored}
+use Rattle.plan_text.specs.declared.Reading.{Reading}
+use Rattle.plan_text.specs.declared.judge.Sizes.{Sizes}
+use Rattle.plan_text.specs.declared.opening.Opening.{Opening}
+use Rattle.plan_text.specs.declared.opening.Opening.the-variants.{Refused as NotOpened, Opened}
+use Rattle.plan_text.specs.declared.triples.TripleLines.{TripleLines}
+use Rattle.plan_text.specs.declared.triples.TripleLines.the-variants.{Refused, Read}
+
+pub record Answer : Type 0 where
+  pub result : Reading
+  pub starts : List ℕ
+  pub columns : List ℕ
+  pub values : List ℕ
+
+abbrev pub refusalOf : ℕ → ℕ → Reading
+refusalOf c d = record { number = c; detail = d; p = 0; n = 0; m = 0; count = 0 }
+
+abbrev pub refuses : ℕ → ℕ → ℕ → ℕ → ℕ → Answer
+refuses c d a b k = record { result = refusalOf c d; starts = zeros a; columns = zeros b; values = zeros k }
+
+unfoldable pub answerOf : ℕ → ReadResult → Answer
+answerOf room (refused c d) = refuses c d startsLength room room
+answerOf room (accepted s seen) =
+    let es : List Entry = kept seen in
+    record {
+      result = record { number = 0; detail = 0; p = s .modulus .p; n = s .n; m = s .m; count = length es };
+      starts = startsOf (s .n) es;
+      columns = columnsOf room es;
+      values = valuesOf room es;
+    }
+
+unfoldable pub callOf : List ℕ → ℕ → ℕ → ℕ → Answer
+callOf text a b c = cond (eqb a startsLength && eqb b c) (answerOf b (readOf b text)) (refuses 9 0 a b c)
+
+pub record Gives (x : Answer) (r : Reading) (starts columns values : List ℕ) : Type 0 where
+  pub result-is : r ≡ x .result
+  pub starts-are : starts ≡ x .starts
+  pub columns-are : columns ≡ x .columns
+  pub values-are : values ≡ x .values
+
+-- lists of the right lengths, all zero
+pub record Cleared (starts columns values : List ℕ) : Type 0 where
+  pub starts-zero : starts ≡ zeros startsLength
+  pub columns-zero : columns ≡ zeros (length columns)
+  pub values-zero : values ≡ zeros (length columns)
+
+-- ---- the triples
+-- sizes that were read, and the place of the third line
+pub record Limits (text : List ℕ) (s : Sizes) (at : ℕ) : Type 0 where
+  pub place : at ≤ length text
+  pub short : length text ≤ largestText
+  pub modulus : isModulus (s .modulus .p) ≡ true
+  pub n-limit : s .n ≤ largestSize
+  pub m-limit : s .m ≤ largestSize
+
+pub record Begins (text : List ℕ) (from : ℕ) (s : Sizes) (starts columns values : List ℕ) : Type 0 where
+  pub limits : Limits text s from
+  pub cleared : Cleared starts columns values
+
+abbrev pub Shows : ℕ → ReadResult → TripleLines → List ℕ → List ℕ → List ℕ → Type 0
+Shows room (refused c k) r starts columns values = r ≡ Refused c k
+Shows room (accepted s seen) r starts columns values =
+    (r ≡ Read (length (kept seen)) (lastRow seen)) × Stored (lastRow seen) room (kept seen) (length (kept seen)) starts columns values × (lastRow seen ≤ s .n)
+
+-- ---- the first two lines
+pub record Second (text : List ℕ) (at p : ℕ) : Type 0 where
+  pub place : at ≤ length text
+  pub short : length text ≤ largestText
+  pub modulus : isModulus p ≡ true
+
+abbrev pub afterOpen : ℕ → List ℕ → Opening → ReadResult
+afterOpen room text (NotOpened c d) = refused c d
+afterOpen room text (Opened s at) = triples s room 3 [] (pieces 10 (drop at text))
+
+abbrev pub Bounded : List ℕ → Opening → Type 0
+Bounded text (NotOpened c d) = Unit {0}
+Bounded text (Opened s at) = Limits text s at

@@ -1,0 +1,7 @@
+pub mod Limits
+pub mod Line
+pub mod Judge
+pub mod Reading
+pub mod Stored
+pub mod Call
+pub mod Stating

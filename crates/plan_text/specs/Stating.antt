@@ -1,0 +1,86 @@
+-- The text that states a plan: what `readOf` accepts, exactly.
+--   StatedEntry          a triple as it is stated: row and column from 1, the value with its sign
+--   integerOf v          the integer that v is
+--   tripleText t         the line `i j v`
+--   sizesText s          the line `n m M`
+--   planText s ts        the text of the plan with the sizes s and the triples ts
+--   Follows s a b t      t stands in the plan and after the triple at a and b, and its value is in range
+--   Rising s a b ts      each of the triples ts follows the one before, the first the one at a and b
+--   entriesOf p ts       the triples with their values modulo p, the latest first
+--   Plan room s ts       a plan within the limits that lists with room for so many entries can hold
+--   States room s text out   the text states a plan with the sizes s whose entries are `out`
+use Prim.Native.Nat.{ℕ, _≤_}
+use mathlib.Core.Path.{_≡_}
+use mathlib.Core.List.{List, [], _∷_, map, reverse}
+use mathlib.Core.Bool.{true}
+use lib.IntN.{ℤ}
+use lib.ListN.{length}
+use Rattle.residue.specs.Range.{isModulus}
+use Rattle.residue.specs.Signed.{residueOf, valueOf}
+use Rattle.fields.specs.Pieces.{Pieces, last, more, joined}
+use Rattle.fields.specs.Number.{isNegative, magnitude}
+use Rattle.fields.specs.Decimal.{decimal, signedText, Proper}
+use Rattle.fields.specs.declared.numbers.Signed.{Signed}
+use Rattle.fields.specs.declared.numbers.Signed.the-variants.{Plus}
+use Rattle.plan_text.specs.declared.judge.Sizes.{Sizes}
+use Rattle.plan_text.specs.Limits.{largestSize, largestText}
+use Rattle.plan_text.specs.Judge.{inRange, within, before}
+use Rattle.plan_text.specs.Reading.{Entry, kept}
+
+pub record StatedEntry : Type 0 where
+  pub row : ℕ
+  pub column : ℕ
+  pub value : Signed
+
+abbrev pub integerOf : Signed → ℤ
+integerOf v = valueOf (isNegative v) (magnitude v)
+
+-- ---- the text
+unfoldable pub tripleText : StatedEntry → List ℕ
+tripleText t = joined 32 (more (decimal (t .row)) (more (decimal (t .column)) (last (signedText (t .value)))))
+
+unfoldable pub sizesText : Sizes → List ℕ
+sizesText s = joined 32 (more (decimal (s .n)) (more (decimal (s .m)) (last (77 ∷ []))))
+
+-- the last line, `0 0 0`
+abbrev pub lastLine : List ℕ
+lastLine = tripleText (record { row = 0; column = 0; value = Plus 0 })
+
+unfoldable pub tripleLines : List StatedEntry → Pieces
+tripleLines [] = more lastLine (last [])
+tripleLines (t ∷ ts) = more (tripleText t) (tripleLines ts)
+
+unfoldable pub planText : Sizes → List StatedEntry → List ℕ
+planText s ts = joined 10 (more (decimal (s .modulus .p)) (more (sizesText s) (tripleLines ts)))
+
+-- ---- the plan
+pub record Follows (s : Sizes) (a b : ℕ) (t : StatedEntry) : Type 0 where
+  pub row-inside : within (t .row) (s .n) ≡ true
+  pub column-inside : within (t .column) (s .m) ≡ true
+  pub order : before a b (t .row) (t .column) ≡ true
+  pub range : inRange (t .value) ≡ true
+  pub proper : Proper (t .value)
+
+abbrev pub Rising : Sizes → ℕ → ℕ → List StatedEntry → Type 0
+Rising s a b [] = Unit {0}
+Rising s a b (t ∷ ts) = Follows s a b t × Rising s (t .row) (t .column) ts
+
+abbrev pub entryOf : ℕ → StatedEntry → Entry
+entryOf p t = record { row = t .row; column = t .column; value = residueOf p (integerOf (t .value)) }
+
+abbrev pub entriesOf : ℕ → List StatedEntry → List Entry
+entriesOf p ts = reverse (map (entryOf p) ts)
+
+pub record Plan (room : ℕ) (s : Sizes) (ts : List StatedEntry) : Type 0 where
+  pub modulus : isModulus (s .modulus .p) ≡ true
+  pub rows : s .n ≤ largestSize
+  pub columns : s .m ≤ largestSize
+  pub rising : Rising s 0 0 ts
+  pub fits : length (kept (entriesOf (s .modulus .p) ts)) ≤ room
+  pub short : length (planText s ts) ≤ largestText
+
+pub record States (room : ℕ) (s : Sizes) (text : List ℕ) (out : List Entry) : Type 0 where
+  pub stated : List StatedEntry
+  pub plan : Plan room s stated
+  pub text-is : text ≡ planText s stated
+  pub entries-are : out ≡ entriesOf (s .modulus .p) stated

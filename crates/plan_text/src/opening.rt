@@ -1,0 +1,111 @@
+// The first two lines: the modulus and the sizes.
+ghost use mathlib.Core.Path.{_≡_};
+ghost use mathlib.Core.Bool.{true};
+ghost use Prim.Native.Nat.{ℕ, _≤_};
+ghost use lib.ListN.{length, drop};
+ghost use Rattle.fields.specs.Pieces.{pieces};
+ghost use Rattle.residue.specs.Range.{isModulus};
+ghost use Rattle.plan_text.specs.Reading.{fromSecond, readOf};
+ghost use Rattle.plan_text.specs.Call.{afterOpen, Bounded, Second};
+use crate::header::Header;
+use crate::judge::Sizes;
+use fields::numbers::Number;
+use residue::Modulus;
+
+const LARGEST_TEXT: usize = 65536;
+
+const LARGEST_SIZE: u64 = 2048;
+
+// What the first two lines lead to: a refusal, or the sizes and the place of the third line.
+pub enum Opening {
+    Refused { number: u32, detail: u32 },
+    Opened { s: Sizes, at: usize },
+}
+
+// Whether the number of the first line is a modulus.
+fn accepts(p: u64) -> bool
+    ensures { λ r. ⌜ r ≡ isModulus p ⌝ }
+{
+    if 4294967295 < p {
+        return false;
+    }
+    residue::is_modulus(p as u32)
+}
+
+// The second line, which starts at `at`.
+fn open_second(text: &[u8], at: usize, modulus: Modulus) -> Opening
+    requires { ⌜ Second (now text) at (modulus .p) ⌝ }
+    ensures { λ r. ⌜ ((room : ℕ) → fromSecond (modulus .p) room (pieces 10 (drop at (now (text .entry)))) ≡ afterOpen room (now (text .entry)) r) × Bounded (now (text .entry)) r ⌝ }
+{
+    let l = line_reader::line_from(text, at, 2);
+    let e = at + l.len();
+    if e == text.len() {
+        return Opening::Refused {
+            number: 3,
+            detail: 2,
+        };
+    }
+    match crate::header::header_of(l) {
+        Header::Given { n, m } => {
+            if LARGEST_SIZE < n {
+                return Opening::Refused {
+                    number: 2,
+                    detail: 0,
+                };
+            }
+            if LARGEST_SIZE < m {
+                return Opening::Refused {
+                    number: 2,
+                    detail: 0,
+                };
+            }
+            Opening::Opened {
+                s: Sizes {
+                    modulus,
+                    n: n as u32,
+                    m: m as u32,
+                },
+                at: e + 1,
+            }
+        }
+        Header::NotHeader => Opening::Refused {
+            number: 3,
+            detail: 2,
+        },
+    }
+}
+
+// The first two lines.
+pub fn open(text: &[u8]) -> Opening
+    ensures { λ r. ⌜ ((room : ℕ) → readOf room (now (text .entry)) ≡ afterOpen room (now (text .entry)) r) × Bounded (now (text .entry)) r ⌝ }
+{
+    if LARGEST_TEXT < text.len() {
+        return Opening::Refused {
+            number: 2,
+            detail: 0,
+        };
+    }
+    let l = line_reader::line_from(text, 0, 1);
+    let e = l.len();
+    if e == text.len() {
+        return Opening::Refused {
+            number: 3,
+            detail: 1,
+        };
+    }
+    match fields::numbers::number_of(l) {
+        Number::Value(p) => {
+            if accepts(p) {
+                return open_second(text, e + 1, Modulus { p: p as u32 });
+            }
+            Opening::Refused {
+                number: 1,
+                detail: 0,
+            }
+        }
+        Number::NotNumber => Opening::Refused {
+            number: 3,
+            detail: 1,
+        },
+    }
+}
