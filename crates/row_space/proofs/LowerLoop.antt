@@ -29,7 +29,7 @@ use Rattle.row_space.specs.Substitution.{less, quotient, backL}
 use Rattle.row_space.specs.Ready.{residues, LowerTurn, LowerOrder}
 use Rattle.row_space.proofs.Substitutions.{put-here, put-other}
 
-backL-ext : (p : ℕ) (L : Matrix) (k : ℕ) (d d′ : Vector) → ((l : ℕ) → l < k → d l ≡ d′ l) → (i : ℕ) → backL p L k d i ≡ backL p L k d′ i
+pub backL-ext : (p : ℕ) (L : Matrix) (k : ℕ) (d d′ : Vector) → ((l : ℕ) → l < k → d l ≡ d′ l) → (i : ℕ) → backL p L k d i ≡ backL p L k d′ i
 unfolding backL
 backL-ext p L zero d d′ h i = refl
 backL-ext p L (suc k) d d′ h i =

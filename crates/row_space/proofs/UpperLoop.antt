@@ -57,7 +57,7 @@ adding-ends p cols vals z s t h a =
 
 -- ---- z: the pivot cells of rows k and above are filled
 
-backU-ext : (p m : ℕ) (C : Vector) (U : Matrix) (k : ℕ) (z z′ : Vector) → ((t : ℕ) → t < m → z t ≡ z′ t) → (t : ℕ) → t < m → backU p m C U k z t ≡ backU p m C U k z′ t
+pub backU-ext : (p m : ℕ) (C : Vector) (U : Matrix) (k : ℕ) (z z′ : Vector) → ((t : ℕ) → t < m → z t ≡ z′ t) → (t : ℕ) → t < m → backU p m C U k z t ≡ backU p m C U k z′ t
 unfolding backU
 backU-ext p m C U zero z z′ h t g = h t g
 backU-ext p m C U (suc k) z z′ h t g =
