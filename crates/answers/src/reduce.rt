@@ -1,6 +1,7 @@
 // The reduction of a question by the rows of U, in order, in the working row.
 ghost use mathlib.Core.Path.{_≡_};
 ghost use Prim.Native.Nat.{_%_, _≤_, _<_};
+ghost use lib.Dec.{eqb};
 ghost use lib.ListN.{length, getD, take};
 ghost use Rattle.algebra.specs.Matrix.{vector};
 ghost use Rattle.sparse.specs.Words.{view};
@@ -74,6 +75,17 @@ pub fn reduce(
     }
 }
 
+// Whether the cell x stands for 0. Most cells are 0 themselves, which needs no division.
+fn is_zero(q: Modulus, x: u64) -> bool
+    requires { ⌜ 0 < q .p ⌝ }
+    ensures { λ r. ⌜ r ≡ eqb (x % q .p) 0 ⌝ }
+{
+    if x == 0 {
+        return true;
+    }
+    q.reduce(x) == 0
+}
+
 // The lowest place at which the working row does not stand for 0, or its length.
 pub fn lowest_nonzero(q: Modulus, work: &[u64]) -> usize
     requires { ⌜ 0 < q .p ⌝ }
@@ -81,7 +93,7 @@ pub fn lowest_nonzero(q: Modulus, work: &[u64]) -> usize
 {
     let mut j = 0;
     while j < work.len() {
-        if q.reduce(work[j]) != 0 {
+        if !is_zero(q, work[j]) {
             return j;
         }
         j += 1;
