@@ -81,7 +81,7 @@ module _ (p n m : ℕ) (s : Set) (y : Vector) (j : ℕ) (e : j ≡ lowestOf m (r
 pub cleared : (l : List ℕ) (n : ℕ) → l ≡ zeros n → l ≡ zeros (length l)
 cleared l n e = e ∙ ap zeros (sym (ap length e ∙ length-zeros n))
 
-zeros-take : (m : ℕ) (w : List ℕ) → m ≤ length w → w ≡ zeros (length w) → take m w ≡ zeros m
+pub zeros-take : (m : ℕ) (w : List ℕ) → m ≤ length w → w ≡ zeros (length w) → take m w ≡ zeros m
 zeros-take m w h e =
     ext-getD 0 (take m w) (zeros m) (length-take-le m w h ∙ sym (length-zeros m))
     (λ i b. let c : i < m = omega (arith, length-take-le m w h) in

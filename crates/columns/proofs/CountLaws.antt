@@ -7,9 +7,10 @@ use Prim.Native.Nat.{ℕ, zero, suc, _+_, _*_, _≤_, _<_}
 use native.Mathlib.Nat.{mod-eq-of-lt, zero-mod}
 use native.Mathlib.Omega.{arith}
 use lib.Dec.{eqb, ltb}
-use lib.ListN.{length, getD}
-use borrow.Author.Tests.{eqb-true, eqb-false, ltb-true}
+use lib.ListN.{length, getD, drop}
+use borrow.Author.Tests.{eqb-true, eqb-false, eq-eqb, ne-eqb, ltb-true}
 use Rattle.lists.proofs.Bools.{and-left, and-right}
+use Rattle.lists.proofs.Steps.{drop-step, drop-end}
 use Rattle.algebra.specs.Congruence.{_≈⟨_⟩_}
 use Rattle.algebra.specs.Sum.{dot, δ}
 use Rattle.algebra.specs.Matrix.{Vector}
@@ -18,6 +19,53 @@ use Rattle.algebra.proofs.Dot.{δ-same, δ-other}
 use Rattle.sparse.specs.Form.{values}
 use Rattle.sparse.specs.Row.{weigh, entry}
 use Rattle.columns.specs.Counting.{closedAt, closedOthers}
+
+-- ---- the loop over the columns
+
+pub at-own : (d : ℕ) (o : List ℕ) (c : ℕ) → c ≡ d → 0 ≡ closedAt d o c
+unfolding closedAt
+at-own d o c e = ap (λ (b : Bool). cond b 0 (cond (eqb (getD o c 0) 0) 1 0)) (sym (eq-eqb c d e))
+
+pub at-shut : (d : ℕ) (o : List ℕ) (c : ℕ) → c ≢ d → getD o c 0 ≡ 0 → 1 ≡ closedAt d o c
+unfolding closedAt
+at-shut d o c e f = λ i. cond (sym (ne-eqb c d e) i) 0 (cond (sym (eq-eqb (getD o c 0) 0 f) i) 1 0)
+
+pub at-open : (d : ℕ) (o : List ℕ) (c : ℕ) → c ≢ d → getD o c 0 ≢ 0 → 0 ≡ closedAt d o c
+unfolding closedAt
+at-open d o c e f = λ i. cond (sym (ne-eqb c d e) i) 0 (cond (sym (ne-eqb (getD o c 0) 0 f) i) 1 0)
+
+pub at-most : (d : ℕ) (o : List ℕ) (c : ℕ) → closedAt d o c ≤ 1
+unfolding closedAt
+at-most d o c = go (eqb c d) (eqb (getD o c 0) 0)
+  where
+    go : (a b : Bool) → cond a 0 (cond b 1 0) ≤ 1
+    go true b = omega arith
+    go false true = omega arith
+    go false false = omega arith
+
+-- the first t columns are counted
+pub record Counting (d : ℕ) (o cs : List ℕ) (found t : ℕ) : Type 0 where
+  pub inside : t ≤ length cs
+  pub most : found ≤ t
+  pub rest : found + closedOthers d o (drop t cs) ≡ closedOthers d o cs
+
+pub counting-starts : (d : ℕ) (o cs : List ℕ) → Counting d o cs 0 0
+counting-starts d o cs = record { inside = omega arith; most = omega arith; rest = omega arith }
+
+pub counting-turn : (d : ℕ) (o cs : List ℕ) (found t c v : ℕ) → t < length cs → c ≡ getD cs t 0 → v ≡ closedAt d o c → Counting d o cs found t → Counting d o cs (found + v) (t + 1)
+unfolding closedOthers
+counting-turn d o cs found t c v h ec ev s =
+    record {
+      inside = omega arith;
+      most = omega (arith, at-most d o c, s .most);
+      rest = omega (arith, s .rest, ap (closedOthers d o) (drop-step cs t c h ec));
+    }
+
+pub counting-ends : (d : ℕ) (o cs : List ℕ) (found t : ℕ) → length cs ≤ t → Counting d o cs found t → found ≡ closedOthers d o cs
+unfolding closedOthers
+counting-ends d o cs found t h s = omega (arith, s .rest, ap (closedOthers d o) (drop-end cs t (s .inside) h))
+
+-- ---- what the count says
 
 -- z is 0 at the columns of cs, other than d, at which o is not 0
 abbrev pub ZeroAtOpen : (p d : ℕ) (o cs : List ℕ) (z : Vector) → Type 0

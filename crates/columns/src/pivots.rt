@@ -28,16 +28,16 @@ fn pivot_open(
     uvb: &[u8],
     co: &[u32],
     cob: &[u8],
-    open: &[u32],
+    marks: &[u32],
     k: usize,
     r: usize,
     work: &mut [u64],
 ) -> u32
-    requires { ⌜ PivotReady (q .p) k r (viewed (now us) (now usb) (now uc) (now ucb) (now uv) (now uvb)) (view (now co) (now cob)) (now open) (now work) ⌝ }
+    requires { ⌜ PivotReady (q .p) k r (viewed (now us) (now usb) (now uc) (now ucb) (now uv) (now uvb)) (view (now co) (now cob)) (now marks) (now work) ⌝ }
     ensures { λ v. ⌜ Cell (openCell (q .p) (length (now (work .entry))) (vector (view (now (co .entry)) (now (cob .entry)))) (matrix (viewed (now (us .entry)) (now (usb .entry)) (now (uc .entry)) (now (ucb .entry)) (now (uv .entry)) (now (uvb .entry)))) r (getD (view (now (co .entry)) (now (cob .entry))) k 0)) v (now (work .exit)) ⌝ }
 {
     let d = word(co, cob, k);
-    let closed = row_closed(us, usb, uc, ucb, uv, uvb, open, q.p, k, d);
+    let closed = row_closed(us, usb, uc, ucb, uv, uvb, marks, q.p, k, d);
     if closed == 0 {
         return 1;
     }
@@ -59,22 +59,22 @@ fn open_pivots(
     co: &[u32],
     cob: &[u8],
     r: usize,
-    open: &mut [u32],
+    marks: &mut [u32],
     work: &mut [u64],
 )
-    requires { ⌜ PivotsReady (q .p) r (viewed (now us) (now usb) (now uc) (now ucb) (now uv) (now uvb)) (view (now co) (now cob)) (now open) (now work) ⌝ }
-    ensures { λ _. ⌜ Columns (tabulate (length (now (open .entry))) (openCell (q .p) (length (now (open .entry))) (vector (view (now (co .entry)) (now (cob .entry)))) (matrix (viewed (now (us .entry)) (now (usb .entry)) (now (uc .entry)) (now (ucb .entry)) (now (uv .entry)) (now (uvb .entry)))) r)) (now (open .exit)) (now (work .exit)) ⌝ }
+    requires { ⌜ PivotsReady (q .p) r (viewed (now us) (now usb) (now uc) (now ucb) (now uv) (now uvb)) (view (now co) (now cob)) (now marks) (now work) ⌝ }
+    ensures { λ _. ⌜ Columns (tabulate (length (now (marks .entry))) (openCell (q .p) (length (now (marks .entry))) (vector (view (now (co .entry)) (now (cob .entry)))) (matrix (viewed (now (us .entry)) (now (usb .entry)) (now (uc .entry)) (now (ucb .entry)) (now (uv .entry)) (now (uvb .entry)))) r)) (now (marks .exit)) (now (work .exit)) ⌝ }
 {
-    clear(open);
+    clear(marks);
     let mut k = r;
     while 0 < k {
         k -= 1;
         let j = index(word(co, cob, k));
-        open[j] = pivot_open(q, us, usb, uc, ucb, uv, uvb, co, cob, open, k, r, work);
+        marks[j] = pivot_open(q, us, usb, uc, ucb, uv, uvb, co, cob, marks, k, r, work);
     }
 }
 
-// Fills the list `open` with 1 for each open column and 0 for each closed one.
+// Fills the list `marks` with 1 for each open column and 0 for each closed one.
 pub fn open_columns(
     q: Modulus,
     co: &[u32],
@@ -86,12 +86,25 @@ pub fn open_columns(
     uv: &[u32],
     uvb: &[u8],
     r: usize,
-    open: &mut [u32],
+    marks: &mut [u32],
     work: &mut [u64],
 )
-    requires { ⌜ ColumnsReady (q .p) r (viewed (now us) (now usb) (now uc) (now ucb) (now uv) (now uvb)) (view (now co) (now cob)) (now open) (now work) ⌝ }
-    ensures { λ _. ⌜ AllColumns (q .p) r (view (now (co .entry)) (now (cob .entry))) (viewed (now (us .entry)) (now (usb .entry)) (now (uc .entry)) (now (ucb .entry)) (now (uv .entry)) (now (uvb .entry))) (now (open .exit)) (now (work .exit)) ⌝ }
+    requires { ⌜ ColumnsReady (q .p) r (viewed (now us) (now usb) (now uc) (now ucb) (now uv) (now uvb)) (view (now co) (now cob)) (now marks) (now work) ⌝ }
+    ensures { λ _. ⌜ AllColumns (q .p) r (view (now (co .entry)) (now (cob .entry))) (viewed (now (us .entry)) (now (usb .entry)) (now (uc .entry)) (now (ucb .entry)) (now (uv .entry)) (now (uvb .entry))) (now (marks .exit)) (now (work .exit)) ⌝ }
 {
-    let m = open.len();
-    open_pivots(q, us, usb, uc, ucb, uv, uvb, co, cob, r, open, &mut work[..m]);
+    let m = marks.len();
+    open_pivots(
+        q,
+        us,
+        usb,
+        uc,
+        ucb,
+        uv,
+        uvb,
+        co,
+        cob,
+        r,
+        marks,
+        &mut work[..m],
+    );
 }
