@@ -1,7 +1,6 @@
 // Reads a plan text (document 01, "Plan text") into lent lists.
 ghost use mathlib.Core.Path.{_≡_};
 ghost use lib.ListN.{length};
-ghost use Rattle.lists.specs.Filled.{zeros};
 ghost use Rattle.plan_text.specs.Reading.{readOf};
 ghost use Rattle.plan_text.specs.Call.{answerOf, callOf, refusalOf, Gives, Cleared};
 use opening::Opening;

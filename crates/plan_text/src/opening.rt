@@ -1,8 +1,7 @@
 // The first two lines: the modulus and the sizes.
 ghost use mathlib.Core.Path.{_≡_};
-ghost use mathlib.Core.Bool.{true};
-ghost use Prim.Native.Nat.{ℕ, _≤_};
-ghost use lib.ListN.{length, drop};
+ghost use Prim.Native.Nat.{ℕ};
+ghost use lib.ListN.{drop};
 ghost use Rattle.fields.specs.Pieces.{pieces};
 ghost use Rattle.residue.specs.Range.{isModulus};
 ghost use Rattle.plan_text.specs.Reading.{fromSecond, readOf};

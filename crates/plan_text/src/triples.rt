@@ -1,5 +1,4 @@
 // The lines from the third one on.
-ghost use mathlib.Core.Path.{_≡_};
 ghost use mathlib.Core.List.{[]};
 ghost use lib.ListN.{length, drop};
 ghost use Rattle.fields.specs.Pieces.{pieces};

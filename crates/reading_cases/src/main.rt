@@ -1,0 +1,230 @@
+// The cases of document 01 that concern reading, one line each: the name; the number and its detail; p, n, m and the
+// number of entries; and how many cells of the starts, the columns and the values are not 0. Lent lists hold 9s before.
+ghost use Prim.Native.Nat.{_≤_};
+ghost use lib.ListN.{length};
+
+mod long;
+mod print;
+
+// Reads a text and prints what comes of it.
+fn show(name: &[u8], text: &[u8], starts: &mut [u32], columns: &mut [u32], values: &mut [u32]) {
+    let r = plan_text::read(text, starts, columns, values);
+    print::line(name, r);
+    io::write_all(1, b" cells");
+    print::number(print::nonzero(starts) as u64);
+    print::number(print::nonzero(columns) as u64);
+    print::number(print::nonzero(values) as u64);
+    io::write_all(1, b"\n");
+}
+
+// Reads a text into the first a, b and c cells of the lists.
+fn show_parts(
+    name: &[u8],
+    text: &[u8],
+    starts: &mut [u32],
+    a: usize,
+    columns: &mut [u32],
+    b: usize,
+    values: &mut [u32],
+    c: usize,
+)
+    requires { ⌜ (a ≤ length (now starts)) × (b ≤ length (now columns)) × (c ≤ length (now values)) ⌝ }
+{
+    show(
+        name,
+        text,
+        &mut starts[..a],
+        &mut columns[..b],
+        &mut values[..c],
+    );
+}
+
+// Reads a text into lists of these lengths.
+fn length_case(name: &[u8], text: &[u8], a: usize, b: usize, c: usize)
+    requires { ⌜ (a ≤ 2050) × (b ≤ 16) × (c ≤ 16) ⌝ }
+{
+    let mut starts = [9u32; 2050];
+    let mut columns = [9u32; 16];
+    let mut values = [9u32; 16];
+    show_parts(name, text, &mut starts, a, &mut columns, b, &mut values, c);
+}
+
+// Reads a text into lists with room for so many entries.
+fn room_case(name: &[u8], text: &[u8], room: usize)
+    requires { ⌜ room ≤ 16 ⌝ }
+{
+    length_case(name, text, 2049, room, room);
+}
+
+fn case(name: &[u8], text: &[u8]) {
+    room_case(name, text, 16);
+}
+
+// Reads a text and prints the first cells of each list too.
+fn cells_case(name: &[u8], text: &[u8]) {
+    let mut starts = [9u32; 2049];
+    let mut columns = [9u32; 12];
+    let mut values = [9u32; 12];
+    show(name, text, &mut starts, &mut columns, &mut values);
+    print::list(b"  starts", lists::part(&starts, 0, 7));
+    print::list(b"  columns", &columns);
+    print::list(b"  values", &values);
+}
+
+fn moduli() {
+    case(b"p 65521", b"65521\n0 0 M\n0 0 0\n");
+    case(b"p 2", b"2\n0 0 M\n0 0 0\n");
+    case(b"p 0", b"0\n0 0 M\n0 0 0\n");
+    case(b"p 1", b"1\n0 0 M\n0 0 0\n");
+    case(b"p 65520", b"65520\n0 0 M\n0 0 0\n");
+    case(b"p 65522", b"65522\n0 0 M\n0 0 0\n");
+    case(b"p of ten digits", b"9999999999\n0 0 M\n0 0 0\n");
+    case(b"p of eleven digits", b"10000000000\n0 0 M\n0 0 0\n");
+}
+
+fn sizes() {
+    case(b"words 2048", b"2\n0 2048 M\n0 0 0\n");
+    case(b"words 2049", b"2\n0 2049 M\n0 0 0\n");
+    case(b"slots 2048", b"2\n2048 0 M\n0 0 0\n");
+    case(b"slots 2049", b"2\n2049 0 M\n0 0 0\n");
+    case(b"no letter", b"2\n1 1\n0 0 0\n");
+    case(b"other letter", b"2\n1 1 N\n0 0 0\n");
+}
+
+fn values() {
+    cells_case(b"v 2147483647", b"65521\n1 1 M\n1 1 2147483647\n0 0 0\n");
+    case(b"v 2147483648", b"65521\n1 1 M\n1 1 2147483648\n0 0 0\n");
+    cells_case(b"v -2147483648", b"65521\n1 1 M\n1 1 -2147483648\n0 0 0\n");
+    case(b"v -2147483649", b"65521\n1 1 M\n1 1 -2147483649\n0 0 0\n");
+    cells_case(b"v 14 of p 7", b"7\n1 1 M\n1 1 14\n0 0 0\n");
+    cells_case(b"v -1 of p 7", b"7\n1 1 M\n1 1 -1\n0 0 0\n");
+}
+
+// Line 4 of each text is at fault: 3.
+fn malformed() {
+    case(b"two spaces", b"7\n2 2 M\n1 1 1\n1 2  1\n2 2 1\n0 0 0\n");
+    case(b"leading zero", b"7\n2 2 M\n1 1 1\n01 2 1\n2 2 1\n0 0 0\n");
+    case(b"plus sign", b"7\n2 2 M\n1 1 1\n1 2 +1\n2 2 1\n0 0 0\n");
+    case(b"minus zero", b"7\n2 2 M\n1 1 1\n1 2 -0\n2 2 1\n0 0 0\n");
+    case(b"minus on j", b"7\n2 2 M\n1 1 1\n1 -2 1\n2 2 1\n0 0 0\n");
+    case(b"two fields", b"7\n2 2 M\n1 1 1\n1 2\n2 2 1\n0 0 0\n");
+    case(
+        b"space at the end",
+        b"7\n2 2 M\n1 1 1\n1 2 1 \n2 2 1\n0 0 0\n",
+    );
+    case(b"empty line", b"7\n2 2 M\n1 1 1\n\n2 2 1\n0 0 0\n");
+    case(
+        b"v of eleven digits",
+        b"7\n2 2 M\n1 1 1\n1 2 10000000000\n2 2 1\n0 0 0\n",
+    );
+    case(b"0 0 -0", b"7\n2 2 M\n1 1 1\n0 0 -0\n");
+}
+
+// Line 4 of each text is at fault: 4, 5 and 6, in this order.
+fn judged() {
+    case(b"i too large", b"7\n2 2 M\n1 1 1\n3 1 1\n2 2 1\n0 0 0\n");
+    case(
+        b"j too large",
+        b"7\n2 2 M\n1 1 1\n1 3 2147483648\n2 2 1\n0 0 0\n",
+    );
+    case(b"0 0 5", b"7\n2 2 M\n1 1 1\n0 0 5\n");
+    case(b"0 1 0", b"7\n2 2 M\n1 1 1\n0 1 0\n");
+    case(b"1 0 0", b"7\n2 2 M\n1 1 1\n1 0 0\n");
+    case(
+        b"repeated",
+        b"7\n2 2 M\n1 1 1\n1 1 2147483648\n2 2 1\n0 0 0\n",
+    );
+    case(
+        b"repeated after 0",
+        b"7\n2 2 M\n1 1 7\n1 1 1\n2 2 1\n0 0 0\n",
+    );
+    case(b"row falls", b"7\n2 2 M\n2 1 1\n1 2 1\n2 2 1\n0 0 0\n");
+    case(
+        b"v too large",
+        b"7\n2 2 M\n1 1 1\n1 2 2147483648\n2 2 1\n0 0 0\n",
+    );
+}
+
+fn room() {
+    room_case(b"room 1", b"7\n2 2 M\n1 1 1\n1 2 1\n2 2 1\n0 0 0\n", 1);
+    room_case(
+        b"room 1, a value 0",
+        b"7\n2 2 M\n1 1 1\n1 2 7\n2 2 1\n0 0 0\n",
+        1,
+    );
+    room_case(
+        b"room 1, 3 after 7",
+        b"7\n2 2 M\n1 1 1\n1 2 1\nx\n0 0 0\n",
+        1,
+    );
+    room_case(
+        b"room 1, 6 before 7",
+        b"7\n2 2 M\n1 1 1\n1 2 2147483648\n0 0 0\n",
+        1,
+    );
+    room_case(
+        b"room 0, only zeros",
+        b"7\n2 2 M\n1 1 7\n1 2 -7\n0 0 0\n",
+        0,
+    );
+    room_case(b"room 3", b"7\n2 2 M\n1 1 1\n1 2 1\n2 2 1\n0 0 0\n", 3);
+}
+
+fn ends() {
+    let none = [0u8; 1];
+    case(b"no text", &none[..0]);
+    case(b"no line feed", b"7");
+    case(b"one line", b"7\n");
+    case(b"no second line feed", b"7\n0 0 M");
+    case(b"two lines", b"7\n0 0 M\n");
+    case(b"no last line feed", b"7\n0 0 M\n0 0 0");
+    case(b"a line feed after the last line", b"7\n0 0 M\n0 0 0\n\n");
+    case(b"a byte after the last line", b"7\n0 0 M\n0 0 0\nx");
+    case(b"no last line", b"7\n1 1 M\n1 1 1\n");
+}
+
+fn lengths() {
+    length_case(b"starts 2048", b"7\n0 0 M\n0 0 0\n", 2048, 4, 4);
+    length_case(b"starts 2050", b"7\n0 0 M\n0 0 0\n", 2050, 4, 4);
+    length_case(b"columns 3, values 4", b"x", 2049, 3, 4);
+    length_case(b"no room at all", b"7\n0 0 M\n0 0 0\n", 2049, 0, 0);
+}
+
+// Document 01's plan D.
+fn plan_d() {
+    cells_case(
+        b"plan D",
+        b"7\n5 5 M\n1 1 2\n1 3 1\n2 2 3\n2 4 1\n3 1 4\n3 2 3\n3 3 2\n3 4 1\n4 2 1\n4 3 5\n5 5 3\n0 0 0\n",
+    );
+}
+
+// Reads the first n bytes of a text into lists with room for 5,460 entries.
+fn long_case(name: &[u8], text: &[u8], n: usize)
+    requires { ⌜ n ≤ length (now text) ⌝ }
+{
+    let mut starts = [9u32; 2049];
+    let mut columns = [9u32; 5460];
+    let mut values = [9u32; 5460];
+    show(name, &text[..n], &mut starts, &mut columns, &mut values);
+}
+
+// A text of 65,536 bytes, and one of a byte more.
+fn long_texts() {
+    let mut text = [10u8; 65537];
+    long::fill(&mut text);
+    long_case(b"65536 bytes", &text, 65536);
+    long_case(b"65537 bytes", &text, 65537);
+}
+
+fn main() {
+    moduli();
+    sizes();
+    values();
+    malformed();
+    judged();
+    room();
+    ends();
+    lengths();
+    plan_d();
+    long_texts();
+}
