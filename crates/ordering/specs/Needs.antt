@@ -1,7 +1,7 @@
--- What is lent to the pivot search and to the completion of an order.
+-- What is lent to the pivot search and to the completion of an order. Orders hold numbers below 2 ^ 32.
 --   Searchable p n m A R C w    a stored matrix in its form, and orders and a working row that are all zero
 --   Completable k xs w          the first k numbers of the order xs are distinct and below its length, and the marks are all zero
-use Prim.Native.Nat.{ℕ, _+_, _≤_}
+use Prim.Native.Nat.{ℕ, _+_, _^_, _≤_}
 use mathlib.Core.Path.{_≡_}
 use mathlib.Core.Bool.{true}
 use mathlib.Core.List.{List}
@@ -13,11 +13,14 @@ use Rattle.sparse.specs.Matrix.{Compressed, form}
 pub record Searchable (p n m : ℕ) (A : Compressed) (R C w : List ℕ) : Type 0 where
   pub formed : form p m A ≡ true
   pub rows : length (A .starts) ≡ n + 1
+  pub n-narrow : n ≤ 2 ^ 32
+  pub m-narrow : m ≤ 2 ^ 32
   pub R-clear : R ≡ zeros n
   pub C-clear : C ≡ zeros m
   pub w-clear : w ≡ zeros m
 
 pub record Completable (k : ℕ) (xs w : List ℕ) : Type 0 where
   pub inside : k ≤ length xs
+  pub narrow : length xs ≤ 2 ^ 32
   pub distinct : Distinct k (length xs) (vector xs)
   pub marks : w ≡ zeros (length xs)

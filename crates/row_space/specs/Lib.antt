@@ -1,3 +1,4 @@
 pub mod Substitution
 pub mod Solve
 pub mod Question
+pub mod Ready

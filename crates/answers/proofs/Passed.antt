@@ -1,0 +1,46 @@
+-- A set that the judge passed is ready to answer questions.
+use mathlib.Core.Path.{_≡_}
+use mathlib.Core.Bool.{true}
+use Prim.Native.Nat.{ℕ, _+_}
+use lib.Dec.{leb}
+use lib.ListN.{length}
+use borrow.Author.Tests.{leb-true}
+use Rattle.lists.specs.declared.Outcome.the-variants.{Passed}
+use Rattle.algebra.specs.Prime.{Prime}
+use Rattle.algebra.specs.Matrix.{vector}
+use Rattle.sparse.specs.Matrix.{Compressed, matrix, form}
+use Rattle.sparse.specs.Set.{Set}
+use Rattle.pluq.specs.Order.{permutation}
+use Rattle.pluq.specs.Shape.{lower, upper}
+use Rattle.pluq.specs.Judge.{judge, judgeFactors}
+use Rattle.pluq.proofs.Judged.{unless-passed}
+use Rattle.answers.specs.Answering.{SetReady}
+
+pub passed-ready : (p n m : ℕ) (A : Compressed) (s : Set) → Prime p
+    → length (s .R) ≡ n → length (s .C) ≡ m → length (s .L .starts) ≡ n + 1 → length (s .U .starts) ≡ s .r + 1
+    → judge p n m A s ≡ Passed → SetReady p n m s
+unfolding judge judgeFactors
+passed-ready p n m A s prime long-R long-C long-L long-U h₁ =
+    let (rows, h₂) = unless-passed (permutation (s .R)) 11 0 _ h₁ in
+    let (columns, h₃) = unless-passed (permutation (s .C)) 11 0 _ h₂ in
+    let (r-n, h₄) = unless-passed (leb (s .r) n) 12 0 _ h₃ in
+    let (r-m, h₅) = unless-passed (leb (s .r) m) 12 0 _ h₄ in
+    let (L-form, h₆) = unless-passed (form p (s .r) (s .L)) 13 0 _ h₅ in
+    let (U-form, h₇) = unless-passed (form p m (s .U)) 13 0 _ h₆ in
+    let (low, h₈) = unless-passed (lower (s .r) (matrix (s .L))) 13 0 _ h₇ in
+    let (up, h₉) = unless-passed (upper (s .r) (vector (s .C)) (matrix (s .U))) 13 0 _ h₈ in
+    record {
+      prime = prime;
+      long-R = long-R;
+      long-C = long-C;
+      long-L = long-L;
+      long-U = long-U;
+      rows = rows;
+      columns = columns;
+      rank-rows = leb-true (s .r) n r-n;
+      rank-columns = leb-true (s .r) m r-m;
+      L-form = L-form;
+      U-form = U-form;
+      L-shape = low;
+      U-shape = up;
+    }

@@ -1,0 +1,21 @@
+// The test of a question.
+ghost use mathlib.Core.Path.{_≡_};
+ghost use Prim.Native.Nat.{_^_, _<_};
+ghost use lib.ListN.{length};
+ghost use Rattle.row_space.specs.Question.{questionOutcome};
+use lists::Outcome;
+
+// Refuses a question with a value that is p or more: 15, at the first such index.
+pub fn question_ok(y: &[u32], p: u32) -> Outcome
+    requires { ⌜ length (now y) < 2 ^ 32 ⌝ }
+    ensures { λ r. ⌜ r ≡ questionOutcome p (now (y .entry)) ⌝ }
+{
+    let mut j = 0;
+    while j < y.len() {
+        if p <= y[j] {
+            return Outcome::Refused(15, j as u32);
+        }
+        j += 1;
+    }
+    Outcome::Passed
+}

@@ -1,0 +1,12 @@
+pub mod Bounds
+pub mod Bytes
+pub mod Lengths
+pub mod Cuts
+pub mod Beginnings
+pub mod ReadBack
+pub mod Passed
+pub mod Storing
+pub mod Rooms
+pub mod Views
+pub mod Counts
+pub mod Example

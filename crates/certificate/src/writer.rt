@@ -1,0 +1,142 @@
+// Writing a certificate into a lent buffer.
+ghost use mathlib.Core.Path.{_≡_};
+ghost use mathlib.Core.List.{_∷_, [], _++_};
+ghost use Prim.Native.Nat.{_+_, _*_, _≤_};
+ghost use lib.ListN.{length};
+ghost use lib.Seq.{sets};
+ghost use Rattle.sparse.specs.Matrix.{compressed};
+ghost use Rattle.sparse.specs.Set.{setOf};
+ghost use Rattle.certificate.specs.Layout.{bytes, mark, version, headerNumbers, factorNumbers, certificateOf};
+ghost use Rattle.certificate.specs.Writing.{Writes, Writable, Room, Stored};
+use crate::parts::places_of;
+use lists::clear_bytes;
+
+// Stores a number as four bytes, least significant first.
+fn put_word(x: u32, buffer: &mut [u8], at: usize)
+    requires { ⌜ at + 4 ≤ length (now buffer) ⌝ }
+    ensures { λ _. ⌜ now (buffer .exit) ≡ sets (now (buffer .entry)) at (bytes (x ∷ [])) ⌝ }
+{
+    buffer[at] = (x % 256) as u8;
+    buffer[at + 1] = (x / 256 % 256) as u8;
+    buffer[at + 2] = (x / 65536 % 256) as u8;
+    buffer[at + 3] = (x / 16777216 % 256) as u8;
+}
+
+// Stores the numbers of a list from a place on; the place after them.
+fn put_words(list: &[u32], buffer: &mut [u8], at: usize) -> usize
+    requires { ⌜ at + 4 * length (now list) ≤ length (now buffer) ⌝ }
+    ensures { λ r. ⌜ Stored (now (buffer .entry)) (now (buffer .exit)) at r (bytes (now (list .entry))) ⌝ }
+{
+    let mut next = at;
+    let mut i = 0;
+    while i < list.len() {
+        put_word(list[i], buffer, next);
+        next += 4;
+        i += 1;
+    }
+    next
+}
+
+// Stores bytes from a place on; the place after them.
+fn put_bytes(list: &[u8], buffer: &mut [u8], at: usize) -> usize
+    requires { ⌜ at + length (now list) ≤ length (now buffer) ⌝ }
+    ensures { λ r. ⌜ Stored (now (buffer .entry)) (now (buffer .exit)) at r (now (list .entry)) ⌝ }
+{
+    let mut next = at;
+    let mut i = 0;
+    while i < list.len() {
+        buffer[next] = list[i];
+        next += 1;
+        i += 1;
+    }
+    next
+}
+
+// Stores mark, version and the header's numbers at the front; the place after them.
+fn put_header(p: u32, n: u32, m: u32, r: u32, lcount: u32, ucount: u32, buffer: &mut [u8]) -> usize
+    requires { ⌜ 29 ≤ length (now buffer) ⌝ }
+    ensures { λ z. ⌜ Stored (now (buffer .entry)) (now (buffer .exit)) 0 z (mark ++ (version ++ bytes (headerNumbers p n m r lcount ucount))) ⌝ }
+{
+    let numbers = [p, n, m, r, lcount, ucount];
+    let after_mark = put_bytes(b"PLQ", buffer, 0);
+    let after_version = put_bytes(b"\x01\x00", buffer, after_mark);
+    put_words(&numbers, buffer, after_version)
+}
+
+// Stores the three lists of a factor from a place on; the place after them.
+fn put_factor(starts: &[u32], cols: &[u32], vals: &[u32], buffer: &mut [u8], at: usize) -> usize
+    requires { ⌜ at + 4 * (length (now starts) + (length (now cols) + length (now vals))) ≤ length (now buffer) ⌝ }
+    ensures { λ r. ⌜ Stored (now (buffer .entry)) (now (buffer .exit)) at r (bytes (factorNumbers (compressed (now (starts .entry)) (now (cols .entry)) (now (vals .entry))))) ⌝ }
+{
+    let after_starts = put_words(starts, buffer, at);
+    let after_cols = put_words(cols, buffer, after_starts);
+    put_words(vals, buffer, after_cols)
+}
+
+// Stores the certificate of a set at the front of a buffer that has room for it; its length.
+fn put_certificate(
+    p: u32,
+    n: u32,
+    m: u32,
+    r: u32,
+    rows: &[u32],
+    cols: &[u32],
+    lstarts: &[u32],
+    lcols: &[u32],
+    lvals: &[u32],
+    ustarts: &[u32],
+    ucols: &[u32],
+    uvals: &[u32],
+    buffer: &mut [u8],
+) -> usize
+    requires { ⌜ Room p n m (setOf r (now rows) (now cols) (compressed (now lstarts) (now lcols) (now lvals)) (compressed (now ustarts) (now ucols) (now uvals))) (now buffer) ⌝ }
+    ensures { λ z. ⌜ Stored (now (buffer .entry)) (now (buffer .exit)) 0 z (certificateOf p n m (setOf r (now (rows .entry)) (now (cols .entry)) (compressed (now (lstarts .entry)) (now (lcols .entry)) (now (lvals .entry))) (compressed (now (ustarts .entry)) (now (ucols .entry)) (now (uvals .entry))))) ⌝ }
+{
+    let after_header = put_header(p, n, m, r, lcols.len() as u32, ucols.len() as u32, buffer);
+    let after_rows = put_words(rows, buffer, after_header);
+    let after_cols = put_words(cols, buffer, after_rows);
+    let after_lower = put_factor(lstarts, lcols, lvals, buffer, after_cols);
+    put_factor(ustarts, ucols, uvals, buffer, after_lower)
+}
+
+// Writes the certificate of a set into the lent buffer, zero past its end; its length, or 0 where the buffer is shorter
+// than that (refusal 9), which leaves the buffer all zero.
+pub fn write(
+    p: u32,
+    n: u32,
+    m: u32,
+    r: u32,
+    rows: &[u32],
+    cols: &[u32],
+    lstarts: &[u32],
+    lcols: &[u32],
+    lvals: &[u32],
+    ustarts: &[u32],
+    ucols: &[u32],
+    uvals: &[u32],
+    buffer: &mut [u8],
+) -> usize
+    requires { ⌜ Writable n m (setOf r (now rows) (now cols) (compressed (now lstarts) (now lcols) (now lvals)) (compressed (now ustarts) (now ucols) (now uvals))) ⌝ }
+    ensures { λ z. ⌜ Writes (certificateOf p n m (setOf r (now (rows .entry)) (now (cols .entry)) (compressed (now (lstarts .entry)) (now (lcols .entry)) (now (lvals .entry))) (compressed (now (ustarts .entry)) (now (ucols .entry)) (now (uvals .entry))))) (now (buffer .entry)) (now (buffer .exit)) z ⌝ }
+{
+    clear_bytes(buffer);
+    let places = places_of(n, m, r, lcols.len() as u32, ucols.len() as u32);
+    if buffer.len() < places.end {
+        return 0;
+    }
+    put_certificate(
+        p,
+        n,
+        m,
+        r,
+        rows,
+        cols,
+        lstarts,
+        lcols,
+        lvals,
+        ustarts,
+        ucols,
+        uvals,
+        buffer,
+    )
+}

@@ -1,0 +1,137 @@
+-- `check_factors` meets its contract. Assumes nothing.
+use mathlib.Core.Path.{_≡_, refl, sym, ap, _∙_}
+use mathlib.Core.Bool.{true}
+use borrow.Author.Tests.{not-true, not-false}
+use Rattle.sparse.specs.Matrix.{Compressed, compressed}
+use mathlib.Core.List.{List}
+use Prim.Native.Nat.{ℕ}
+use lib.ListN.{length}
+use Rattle.lists.specs.Filled.{zeros}
+use Rattle.lists.specs.declared.Outcome.{Outcome}
+use Rattle.lists.proofs.Refusals.{refused, passed}
+use Rattle.lists.proofs.Filled.{length-zeros}
+use Rattle.sparse.specs.Set.{Set, setOf}
+use Rattle.pluq.specs.Judge.{judge}
+use Rattle.checker.specs.Needs.{Checkable}
+use Rattle.check_calls.specs.Calls.{factorsOutcome, checkFactorsOf}
+use Rattle.check_calls.proofs.Tested.{checkable, factors-good}
+use Rattle.check_calls.proofs.Stored.{from-lists, by-lists}
+use borrow.Author.Needs.{needs}
+use Rattle.check_calls.proofs.check_factors.Statement.{statement}
+use Rattle.check_calls.proofs.check_factors.Tie as tie
+
+abbrev plan : tie.Start → Compressed
+plan s = compressed (s .args .ss .now) (s .args .cols .now) (s .args .vals .now)
+
+abbrev set : tie.Start → Set
+set s = setOf (s .args .r) (s .args .ro .now) (s .args .co .now) (compressed (s .args .ls .now) (s .args .lc .now) (s .args .lv .now)) (compressed (s .args .us .now) (s .args .uc .now) (s .args .uv .now))
+
+abbrev start : tie.After-factors-outcome → tie.Start
+start c = c .before .before .before .before .before .before .before .before .before .before .before .before .before .before .before .before .before
+
+-- the length of the cleared row is that of the row as it was lent
+wide : (c : tie.After-factors-outcome) → length (c .before .before .before .clear-row .last .0) ≡ length (start c .args .work .now)
+wide c = ap length (c .before .before .before .clear-row .ensures) ∙ length-zeros (length (start c .args .work .now))
+
+tested : (c : tie.After-factors-outcome) → let s = start c in c .factors-outcome .result ≡ factorsOutcome (s .args .p) (s .args .n) (s .args .m) (plan s) (set s) (length (s .args .work .now))
+tested c = let s = start c in c .factors-outcome .ensures ∙ ap (factorsOutcome (s .args .p) (s .args .n) (s .args .m) (plan s) (set s)) (wide c)
+
+clear-row-requires : tie.Need-clear-row-requires
+clear-row-requires c κs = search needs
+
+factors-outcome-requires : tie.Need-factors-outcome-requires
+factors-outcome-requires c κs = search needs
+
+enum-told : tie.Need-enum-told
+enum-told c = search needs
+
+enum-told-2 : tie.Need-enum-told-2
+enum-told-2 c = search needs
+
+same-length : tie.Need-same-length
+same-length c = search needs
+
+returns : tie.Need-returns
+unfolding checkFactorsOf
+returns c = let o = c .before .before in let s = start o in
+    record {
+      outcome = refused (o .factors-outcome .result) (factorsOutcome (s .args .p) (s .args .n) (s .args .m) (plan s) (set s) (length (s .args .work .now))) (judge (s .args .p) (s .args .n) (s .args .m) (plan s) (set s)) _ _ (c .enum-told2 .given .1) (tested o);
+      cleared = o .before .before .before .clear-row .ensures;
+    }
+
+slice-aggregate-check : tie.Need-slice-aggregate-check
+slice-aggregate-check c = search needs
+
+slice-aggregate-check-2 : tie.Need-slice-aggregate-check-2
+slice-aggregate-check-2 c = search needs
+
+slice-aggregate-check-3 : tie.Need-slice-aggregate-check-3
+slice-aggregate-check-3 c = search needs
+
+slice-aggregate-check-4 : tie.Need-slice-aggregate-check-4
+slice-aggregate-check-4 c = search needs
+
+slice-aggregate-check-5 : tie.Need-slice-aggregate-check-5
+slice-aggregate-check-5 c = search needs
+
+slice-aggregate-check-6 : tie.Need-slice-aggregate-check-6
+slice-aggregate-check-6 c = search needs
+
+slice-aggregate-check-7 : tie.Need-slice-aggregate-check-7
+slice-aggregate-check-7 c = search needs
+
+slice-aggregate-check-8 : tie.Need-slice-aggregate-check-8
+slice-aggregate-check-8 c = search needs
+
+slice-aggregate-check-9 : tie.Need-slice-aggregate-check-9
+slice-aggregate-check-9 c = search needs
+
+slice-aggregate-check-10 : tie.Need-slice-aggregate-check-10
+slice-aggregate-check-10 c = search needs
+
+slice-aggregate-check-11 : tie.Need-slice-aggregate-check-11
+slice-aggregate-check-11 c = search needs
+
+check-requires : tie.Need-check-requires
+check-requires c κs = let t = c .before .before .before .before .before .before .before .before .before .before .before .before in let o = t .before .before in let s = start o in
+    let (g, z, w) = factors-good (s .args .p) (s .args .n) (s .args .m) (plan s) (set s) (length (s .args .work .now)) (sym (tested o) ∙ t .enum-told .given .1) in
+    from-lists (λ A s′. Checkable (s .args .p) (s .args .n) (s .args .m) A s′ (o .before .before .before .clear-row .last .0)) (s .args .ss .now) (s .args .cols .now) (s .args .vals .now) (s .args .r) (s .args .ro .now) (s .args .co .now) (s .args .ls .now) (s .args .lc .now) (s .args .lv .now) (s .args .us .now) (s .args .uc .now) (s .args .uv .now)
+    (checkable (s .args .p) (s .args .n) (s .args .m) (plan s) (set s) (o .before .before .before .clear-row .last .0) g z (wide o ∙ w) (o .before .before .before .clear-row .ensures ∙ ap zeros (sym (wide o))))
+
+same-length-2 : tie.Need-same-length-2
+same-length-2 c = search needs
+
+returns-2 : tie.Need-returns-2
+unfolding checkFactorsOf
+returns-2 c = let k = c .before .before in let t = k .before .before .before .before .before .before .before .before .before .before .before .before .before in let o = t .before .before in let s = start o in
+    record {
+      outcome =
+          passed (o .factors-outcome .result) (factorsOutcome (s .args .p) (s .args .n) (s .args .m) (plan s) (set s) (length (s .args .work .now))) (judge (s .args .p) (s .args .n) (s .args .m) (plan s) (set s)) (k .check .result) (t .enum-told .given .1) (tested o)
+          (k .check .ensures .0 ∙ by-lists (judge (s .args .p) (s .args .n) (s .args .m)) (s .args .ss .now) (s .args .cols .now) (s .args .vals .now) (s .args .r) (s .args .ro .now) (s .args .co .now) (s .args .ls .now) (s .args .lc .now) (s .args .lv .now) (s .args .us .now) (s .args .uc .now) (s .args .uv .now));
+      cleared = k .check .ensures .1 ∙ o .before .before .before .clear-row .ensures;
+    }
+
+pub check-factors-spec : {M : Type 1} → statement M
+check-factors-spec =
+    tie.close
+    (tie.spec
+    clear-row-requires
+    factors-outcome-requires
+    enum-told
+    enum-told-2
+    same-length
+    returns
+    slice-aggregate-check
+    slice-aggregate-check-2
+    slice-aggregate-check-3
+    slice-aggregate-check-4
+    slice-aggregate-check-5
+    slice-aggregate-check-6
+    slice-aggregate-check-7
+    slice-aggregate-check-8
+    slice-aggregate-check-9
+    slice-aggregate-check-10
+    slice-aggregate-check-11
+    check-requires
+    same-length-2
+    returns-2)

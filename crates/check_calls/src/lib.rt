@@ -1,0 +1,222 @@
+// The public calls that check a set of factors against a stored plan. Any content of the working row is accepted.
+ghost use mathlib.Core.Path.{_≡_};
+ghost use lib.ListN.{length};
+ghost use Rattle.sparse.specs.Matrix.{compressed};
+ghost use Rattle.sparse.specs.Set.{setOf};
+ghost use Rattle.check_calls.specs.Calls.{factorsOutcome, certificateOutcome, checkFactorsOf, checkCertificateOf, Checks};
+use call_tests::plan_lengths;
+use call_tests::plan_outcome;
+use call_tests::set_lengths;
+use certificate::header::header_ok;
+use certificate::parts::number;
+use certificate::parts::places_in;
+use checker::check;
+use lists::Outcome;
+use lists::clear_row;
+use residue::Modulus;
+
+// The lengths and the plan of a call with stored factors: 9, 1, 2, 8.
+pub fn factors_outcome(
+    p: u32,
+    n: u32,
+    m: u32,
+    ss: &[u32],
+    cols: &[u32],
+    vals: &[u32],
+    r: u32,
+    ro: &[u32],
+    co: &[u32],
+    ls: &[u32],
+    lc: &[u32],
+    lv: &[u32],
+    us: &[u32],
+    uc: &[u32],
+    uv: &[u32],
+    width: usize,
+) -> Outcome
+    ensures { λ o. ⌜ o ≡ factorsOutcome p n m (compressed (now (ss .entry)) (now (cols .entry)) (now (vals .entry))) (setOf r (now (ro .entry)) (now (co .entry)) (compressed (now (ls .entry)) (now (lc .entry)) (now (lv .entry))) (compressed (now (us .entry)) (now (uc .entry)) (now (uv .entry)))) width ⌝ }
+{
+    if !plan_lengths(n, ss, cols, vals) {
+        return Outcome::Refused(9, 0);
+    }
+    if !set_lengths(n, m, r, ro, co, ls, lc, lv, us, uc, uv) {
+        return Outcome::Refused(9, 0);
+    }
+    if width != 2048 {
+        return Outcome::Refused(9, 0);
+    }
+    plan_outcome(p, n, m, ss, cols, vals)
+}
+
+// The lengths, the plan and the header of a call with a certificate: 9, 1, 2, 8, 10.
+pub fn certificate_outcome(
+    p: u32,
+    n: u32,
+    m: u32,
+    ss: &[u32],
+    cols: &[u32],
+    vals: &[u32],
+    cert: &[u8],
+    width: usize,
+) -> Outcome
+    ensures { λ o. ⌜ o ≡ certificateOutcome p n m (compressed (now (ss .entry)) (now (cols .entry)) (now (vals .entry))) (now (cert .entry)) width ⌝ }
+{
+    if !plan_lengths(n, ss, cols, vals) {
+        return Outcome::Refused(9, 0);
+    }
+    if width != 2048 {
+        return Outcome::Refused(9, 0);
+    }
+    let plan = plan_outcome(p, n, m, ss, cols, vals);
+    let Outcome::Passed = plan else {
+        return plan;
+    };
+    if !header_ok(cert, p, n, m) {
+        return Outcome::Refused(10, 0);
+    }
+    Outcome::Passed
+}
+
+// Checks stored factors.
+//   takes    a stored plan (p, n, m, row starts, columns, values), a stored set (r, row order, column order, L, U) and a working row
+//   gives    passed, or the number and detail of the first fault
+//   refuses  9, 1, 2, 8, 11, 12, 13, 14 at the first position
+//   leaves   the working row all zero
+pub fn check_factors(
+    p: u32,
+    n: u32,
+    m: u32,
+    ss: &[u32],
+    cols: &[u32],
+    vals: &[u32],
+    r: u32,
+    ro: &[u32],
+    co: &[u32],
+    ls: &[u32],
+    lc: &[u32],
+    lv: &[u32],
+    us: &[u32],
+    uc: &[u32],
+    uv: &[u32],
+    work: &mut [u64],
+) -> Outcome
+    ensures { λ o. ⌜ Checks (checkFactorsOf p n m (compressed (now (ss .entry)) (now (cols .entry)) (now (vals .entry))) (setOf r (now (ro .entry)) (now (co .entry)) (compressed (now (ls .entry)) (now (lc .entry)) (now (lv .entry))) (compressed (now (us .entry)) (now (uc .entry)) (now (uv .entry)))) (length (now (work .entry)))) o (now (work .entry)) (now (work .exit)) ⌝ }
+{
+    clear_row(work);
+    let tested = factors_outcome(
+        p,
+        n,
+        m,
+        ss,
+        cols,
+        vals,
+        r,
+        ro,
+        co,
+        ls,
+        lc,
+        lv,
+        us,
+        uc,
+        uv,
+        work.len(),
+    );
+    let Outcome::Passed = tested else {
+        return tested;
+    };
+    let q = Modulus { p };
+    check(
+        q,
+        ss,
+        b"",
+        cols,
+        b"",
+        vals,
+        b"",
+        ro,
+        b"",
+        co,
+        b"",
+        ls,
+        b"",
+        lc,
+        b"",
+        lv,
+        b"",
+        us,
+        b"",
+        uc,
+        b"",
+        uv,
+        b"",
+        n,
+        m,
+        r,
+        work,
+    )
+}
+
+// Checks a certificate, which is read from its own bytes.
+//   takes    a stored plan, the bytes of a certificate and a working row
+//   gives    passed, or the number and detail of the first fault
+//   refuses  9, 1, 2, 8, 10, 11, 12, 13, 14 at the first position
+//   leaves   the working row all zero
+pub fn check_certificate(
+    p: u32,
+    n: u32,
+    m: u32,
+    ss: &[u32],
+    cols: &[u32],
+    vals: &[u32],
+    cert: &[u8],
+    work: &mut [u64],
+) -> Outcome
+    ensures { λ o. ⌜ Checks (checkCertificateOf p n m (compressed (now (ss .entry)) (now (cols .entry)) (now (vals .entry))) (now (cert .entry)) (length (now (work .entry)))) o (now (work .entry)) (now (work .exit)) ⌝ }
+{
+    clear_row(work);
+    let tested = certificate_outcome(p, n, m, ss, cols, vals, cert, work.len());
+    let Outcome::Passed = tested else {
+        return tested;
+    };
+    let q = Modulus { p };
+    let places = places_in(cert, n, m);
+    let r = number(cert, 3);
+    let a = places.rows;
+    let b = places.cols;
+    let c = places.lstarts;
+    let d = places.lcols;
+    let e = places.lvals;
+    let f = places.ustarts;
+    let g = places.ucols;
+    let h = places.uvals;
+    let i = places.end;
+    check(
+        q,
+        ss,
+        b"",
+        cols,
+        b"",
+        vals,
+        b"",
+        &[],
+        &cert[a..b],
+        &[],
+        &cert[b..c],
+        &[],
+        &cert[c..d],
+        &[],
+        &cert[d..e],
+        &[],
+        &cert[e..f],
+        &[],
+        &cert[f..g],
+        &[],
+        &cert[g..h],
+        &[],
+        &cert[h..i],
+        n,
+        m,
+        r,
+        work,
+    )
+}

@@ -1,0 +1,6 @@
+pub mod Kernel
+pub mod CountLaws
+pub mod PivotLaws
+pub mod UnitLaws
+pub mod PivotLoop
+pub mod AllColumns

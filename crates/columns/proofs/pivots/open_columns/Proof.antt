@@ -1,0 +1,35 @@
+-- `open_columns` meets its contract: the part of the working row that is lent comes back all zero. Assumes nothing.
+use mathlib.Core.Path.{sym}
+use Rattle.columns.proofs.AllColumns.{row-part, columns-ready, columns-done}
+use borrow.Author.Needs.{needs}
+use Rattle.columns.proofs.pivots.open_columns.Statement.{statement}
+use Rattle.columns.proofs.pivots.open_columns.Tie as tie
+
+slice-relend-prefix-open-pivots : tie.Need-slice-relend-prefix-open-pivots
+slice-relend-prefix-open-pivots c = search needs
+
+slice-aggregate-open-pivots : tie.Need-slice-aggregate-open-pivots
+slice-aggregate-open-pivots c = let s = c .before .before .before .before .before .before .before .before .before .before .before .before in sym (row-part (s .args .q .p) _ _ _ _ _ (s .pre))
+
+open-pivots-requires : tie.Need-open-pivots-requires
+open-pivots-requires c κs = let s = c .before .before .before .before .before .before .before .before .before .before .before .before in columns-ready _ _ _ _ _ _ (s .pre)
+
+same-length : tie.Need-same-length
+same-length c = search needs
+
+same-length-2 : tie.Need-same-length-2
+same-length-2 c = search needs
+
+returns : tie.Need-returns
+returns c = let s = c .before .before .before .before .before .before .before .before .before .before .before .before .before .before .before .before .before in columns-done _ _ _ _ _ _ (s .pre) _ _ (c .before .before .before .before .open-pivots .kept .1 .1 .1 .1 .1 .1 .1 .1 .1 .1 .1 .0) (c .before .before .before .before .open-pivots .ensures)
+
+pub open-columns-spec : {M : Type 1} → statement M
+open-columns-spec =
+    tie.close
+    (tie.spec
+    slice-relend-prefix-open-pivots
+    slice-aggregate-open-pivots
+    open-pivots-requires
+    same-length
+    same-length-2
+    returns)

@@ -1,0 +1,4 @@
+pub mod Writing
+pub mod Completing
+pub mod Choosing
+pub mod Collecting

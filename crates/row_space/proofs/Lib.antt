@@ -1,0 +1,7 @@
+pub mod Substitutions
+pub mod Solutions
+pub mod Theorems
+pub mod Diagonal
+pub mod RowParts
+pub mod LowerLoop
+pub mod UpperLoop

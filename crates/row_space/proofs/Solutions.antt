@@ -1,0 +1,230 @@
+-- What `solve` computes is the answer that document 01 describes.
+use mathlib.Core.Path.{_≡_, refl, sym, ap, _∙_}
+use mathlib.Core.Logic.{_≢_, _⊎_, inl, inr}
+use mathlib.Core.Bool.{Bool, true, false, cond}
+use mathlib.Core.List.{List}
+use Prim.Native.Nat.{ℕ, _≤_, _<_}
+use native.Mathlib.Decide.{ℕ-discrete, decLt}
+use native.Mathlib.Omega.{arith}
+use lib.Dec.{eqb, leb}
+use lib.ListN.{length, getD, replicate}
+use borrow.Author.Tests.{eqb-true, eqb-false, leb-true, leb-false}
+use Rattle.lists.specs.Filled.{zeros}
+use Rattle.lists.specs.Tabulate.{tabulate}
+use Rattle.lists.specs.Tests.{first}
+use Rattle.lists.proofs.Filled.{zeros-replicate}
+use Rattle.lists.proofs.Tabulate.{length-tabulate, tabulate-at}
+use Rattle.lists.proofs.Tests.{first-before, first-here}
+use Rattle.algebra.specs.Sum.{dot, δ, place}
+use Rattle.algebra.specs.Prime.{Prime}
+use Rattle.algebra.specs.Matrix.{Vector, Matrix, Distinct, vector}
+use Rattle.algebra.specs.RowSpace.{Combines, InKernel}
+use Rattle.algebra.specs.Reduction.{reduced, AllZero, Lowest}
+use Rattle.algebra.specs.Answer.{OpenAnswer, ClosedAnswer, AnswerOpen, AnswerClosed, Answer}
+use Rattle.algebra.proofs.Congruence.{exact, turn, _⊙_}
+use Rattle.algebra.proofs.Dot.{dot-eq, dot-left, dot-comm, dot-place, place-at, place-off, δ-same, δ-other}
+use Rattle.algebra.proofs.Finite.{onto}
+use Rattle.algebra.proofs.Reduction.{taken, reduced-split}
+use Rattle.algebra.proofs.Verdict.{combination, closed-answer}
+use Rattle.algebra.proofs.Substitution.{Right, right-ends}
+use Rattle.residue.specs.Inverse.{Invertible}
+use Rattle.sparse.specs.Matrix.{Compressed, matrix}
+use Rattle.sparse.specs.Set.{Set}
+use Rattle.sparse.proofs.Rows.{form-below}
+use Rattle.pluq.specs.Judge.{Passes}
+use Rattle.row_space.specs.Substitution.{backL, backU}
+use Rattle.row_space.specs.Solve.{remainder, coefficients, lowest, isOpen, Solved, opened, closed, solve}
+use Rattle.row_space.specs.declared.Verdict.{Verdict}
+use Rattle.row_space.specs.declared.Verdict.the-variants.{Open, Closed}
+use Rattle.row_space.proofs.Substitutions.{backL-small, backL-solves, backU-kept, backU-small, backU-right}
+
+-- the two cases of `solve`
+abbrev openX : (p n : ℕ) → Set → Vector → List ℕ
+openX p n s y = tabulate n (place (s .r) (vector (s .R)) (backL p (matrix (s .L)) (s .r) (coefficients p s y)))
+
+abbrev closedZ : (p m : ℕ) → Set → Vector → List ℕ
+closedZ p m s y = tabulate m (backU p m (vector (s .C)) (matrix (s .U)) (s .r) (δ (lowest p m s y)))
+
+pub solve-cases : (p n m : ℕ) (s : Set) (y : Vector)
+    → (AllZero m (remainder p s y) × (solve p n m s y ≡ opened m (openX p n s y)))
+    ⊎ (Lowest m (remainder p s y) (lowest p m s y) × (solve p n m s y ≡ closed n (closedZ p m s y)))
+unfolding solve lowest AllZero
+solve-cases p n m s y = go (leb m j) refl
+  where
+    j : ℕ
+    j = lowest p m s y
+
+    before : (i : ℕ) → i < j → remainder p s y i ≡ 0
+    before i h = eqb-true (remainder p s y i) 0 (first-before m (λ j. eqb (remainder p s y j) 0) i h)
+
+    go : (b : Bool) → leb m j ≡ b
+        → (AllZero m (remainder p s y) × (cond b (opened m (openX p n s y)) (closed n (closedZ p m s y)) ≡ opened m (openX p n s y)))
+        ⊎ (Lowest m (remainder p s y) j × (cond b (opened m (openX p n s y)) (closed n (closedZ p m s y)) ≡ closed n (closedZ p m s y)))
+    go true e = inl (λ i h. before i (omega (arith, leb-true m j e)), refl)
+    go false e =
+        let lt : j < m = leb-false m j e in
+        inr (record { within = lt; here = eqb-false (remainder p s y j) 0 (first-here m (λ j. eqb (remainder p s y j) 0) lt); before = before }, refl)
+
+module _ {p : ℕ} (prime : Prime p) {n m : ℕ} {A : Compressed} {s : Set} (ok : Passes p n m A s) (y : List ℕ) (small : (j : ℕ) → j < m → vector y j < p) where
+  pos : 0 < p
+  pos = omega (arith, prime .two)
+
+  abbrev r : ℕ
+  r = s .r
+
+  abbrev R : Vector
+  R = vector (s .R)
+
+  abbrev C : Vector
+  C = vector (s .C)
+
+  abbrev L : Matrix
+  L = matrix (s .L)
+
+  abbrev U : Matrix
+  U = matrix (s .U)
+
+  abbrev v : Vector
+  v = backL p L r (coefficients p s (vector y))
+
+  inside : (k : ℕ) → k < r → C k < m
+  inside k h = ok .factors .columns .below k (omega (arith, ok .factors .rank-columns))
+
+  diagonal : (k : ℕ) → k < r → Invertible p (L k k)
+  diagonal k h =
+      record {
+        prime = prime;
+        nonzero = elim (ℕ-discrete (L k k) 0) [ yes e ↦ absurd (ok .factors .L-diagonal k h (exact e)) | no e ↦ omega arith ];
+        below = form-below p r (s .L .starts) (s .L .cols) (s .L .vals) (ok .L-form) k k pos;
+      }
+
+  pivot-rows : Distinct r n R
+  pivot-rows =
+      record {
+        below = λ a h. ok .factors .rows .below a (omega (arith, ok .factors .rank-rows));
+        apart = λ a b h g e. ok .factors .rows .apart a b (omega (arith, ok .factors .rank-rows)) (omega (arith, ok .factors .rank-rows)) e;
+      }
+
+  off : (i : ℕ) → r ≤ i → i < n → place r R v (R i) ≡ 0
+  off i h g = place-off r R v (R i) (λ k b e. omega (arith, ok .factors .rows .apart k i (omega arith) g e))
+
+  x-small : (t : ℕ) → t < n → place r R v t < p
+  x-small t h =
+      let o = onto n R (ok .factors .rows) t h in
+      let q : R (o .0) ≡ t = o .2 in
+      rw (← q) (go (o .0) (o .1) (decLt (o .0) r))
+    where
+      go : (i : ℕ) → i < n → Dec (i < r) → place r R v (R i) < p
+      go i g (yes b) = rw (place-at r n R v pivot-rows i b) (backL-small p L r (coefficients p s (vector y)) i pos)
+      go i g (no b) = rw (off i (omega arith) g) pos
+
+  -- ---- as vectors
+
+  x-answers : AllZero m (remainder p s (vector y)) → OpenAnswer p n m r (matrix A) R (vector y) (place r R v)
+  unfolding Combines AllZero taken
+  x-answers none =
+      record {
+        residues = x-small;
+        combines = λ j h.
+            exact (dot-place r n R v (λ i. matrix A i j) (λ i g. ok .factors .rows .below i (omega (arith, ok .factors .rank-rows))))
+            ⊙ combination prime (ok .factors) v j h
+            ⊙ dot-left r (λ k. U k j) (λ k g. exact (dot-comm r v (λ i. L i k)) ⊙ backL-solves prime r L (ok .factors .L-above) diagonal r (omega arith) (coefficients p s (vector y)) k g)
+            ⊙ exact (omega (arith, none j h))
+            ⊙ turn (reduced-split p pos m r C U inside (vector y) small r (omega arith) j);
+        others = off;
+      }
+
+  module _ (j : ℕ) (low : Lowest m (remainder p s (vector y)) j) where
+    abbrev z : Vector
+    z = backU p m C U r (δ j)
+
+    apart : (l : ℕ) → l < r → C l ≢ j
+    apart = closed-answer prime (ok .factors) (vector y) small j low .1 .pivot
+
+    z-starts : Right prime (ok .factors) r (δ j)
+    z-starts = record { done = λ l h g. absurd (omega arith); todo = λ l h. δ-other j (C l) (λ e. apart l h (sym e)) }
+
+    δ-small : (t : ℕ) → δ j t < p
+    δ-small t = elim (ℕ-discrete j t) [ yes e ↦ omega (arith, prime .two, ap (δ j) (sym e) ∙ δ-same j) | no e ↦ omega (arith, prime .two, δ-other j t e) ]
+
+    z-answers : ClosedAnswer p n m r (matrix A) C j z
+    z-answers =
+        record {
+          residues = λ t h. backU-small p m C U r (δ j) pos δ-small t;
+          kernel = right-ends prime (ok .factors) z (backU-right prime (ok .factors) r (omega arith) (δ j) z-starts);
+          pivot = apart;
+          one = backU-kept p m C U r (δ j) j apart ∙ δ-same j;
+          others = λ l h g e.
+              backU-kept p m C U r (δ j) (C l) (λ k b d. omega (arith, ok .factors .columns .apart k l (omega (arith, ok .factors .rank-columns)) g d)) ∙ δ-other j (C l) (λ d. e (sym d));
+        }
+
+  -- ---- as lists
+
+  open-list : AllZero m (remainder p s (vector y)) → AnswerOpen p n m r (matrix A) R C U y (tabulate n (place r R v)) (zeros m)
+  unfolding Combines
+  open-list none =
+      let a = x-answers none in
+      let at = tabulate-at n (place r R v) in
+      record {
+        remainder = none;
+        length-x = length-tabulate n (place r R v);
+        x-is =
+            record {
+              residues = λ i h. rw (at i h) (a .residues i h);
+              combines = λ j h. exact (dot-eq n {v = λ i. matrix A i j} at (λ i g. refl)) ⊙ a .combines j h;
+              others = λ i h g. at (R i) (ok .factors .rows .below i g) ∙ a .others i h g;
+            };
+        z-is = zeros-replicate m;
+      }
+
+  closed-list : (j : ℕ) → Lowest m (remainder p s (vector y)) j → AnswerClosed p n m r (matrix A) R C U y (zeros n) (tabulate m (backU p m C U r (δ j)))
+  unfolding InKernel
+  closed-list j low =
+      let a = z-answers j low in
+      let at = tabulate-at m (backU p m C U r (δ j)) in
+      record {
+        column = j;
+        remainder = low;
+        length-z = length-tabulate m (backU p m C U r (δ j));
+        z-is =
+            record {
+              residues = λ t h. rw (at t h) (a .residues t h);
+              kernel = λ i h. exact (dot-eq m {u = matrix A i} (λ t g. refl) at) ⊙ a .kernel i h;
+              pivot = a .pivot;
+              one = at j (low .within) ∙ a .one;
+              others = λ l h g e. at (C l) (ok .factors .columns .below l g) ∙ a .others l h g e;
+            };
+        x-is = zeros-replicate n;
+      }
+
+  abbrev Cases : Type 0
+  Cases =
+      (AllZero m (remainder p s (vector y)) × (solve p n m s (vector y) ≡ opened m (openX p n s (vector y))))
+      ⊎ (Lowest m (remainder p s (vector y)) (lowest p m s (vector y)) × (solve p n m s (vector y) ≡ closed n (closedZ p m s (vector y))))
+
+  pub solve-open : solve p n m s (vector y) .verdict ≡ Open
+      → AnswerOpen p n m (s .r) (matrix A) (vector (s .R)) (vector (s .C)) (matrix (s .U)) y (solve p n m s (vector y) .x) (solve p n m s (vector y) .z)
+  solve-open e = go (solve-cases p n m s (vector y))
+    where
+      go : Cases → AnswerOpen p n m r (matrix A) R C U y (solve p n m s (vector y) .x) (solve p n m s (vector y) .z)
+      go (inl (none, q)) = rw q (open-list none)
+      go (inr (low, q)) = absurd (let z : _≡_ {A = ℕ} 0 1 = cc in omega arith)
+
+  pub solve-closed : solve p n m s (vector y) .verdict ≡ Closed
+      → (a : AnswerClosed p n m (s .r) (matrix A) (vector (s .R)) (vector (s .C)) (matrix (s .U)) y (solve p n m s (vector y) .x) (solve p n m s (vector y) .z))
+      × (a .column ≡ lowest p m s (vector y))
+  unfolding closed-list
+  solve-closed e = go (solve-cases p n m s (vector y))
+    where
+      go : Cases → (a : AnswerClosed p n m r (matrix A) R C U y (solve p n m s (vector y) .x) (solve p n m s (vector y) .z)) × (a .column ≡ lowest p m s (vector y))
+      go (inl (none, q)) = absurd (let z : _≡_ {A = ℕ} 0 1 = cc in omega arith)
+      go (inr (low, q)) = rw q (closed-list (lowest p m s (vector y)) low, refl)
+
+  -- document 01's answer, in both cases
+  pub solve-answers : let a = solve p n m s (vector y) in Answer p n m (s .r) (matrix A) (vector (s .R)) (vector (s .C)) (matrix (s .U)) y (isOpen (a .verdict)) (a .x) (a .z)
+  unfolding Answer
+  solve-answers = go (solve p n m s (vector y) .verdict) refl
+    where
+      go : (v : Verdict) → solve p n m s (vector y) .verdict ≡ v → Answer p n m r (matrix A) R C U y (isOpen v) (solve p n m s (vector y) .x) (solve p n m s (vector y) .z)
+      go Open e = solve-open e
+      go Closed e = solve-closed e .0

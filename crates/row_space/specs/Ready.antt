@@ -1,0 +1,69 @@
+-- What the two substitutions need of a set and of the lent lists, and what a turn of the first one leaves.
+--   residues p w               the residues that the cells of a working row stand for
+--   LowerReady p L w           L is well formed and lower triangular, with a column for each cell of w
+--   LowerRowReady p k L w      the same, and k is one of its rows
+--   LowerTurn p L k w₀ w v     v is the value of row k, and w is w₀ with v times that row taken away
+--   LowerOrder p L R w x       R gives each row of L a place in x, which is all zero
+--   Placed xs x w              x is the list xs, and the working row is all zero
+--   RowTimesReady p cs vs z    the columns cs and values vs are a row of a well-formed matrix with a column for each cell of z
+--   UpperRowReady p k U z      U is well formed, with a column for each cell of z, and k is one of its rows
+--   UpperReady p r U C z       the same for the first r rows of U, and C gives each a place in z
+use Prim.Native.Nat.{ℕ, _+_, _*_, _%_, _≤_, _<_}
+use mathlib.Core.Path.{_≡_}
+use mathlib.Core.Bool.{true}
+use mathlib.Core.List.{List}
+use lib.ListN.{length, getD}
+use Rattle.lists.specs.Filled.{zeros}
+use Rattle.algebra.specs.Prime.{Prime}
+use Rattle.algebra.specs.Matrix.{Vector}
+use Rattle.sparse.specs.Row.{Below, Row}
+use Rattle.sparse.specs.Matrix.{Compressed, matrix, form}
+use Rattle.sparse.specs.WorkingRow.{Subtracted}
+use Rattle.pluq.specs.Order.{permutation}
+use Rattle.pluq.specs.Shape.{lower}
+use Rattle.row_space.specs.Substitution.{quotient}
+
+abbrev pub residues : ℕ → List ℕ → Vector
+residues p w = λ l. getD w l 0 % p
+
+pub record LowerReady (p : ℕ) (L : Compressed) (w : List ℕ) : Type 0 where
+  pub prime : Prime p
+  pub formed : form p (length w) L ≡ true
+  pub rows : length w < length (L .starts)
+  pub shaped : lower (length w) (matrix L) ≡ true
+  pub below : Below (p * p) w
+
+pub record LowerRowReady (p k : ℕ) (L : Compressed) (w : List ℕ) : Type 0 where
+  pub inside : k < length w
+  pub ready : LowerReady p L w
+
+pub record LowerTurn (p : ℕ) (L : Compressed) (k : ℕ) (w₀ w : List ℕ) (v : ℕ) : Type 0 where
+  pub value : v ≡ quotient p (matrix L) k (residues p w₀)
+  pub taken : Subtracted p (λ j. v * matrix L k j) w₀ w
+
+pub record LowerOrder (p : ℕ) (L : Compressed) (R w x : List ℕ) : Type 0 where
+  pub ready : LowerReady p L w
+  pub order : permutation R ≡ true
+  pub long : length R ≡ length x
+  pub rank : length w ≤ length x
+  pub clear : x ≡ zeros (length x)
+
+pub record Placed (xs x w : List ℕ) : Type 0 where
+  pub list : x ≡ xs
+  pub row : w ≡ zeros (length w)
+
+pub record RowTimesReady (p : ℕ) (cols vals z : List ℕ) : Type 0 where
+  pub positive : 0 < p
+  pub row : Row p (length z) cols vals
+
+pub record UpperRowReady (p k : ℕ) (U : Compressed) (z : List ℕ) : Type 0 where
+  pub positive : 0 < p
+  pub formed : form p (length z) U ≡ true
+  pub inside : k + 1 < length (U .starts)
+
+pub record UpperReady (p r : ℕ) (U : Compressed) (C z : List ℕ) : Type 0 where
+  pub positive : 0 < p
+  pub formed : form p (length z) U ≡ true
+  pub rows : r < length (U .starts)
+  pub order : r ≤ length C
+  pub places : Below (length z) C

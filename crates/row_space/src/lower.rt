@@ -1,0 +1,65 @@
+// x by substitution through L, from its last pivot row up.
+ghost use mathlib.Core.Path.{_≡_};
+ghost use lib.ListN.{length};
+ghost use Rattle.lists.specs.Tabulate.{tabulate};
+ghost use Rattle.algebra.specs.Sum.{place};
+ghost use Rattle.algebra.specs.Matrix.{vector};
+ghost use Rattle.sparse.specs.Words.{view};
+ghost use Rattle.sparse.specs.Matrix.{viewed, matrix};
+ghost use Rattle.row_space.specs.Substitution.{backL};
+ghost use Rattle.row_space.specs.Ready.{residues, LowerRowReady, LowerTurn, LowerOrder, Placed};
+use lists::clear_row;
+use lists::index;
+use residue::Modulus;
+use sparse::kernel::subtract_row;
+use sparse::words::word;
+
+// The value of row k: what the working row has at k, divided by the row's last entry, which is its diagonal entry.
+// The row is taken away so often.
+fn lower_turn(
+    q: Modulus,
+    ls: &[u32],
+    lsb: &[u8],
+    lc: &[u32],
+    lcb: &[u8],
+    lv: &[u32],
+    lvb: &[u8],
+    k: usize,
+    work: &mut [u64],
+) -> u32
+    requires { ⌜ LowerRowReady (q .p) k (viewed (now ls) (now lsb) (now lc) (now lcb) (now lv) (now lvb)) (now work) ⌝ }
+    ensures { λ v. ⌜ LowerTurn (q .p) (viewed (now (ls .entry)) (now (lsb .entry)) (now (lc .entry)) (now (lcb .entry)) (now (lv .entry)) (now (lvb .entry))) k (now (work .entry)) (now (work .exit)) v ⌝ }
+{
+    let e = index(word(ls, lsb, k + 1));
+    let a = word(lv, lvb, e - 1);
+    let d = q.reduce(work[k]);
+    let v = q.multiply(d, q.invert(a));
+    subtract_row(q, ls, lsb, lc, lcb, lv, lvb, k, v, work);
+    v
+}
+
+// v L = d, where d stands in the working row: each value of v goes to the place in x that R gives its row.
+pub fn solve_lower(
+    q: Modulus,
+    ls: &[u32],
+    lsb: &[u8],
+    lc: &[u32],
+    lcb: &[u8],
+    lv: &[u32],
+    lvb: &[u8],
+    ro: &[u32],
+    rob: &[u8],
+    x: &mut [u32],
+    work: &mut [u64],
+)
+    requires { ⌜ LowerOrder (q .p) (viewed (now ls) (now lsb) (now lc) (now lcb) (now lv) (now lvb)) (view (now ro) (now rob)) (now work) (now x) ⌝ }
+    ensures { λ _. ⌜ Placed (tabulate (length (now (x .entry))) (place (length (now (work .entry))) (vector (view (now (ro .entry)) (now (rob .entry)))) (backL (q .p) (matrix (viewed (now (ls .entry)) (now (lsb .entry)) (now (lc .entry)) (now (lcb .entry)) (now (lv .entry)) (now (lvb .entry)))) (length (now (work .entry))) (residues (q .p) (now (work .entry)))))) (now (x .exit)) (now (work .exit)) ⌝ }
+{
+    let mut k = work.len();
+    while 0 < k {
+        k -= 1;
+        let t = index(word(ro, rob, k));
+        x[t] = lower_turn(q, ls, lsb, lc, lcb, lv, lvb, k, work);
+    }
+    clear_row(work);
+}

@@ -1,0 +1,95 @@
+// z by substitution through U, from its last row up.
+ghost use mathlib.Core.Path.{_≡_};
+ghost use Prim.Native.Nat.{_+_, _*_, _%_, _<_};
+ghost use lib.ListN.{length};
+ghost use Rattle.lists.specs.Tabulate.{tabulate};
+ghost use Rattle.algebra.specs.Matrix.{vector};
+ghost use Rattle.residue.specs.Arithmetic.{Residue};
+ghost use Rattle.sparse.specs.Words.{view};
+ghost use Rattle.sparse.specs.Row.{weigh};
+ghost use Rattle.sparse.specs.Matrix.{viewed, matrix};
+ghost use Rattle.row_space.specs.Substitution.{missing, backU};
+ghost use Rattle.row_space.specs.Ready.{RowTimesReady, UpperRowReady, UpperReady};
+use lists::index;
+use residue::Modulus;
+use sparse::words::bytes_part;
+use sparse::words::count;
+use sparse::words::list_part;
+use sparse::words::word;
+
+// s + a b
+fn add_product(q: Modulus, s: u32, a: u32, b: u32) -> u32
+    requires { ⌜ 0 < q .p ⌝ }
+    ensures { λ r. ⌜ Residue (q .p) ((s + a * b) % q .p) r ⌝ }
+{
+    q.reduce(s as u64 + a as u64 * b as u64)
+}
+
+// The product of a sparse row and z.
+fn row_times(q: Modulus, cols: &[u32], cb: &[u8], vals: &[u32], vb: &[u8], z: &[u32]) -> u32
+    requires { ⌜ RowTimesReady (q .p) (view (now cols) (now cb)) (view (now vals) (now vb)) (now z) ⌝ }
+    ensures { λ s. ⌜ Residue (q .p) (weigh (view (now (cols .entry)) (now (cb .entry))) (view (now (vals .entry)) (now (vb .entry))) (vector (now (z .entry))) % q .p) s ⌝ }
+{
+    let n = count(cols, cb);
+    let mut s: u32 = 0;
+    let mut t = 0;
+    while t < n {
+        let j = index(word(cols, cb, t));
+        let v = word(vals, vb, t);
+        s = add_product(q, s, v, z[j]);
+        t += 1;
+    }
+    s
+}
+
+// What row k of U times z lacks to be 0.
+fn upper_turn(
+    q: Modulus,
+    us: &[u32],
+    usb: &[u8],
+    uc: &[u32],
+    ucb: &[u8],
+    uv: &[u32],
+    uvb: &[u8],
+    k: usize,
+    z: &[u32],
+) -> u32
+    requires { ⌜ UpperRowReady (q .p) k (viewed (now us) (now usb) (now uc) (now ucb) (now uv) (now uvb)) (now z) ⌝ }
+    ensures { λ v. ⌜ v ≡ missing (q .p) (length (now (z .entry))) (matrix (viewed (now (us .entry)) (now (usb .entry)) (now (uc .entry)) (now (ucb .entry)) (now (uv .entry)) (now (uvb .entry))) k) (vector (now (z .entry))) ⌝ }
+{
+    let a = index(word(us, usb, k));
+    let e = index(word(us, usb, k + 1));
+    q.negate(row_times(
+        q,
+        list_part(uc, a, e),
+        bytes_part(uc.len(), ucb, a, e),
+        list_part(uv, a, e),
+        bytes_part(uv.len(), uvb, a, e),
+        z,
+    ))
+}
+
+// U z = 0: the pivot cells of z are filled.
+pub fn solve_upper(
+    q: Modulus,
+    us: &[u32],
+    usb: &[u8],
+    uc: &[u32],
+    ucb: &[u8],
+    uv: &[u32],
+    uvb: &[u8],
+    co: &[u32],
+    cob: &[u8],
+    r: usize,
+    z: &mut [u32],
+)
+    requires { ⌜ UpperReady (q .p) r (viewed (now us) (now usb) (now uc) (now ucb) (now uv) (now uvb)) (view (now co) (now cob)) (now z) ⌝ }
+    ensures { λ _. ⌜ now (z .exit) ≡ tabulate (length (now (z .entry))) (backU (q .p) (length (now (z .entry))) (vector (view (now (co .entry)) (now (cob .entry)))) (matrix (viewed (now (us .entry)) (now (usb .entry)) (now (uc .entry)) (now (ucb .entry)) (now (uv .entry)) (now (uvb .entry)))) r (vector (now (z .entry)))) ⌝ }
+{
+    let mut k = r;
+    while 0 < k {
+        k -= 1;
+        let t = index(word(co, cob, k));
+        z[t] = upper_turn(q, us, usb, uc, ucb, uv, uvb, k, z);
+    }
+}
