@@ -14,6 +14,7 @@ use mathlib.Core.List.{List, []}
 use mathlib.Core.Bool.{true, cond, _&&_}
 use lib.Dec.{eqb}
 use lib.ListN.{length, drop}
+use Rattle.lists.specs.Table.{wrongLength}
 use Rattle.lists.specs.Filled.{zeros}
 use Rattle.residue.specs.Range.{isModulus}
 use Rattle.fields.specs.Pieces.{pieces}
@@ -51,7 +52,7 @@ answerOf room (accepted s seen) =
     }
 
 unfoldable pub callOf : List ℕ → ℕ → ℕ → ℕ → ReadAnswer
-callOf text a b c = cond (eqb a startsLength && eqb b c) (answerOf b (readOf b text)) (refuses 9 0 a b c)
+callOf text a b c = cond (eqb a startsLength && eqb b c) (answerOf b (readOf b text)) (refuses wrongLength 0 a b c)
 
 pub record Gives (x : ReadAnswer) (r : Reading) (starts columns values : List ℕ) : Type 0 where
   pub result-is : r ≡ x .result

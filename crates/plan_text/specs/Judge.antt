@@ -1,4 +1,4 @@
--- What a line is judged to be. Numbers of refusals are document 01's.
+-- What a line is judged to be.
 --   inRange v             v lies from -2,147,483,648 to 2,147,483,647
 --   residueAt p v         v modulo p
 --   isLast i j v          the line is `0 0 0`
@@ -10,6 +10,7 @@
 use Prim.Native.Nat.{ℕ}
 use mathlib.Core.Bool.{Bool, false, cond, _&&_, _||_, not}
 use lib.Dec.{eqb, ltb, leb}
+use Rattle.lists.specs.Table.{malformed, outsidePlan, outOfOrder, valueOutOfRange, storageTooShort}
 use Rattle.fields.specs.Number.{isNegative, magnitude}
 use Rattle.fields.specs.declared.numbers.Signed.{Signed}
 use Rattle.fields.specs.declared.numbers.Signed.the-variants.{Plus, Minus, NotSigned}
@@ -48,16 +49,16 @@ mayStand a b NotTriple = false
 
 -- a value that is stored, one that is not 0, needs room
 abbrev pub entryIf : Bool → ℕ → ℕ → ℕ → Verdict
-entryIf full i j v = cond (not (eqb v 0) && full) (Refused 7) (Entry i j v)
+entryIf full i j v = cond (not (eqb v 0) && full) (Refused storageTooShort) (Entry i j v)
 
 unfoldable pub judge : Bool → Bool → Sizes → Line → Verdict
-judge stands full s NotTriple = Refused 3
+judge stands full s NotTriple = Refused malformed
 judge stands full s (Triple i j v) =
     cond (isLast i j v) Last
     (cond (within i (s .n) && within j (s .m))
     (cond stands
     (cond (inRange v)
     (entryIf full i j (residueAt (s .modulus .p) v))
-    (Refused 6))
-    (Refused 5))
-    (Refused 4))
+    (Refused valueOutOfRange))
+    (Refused outOfOrder))
+    (Refused outsidePlan))

@@ -1,4 +1,4 @@
--- The reading of a whole plan text. Numbers of refusals are document 01's; 10 is the byte of the line feed.
+-- The reading of a whole plan text. 10 is the byte of the line feed.
 --   Entry              a triple of the text: row and column count from 1, the value is a residue
 --   kept seen          what is stored of the triples seen, in the text's order: those whose value is not 0
 --   ReadResult         a refusal with its detail, or the sizes and the triples of an accepted text
@@ -10,6 +10,7 @@ use mathlib.Core.List.{List, [], _∷_, _++_}
 use mathlib.Core.Bool.{cond, _&&_}
 use lib.Dec.{eqb, ltb, leb}
 use lib.ListN.{length}
+use Rattle.lists.specs.Table.{badModulus, overLimit, malformed}
 use Rattle.fields.specs.Pieces.{Pieces, last, more, pieces}
 use Rattle.fields.specs.Number.{numberOf}
 use Rattle.fields.specs.declared.numbers.Number.{Number}
@@ -53,8 +54,8 @@ verdictOn s room seen l = judge (mayStand (lastRow seen) (lastColumn seen) (line
 -- nothing follows the last line
 abbrev pub ending : Sizes → ℕ → List Entry → Pieces → ReadResult
 ending s k seen (last []) = accepted s seen
-ending s k seen (last (b ∷ bs)) = refused 3 k
-ending s k seen (more l t) = refused 3 k
+ending s k seen (last (b ∷ bs)) = refused malformed k
+ending s k seen (more l t) = refused malformed k
 
 -- what the verdict on line k leads to
 abbrev pub onward : Sizes → ℕ → List Entry → Pieces → (Entry → ReadResult) → Verdict → ReadResult
@@ -64,27 +65,27 @@ onward s k seen rest next (AnEntry i j v) = next (record { row = i; column = j; 
 
 -- the lines from number k on
 unfoldable pub triples : Sizes → ℕ → ℕ → List Entry → Pieces → ReadResult
-triples s room k seen (last l) = refused 3 k
+triples s room k seen (last l) = refused malformed k
 triples s room k seen (more l rest) = onward s k seen rest (λ t. triples s room (k + 1) (t ∷ seen) rest) (verdictOn s room seen l)
 
 -- ---- the second line
 abbrev pub withSizes : ℕ → ℕ → Pieces → Header → ReadResult
-withSizes p room rest NotHeader = refused 3 2
+withSizes p room rest NotHeader = refused malformed 2
 withSizes p room rest (Given n m) =
-    cond (leb n largestSize && leb m largestSize) (triples (record { modulus = record { p = p }; n = n; m = m }) room 3 [] rest) (refused 2 0)
+    cond (leb n largestSize && leb m largestSize) (triples (record { modulus = record { p = p }; n = n; m = m }) room 3 [] rest) (refused overLimit 0)
 
 abbrev pub fromSecond : ℕ → ℕ → Pieces → ReadResult
-fromSecond p room (last l) = refused 3 2
+fromSecond p room (last l) = refused malformed 2
 fromSecond p room (more l rest) = withSizes p room rest (headerOf l)
 
 -- ---- the first line
 abbrev pub withModulus : ℕ → Pieces → Number → ReadResult
-withModulus room rest NotNumber = refused 3 1
-withModulus room rest (Value p) = cond (isModulus p) (fromSecond p room rest) (refused 1 0)
+withModulus room rest NotNumber = refused malformed 1
+withModulus room rest (Value p) = cond (isModulus p) (fromSecond p room rest) (refused badModulus 0)
 
 abbrev pub fromFirst : ℕ → Pieces → ReadResult
-fromFirst room (last l) = refused 3 1
+fromFirst room (last l) = refused malformed 1
 fromFirst room (more l rest) = withModulus room rest (numberOf l)
 
 unfoldable pub readOf : ℕ → List ℕ → ReadResult
-readOf room text = cond (ltb largestText (length text)) (refused 2 0) (fromFirst room (pieces 10 text))
+readOf room text = cond (ltb largestText (length text)) (refused overLimit 0) (fromFirst room (pieces 10 text))
