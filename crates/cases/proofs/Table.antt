@@ -8,9 +8,16 @@ use Rattle.lists.specs.Tests.{all, first}
 use Rattle.lists.specs.declared.Outcome.{Outcome}
 use Rattle.lists.specs.declared.Outcome.the-variants.{Passed, Refused}
 use Rattle.algebra.specs.Sum.{sum, dot, δ, place}
+use Rattle.algebra.specs.Prime.{Prime}
 use Rattle.algebra.specs.Matrix.{vector}
+use Rattle.algebra.specs.Rank.{Rank}
 use Rattle.algebra.specs.Reduction.{reduced}
 use Rattle.residue.specs.Inverse.{invMod, inverseBelow}
+use Rattle.residue.specs.Primality.{isPrime, dividedBelow}
+use Rattle.residue.specs.Range.{isModulus}
+use Rattle.residue.proofs.Primes.{true-prime}
+use Rattle.sparse.specs.Words.{words}
+use Rattle.sparse.specs.Matrix.{matrix}
 use Rattle.sparse.specs.Form.{startsFrom, starts, risesFrom, rowsFrom, values, wellFormed}
 use Rattle.sparse.specs.Row.{weigh}
 use Rattle.sparse.specs.Dense.{columnsFrom, nonzeros, startsAfter, allColumns, allValues, compress}
@@ -24,40 +31,61 @@ use Rattle.row_space.specs.declared.Verdict.the-variants.{Open, Closed}
 use Rattle.elimination.specs.Structural.{leads, prefer, chosen, structural}
 use Rattle.elimination.specs.Pivots.{columnsOf, uppersOf, coefficients, withPivot, withDependent, placed, turn, turns}
 use Rattle.elimination.specs.Factoring.{isIn, rest, schedule, rowsOf, lowersOf, factored, factorFrom, factor}
+use Rattle.elimination.proofs.Theorem.{factor-rank}
+use Rattle.certificate.specs.Layout.{bytes, mark, version, factorNumbers, numbersOf, certificateOf}
+use Rattle.certificate.specs.Reading.{placesOf, field, setIn, setOfCertificate, begins, lengthOk, sizesOk, headerOk}
+use Rattle.call_tests.specs.Limits.{workLength}
+use Rattle.call_tests.specs.Tests.{planLengths, setLengths, limitsOk, planOutcome}
+use Rattle.check_calls.specs.Calls.{certificateOutcome, checkCertificateOf}
 use Rattle.cases.specs.Plans.{none, blank, ones, D, setD}
+
+-- the certificate of D's set, with l for L[3][3] and u for U[0][0], checked with a working row of its length
+abbrev pub certificateD : ℕ → ℕ → Outcome
+certificateD l u = checkCertificateOf 7 5 5 D (certificateOf 7 5 5 (setD l u)) workLength
 
 pub record Table : Type 0 where
   -- n = m = 0
-  pub empty-rank : factor 7 0 0 none .r ≡ 0
+  pub empty-rank : Rank 7 0 0 (matrix none) 0
   pub empty-open : solve 7 0 0 (factor 7 0 0 none) (vector []) .verdict ≡ Open
   -- n = 0, m = 1
   pub silent-closed : solve 7 0 1 (factor 7 0 1 none) (vector (1 ∷ [])) .verdict ≡ Closed
   pub silent-z : solve 7 0 1 (factor 7 0 1 none) (vector (1 ∷ [])) .z ≡ 1 ∷ []
   -- two by two with no entries; two rows of three ones modulo 2
-  pub blank-rank : factor 7 2 2 blank .r ≡ 0
-  pub ones-rank : factor 2 2 3 ones .r ≡ 1
+  pub blank-rank : Rank 7 2 2 (matrix blank) 0
+  pub ones-rank : Rank 2 2 3 (matrix ones) 1
   -- plan D: R, C, U, L and the rank
   pub D-factors : factor 7 5 5 D ≡ setD 5 1
-  pub D-passes : judge 7 5 5 D (setD 5 1) ≡ Passed
-  -- D's edited sets
-  pub D-product : judge 7 5 5 D (setD 4 1) ≡ Refused 14 3
-  pub D-shape : judge 7 5 5 D (setD 5 2) ≡ Refused 13 0
+  pub D-rank : Rank 7 5 5 (matrix D) 4
+  pub D-passes : certificateD 5 1 ≡ Passed
+  -- D's edited certificates: L[3][3] = 4, and U[0][0] = 2
+  pub D-product : certificateD 4 1 ≡ Refused 14 3
+  pub D-shape : certificateD 5 2 ≡ Refused 13 0
   -- D's questions
   pub D-word : solve 7 5 5 (setD 5 1) (vector (0 ∷ 0 ∷ 0 ∷ 0 ∷ 1 ∷ [])) ≡ record { verdict = Open; x = 0 ∷ 0 ∷ 0 ∷ 0 ∷ 5 ∷ []; z = 0 ∷ 0 ∷ 0 ∷ 0 ∷ 0 ∷ [] }
   pub D-sum : solve 7 5 5 (setD 5 1) (vector (0 ∷ 0 ∷ 1 ∷ 6 ∷ 0 ∷ [])) ≡ record { verdict = Open; x = 0 ∷ 6 ∷ 0 ∷ 3 ∷ 0 ∷ []; z = 0 ∷ 0 ∷ 0 ∷ 0 ∷ 0 ∷ [] }
   pub D-hidden : solve 7 5 5 (setD 5 1) (vector (1 ∷ 0 ∷ 0 ∷ 0 ∷ 0 ∷ [])) ≡ record { verdict = Closed; x = 0 ∷ 0 ∷ 0 ∷ 0 ∷ 0 ∷ []; z = 3 ∷ 2 ∷ 1 ∷ 1 ∷ 0 ∷ [] }
 
+-- the primes of the cases, by the test
+seven : Prime 7
+unfolding isPrime dividedBelow
+seven = true-prime 7 refl
+
+two : Prime 2
+unfolding isPrime dividedBelow
+two = true-prime 2 refl
+
 pub table : Table
-unfolding zeros tabulate all first sum dot δ place reduced invMod inverseBelow startsFrom starts risesFrom rowsFrom values wellFormed weigh columnsFrom nonzeros startsAfter allColumns allValues compress among below distinct permutation lowerRow lower upperRow upper agrees productOutcome judgeFactors judge backL backU lowest solve leads prefer chosen structural columnsOf uppersOf coefficients withPivot withDependent placed turn turns isIn rest schedule rowsOf lowersOf factored factorFrom factor
+unfolding zeros tabulate all first sum dot δ place reduced invMod inverseBelow startsFrom starts risesFrom rowsFrom values wellFormed weigh columnsFrom nonzeros startsAfter allColumns allValues compress among below distinct permutation lowerRow lower upperRow upper agrees productOutcome judgeFactors judge backL backU lowest solve leads prefer chosen structural columnsOf uppersOf coefficients withPivot withDependent placed turn turns isIn rest schedule rowsOf lowersOf factored factorFrom factor words bytes mark version factorNumbers numbersOf certificateOf placesOf field setIn setOfCertificate begins lengthOk sizesOk headerOk isPrime dividedBelow isModulus planLengths setLengths limitsOk planOutcome certificateOutcome checkCertificateOf
 table =
     record {
-      empty-rank = refl;
+      empty-rank = factor-rank 7 0 0 none seven refl refl;
       empty-open = refl;
       silent-closed = refl;
       silent-z = refl;
-      blank-rank = refl;
-      ones-rank = refl;
+      blank-rank = factor-rank 7 2 2 blank seven refl refl;
+      ones-rank = factor-rank 2 2 3 ones two refl refl;
       D-factors = refl;
+      D-rank = factor-rank 7 5 5 D seven refl refl;
       D-passes = refl;
       D-product = refl;
       D-shape = refl;
