@@ -17,7 +17,7 @@ use lib.Dec.{eqb}
 use lib.ListN.{length, getD}
 use Rattle.lists.specs.Filled.{zeros}
 use Rattle.lists.specs.Tests.{first}
-use Rattle.algebra.specs.Matrix.{Vector, Matrix, vector}
+use Rattle.algebra.specs.Matrix.{Vector, Matrix}
 use Rattle.algebra.specs.Reduction.{reduced}
 use Rattle.sparse.specs.Row.{Below}
 use Rattle.sparse.specs.Matrix.{Compressed, matrix, form}

@@ -1,24 +1,23 @@
 -- A column is open exactly if every vector that U takes to 0 is 0 there.
 use mathlib.Core.Path.{_≡_, refl, sym, ap, _∙_}
-use mathlib.Core.Logic.{_≢_, _⊎_, inl, inr}
+use mathlib.Core.Logic.{_⊎_, inl, inr}
 use mathlib.Core.Bool.{Bool, true, false, cond}
-use mathlib.Core.List.{List}
 use Prim.Native.Nat.{ℕ, zero, suc, _+_, _-_, _*_, _%_, _≤_, _<_}
 use native.Mathlib.Nat.{mod-eq-of-lt, add-mul-mod-self-left}
 use native.Mathlib.Decide.{ℕ-discrete}
 use native.Mathlib.Omega.{arith}
 use lib.Dec.{eqb, leb}
-use borrow.Author.Tests.{eqb-true, eqb-false, leb-true, leb-false, le-leb, lt-leb, eq-eqb}
+use borrow.Author.Tests.{eqb-true, leb-true, le-leb, eq-eqb}
 use Rattle.lists.specs.Tests.{first}
-use Rattle.lists.proofs.Tests.{first-all, first-before, first-here}
+use Rattle.lists.proofs.Tests.{first-all, first-before}
 use Rattle.algebra.specs.Congruence.{_≈⟨_⟩_}
-use Rattle.algebra.specs.Sum.{dot, δ}
+use Rattle.algebra.specs.Sum.{δ}
 use Rattle.algebra.specs.Prime.{Prime}
 use Rattle.algebra.specs.Matrix.{Vector, Matrix, Permutation}
 use Rattle.algebra.specs.RowSpace.{InRowSpace, InKernel}
 use Rattle.algebra.specs.Factors.{Factors}
 use Rattle.algebra.specs.Reduction.{reduced, AllZero, Lowest}
-use Rattle.algebra.proofs.Congruence.{exact, turn, _⊙_}
+use Rattle.algebra.proofs.Congruence.{exact, _⊙_}
 use Rattle.algebra.proofs.Inverse.{one-not-zero}
 use Rattle.algebra.proofs.Dot.{dot-δ, δ-same, δ-other}
 use Rattle.algebra.proofs.Finite.{lowest}

@@ -1,14 +1,13 @@
 -- The pivot column of a row of U, by the number of closed columns beside it: none makes it open, one makes it closed.
-use mathlib.Core.Path.{_≡_, refl, sym, ap, _∙_}
+use mathlib.Core.Path.{_≡_, sym, ap, _∙_}
 use mathlib.Core.Logic.{_≢_}
 use mathlib.Core.List.{List}
-use Prim.Native.Nat.{ℕ, _+_, _*_, _%_, _≤_, _<_}
+use Prim.Native.Nat.{ℕ, _*_, _<_}
 use native.Mathlib.Nat.{mod-eq-of-lt, zero-mod}
 use native.Mathlib.Omega.{arith}
 use lib.ListN.{length, getD}
 use Rattle.algebra.specs.Congruence.{_≈⟨_⟩_}
-use Rattle.algebra.specs.Sum.{dot}
-use Rattle.algebra.specs.Matrix.{Vector, Matrix, Permutation, vector}
+use Rattle.algebra.specs.Matrix.{Vector, Permutation, vector}
 use Rattle.algebra.specs.RowSpace.{InKernel}
 use Rattle.algebra.proofs.Congruence.{exact, turn, _⊙_, _⊕_, _⊗_, same-refl}
 use Rattle.algebra.proofs.Inverse.{no-divisors}
@@ -21,7 +20,7 @@ use Rattle.pluq.proofs.Shapes.{Upper, upper-means}
 use Rattle.columns.specs.Counting.{closedOthers, RowReady}
 use Rattle.columns.specs.Opening.{openCell, FactorReady, Known, PivotReady, Cell}
 use Rattle.columns.proofs.Kernel.{open-vanishes, vanishes-open, closed-differs, differs-closed}
-use Rattle.columns.proofs.CountLaws.{ZeroAtOpen, count-none, One, count-one}
+use Rattle.columns.proofs.CountLaws.{ZeroAtOpen, count-none, count-one}
 
 module _ (p r : ℕ) (U : Compressed) (C : List ℕ) (m : ℕ) (f : FactorReady p r U C m) where
   pub order : Permutation m (vector C)

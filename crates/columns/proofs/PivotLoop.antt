@@ -1,22 +1,22 @@
 -- The loop over the pivot columns, from the last row of U up.
 use mathlib.Core.Path.{_≡_, refl, sym, ap, subst, _∙_}
 use mathlib.Core.Logic.{_≢_}
-use mathlib.Core.List.{List, _++_}
-use Prim.Native.Nat.{ℕ, suc, _+_, _-_, _≤_, _<_}
+use mathlib.Core.List.{List}
+use Prim.Native.Nat.{ℕ, suc, _-_, _≤_, _<_}
 use native.Mathlib.Decide.{ℕ-discrete, decLt}
 use native.Mathlib.Omega.{arith}
-use lib.ListN.{length, getD, set, take, drop, length-set}
-use lib.Seq.{getD-set-same, getD-set-other, length-take-le}
+use lib.ListN.{length, getD, set, length-set}
+use lib.Seq.{getD-set-same, getD-set-other}
 use Rattle.lists.specs.Filled.{zeros}
 use Rattle.lists.specs.Tabulate.{tabulate}
 use Rattle.lists.proofs.Filled.{zeros-at, length-zeros}
 use Rattle.lists.proofs.Tabulate.{tabulated}
-use Rattle.algebra.specs.Matrix.{Vector, Matrix, vector}
+use Rattle.algebra.specs.Matrix.{vector}
 use Rattle.algebra.proofs.Finite.{onto}
 use Rattle.sparse.specs.Row.{entry}
 use Rattle.sparse.specs.Matrix.{Compressed, rowOf, matrix}
 use Rattle.sparse.proofs.Entries.{row-columns, values-at, entry-at}
-use Rattle.columns.specs.Opening.{openCell, FactorReady, UnitReady, Known, PivotReady, Cell, PivotsReady}
+use Rattle.columns.specs.Opening.{openCell, FactorReady, Known, PivotReady, Cell, PivotsReady}
 use Rattle.columns.proofs.Kernel.{other-closed}
 use Rattle.columns.proofs.PivotLaws.{order, shape, pivot-inside, row-of}
 

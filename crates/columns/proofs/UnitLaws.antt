@@ -1,15 +1,14 @@
 -- The unit question of a pivot column, reduced by its row and the rows after it.
 use mathlib.Core.Path.{_≡_, refl, sym, ap, _∙_}
-use mathlib.Core.Bool.{Bool, true, false, cond}
+use mathlib.Core.Bool.{Bool, cond}
 use mathlib.Core.List.{List}
 use Prim.Native.Nat.{ℕ, _+_, _*_, _%_, _≤_, _<_}
 use native.Mathlib.Nat.{mod-eq-of-lt}
 use native.Mathlib.Omega.{arith}
-use lib.Dec.{leb}
 use lib.ListN.{length, getD, set, length-set}
 use borrow.Author.Tests.{le-leb, lt-leb}
 use Rattle.lists.specs.Filled.{zeros}
-use Rattle.lists.proofs.Filled.{zeros-at, length-zeros}
+use Rattle.lists.proofs.Filled.{zeros-at}
 use Rattle.algebra.specs.Sum.{δ}
 use Rattle.algebra.specs.Matrix.{Vector, Matrix, vector}
 use Rattle.algebra.specs.Reduction.{reduced}
@@ -19,9 +18,9 @@ use Rattle.sparse.specs.Matrix.{Compressed, matrix}
 use Rattle.sparse.proofs.Subtraction.{below-set}
 use Rattle.row_space.specs.Ready.{residues}
 use Rattle.answers.specs.Reducing.{Turn, Remains, lowestOf}
-use Rattle.answers.proofs.ReduceLoop.{Reducing, reducing-turn, residue-cell, lowest-remains}
+use Rattle.answers.proofs.ReduceLoop.{reducing-turn, residue-cell, lowest-remains}
 use Rattle.answers.proofs.AnswerLaws.{unit-cell, cleared}
-use Rattle.columns.specs.Opening.{openCell, FactorReady, FromReady, UnitReady, Cell}
+use Rattle.columns.specs.Opening.{openCell, FromReady, UnitReady, Cell}
 use Rattle.columns.proofs.Kernel.{reduced-kept, δ-small}
 use Rattle.columns.proofs.PivotLaws.{order, pivot-inside}
 

@@ -10,7 +10,7 @@
 --   Cell v r w                the result is v, and the working row is all zero
 --   Columns cells o w         the list o has those cells, and the working row is all zero
 --   AllColumns ..             the list o is `openColumns` of every set with this column order and this U, and the working row is all zero
-use Prim.Native.Nat.{ℕ, _+_, _*_, _≤_, _<_}
+use Prim.Native.Nat.{ℕ, _*_, _≤_, _<_}
 use mathlib.Core.Path.{_≡_}
 use mathlib.Core.Bool.{true, cond}
 use mathlib.Core.List.{List}

@@ -1,13 +1,9 @@
 // All open columns, from the last row of U up.
-ghost use mathlib.Core.Path.{_≡_};
-ghost use mathlib.Core.List.{List};
-ghost use Prim.Native.Nat.{ℕ};
 ghost use lib.ListN.{length, getD};
-ghost use Rattle.lists.specs.Filled.{zeros};
 ghost use Rattle.lists.specs.Tabulate.{tabulate};
 ghost use Rattle.algebra.specs.Matrix.{vector};
 ghost use Rattle.sparse.specs.Words.{view};
-ghost use Rattle.sparse.specs.Matrix.{Compressed, viewed, matrix};
+ghost use Rattle.sparse.specs.Matrix.{viewed, matrix};
 ghost use Rattle.columns.specs.Opening.{openCell, PivotReady, Cell, PivotsReady, Columns, ColumnsReady, AllColumns};
 use crate::count::row_closed;
 use crate::unit::unit_open;

@@ -1,5 +1,4 @@
 // The unit question of a pivot column, answered by reduction.
-ghost use mathlib.Core.Path.{_≡_};
 ghost use lib.ListN.{length, getD};
 ghost use Rattle.algebra.specs.Matrix.{Vector, vector};
 ghost use Rattle.sparse.specs.Words.{view};

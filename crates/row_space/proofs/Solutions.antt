@@ -7,19 +7,17 @@ use Prim.Native.Nat.{ℕ, _≤_, _<_}
 use native.Mathlib.Decide.{ℕ-discrete, decLt}
 use native.Mathlib.Omega.{arith}
 use lib.Dec.{eqb, leb}
-use lib.ListN.{length, getD, replicate}
 use borrow.Author.Tests.{eqb-true, eqb-false, leb-true, leb-false}
 use Rattle.lists.specs.Filled.{zeros}
 use Rattle.lists.specs.Tabulate.{tabulate}
-use Rattle.lists.specs.Tests.{first}
 use Rattle.lists.proofs.Filled.{zeros-replicate}
 use Rattle.lists.proofs.Tabulate.{length-tabulate, tabulate-at}
 use Rattle.lists.proofs.Tests.{first-before, first-here}
-use Rattle.algebra.specs.Sum.{dot, δ, place}
+use Rattle.algebra.specs.Sum.{δ, place}
 use Rattle.algebra.specs.Prime.{Prime}
 use Rattle.algebra.specs.Matrix.{Vector, Matrix, Distinct, vector}
 use Rattle.algebra.specs.RowSpace.{Combines, InKernel}
-use Rattle.algebra.specs.Reduction.{reduced, AllZero, Lowest}
+use Rattle.algebra.specs.Reduction.{AllZero, Lowest}
 use Rattle.algebra.specs.Answer.{OpenAnswer, ClosedAnswer, AnswerOpen, AnswerClosed, Answer}
 use Rattle.algebra.proofs.Congruence.{exact, turn, _⊙_}
 use Rattle.algebra.proofs.Dot.{dot-eq, dot-left, dot-comm, dot-place, place-at, place-off, δ-same, δ-other}
@@ -33,7 +31,7 @@ use Rattle.sparse.specs.Set.{Set}
 use Rattle.sparse.proofs.Rows.{form-below}
 use Rattle.pluq.specs.Judge.{Passes}
 use Rattle.row_space.specs.Substitution.{backL, backU}
-use Rattle.row_space.specs.Solve.{remainder, coefficients, lowest, isOpen, Solved, opened, closed, solve}
+use Rattle.row_space.specs.Solve.{remainder, coefficients, lowest, isOpen, opened, closed, solve}
 use Rattle.row_space.specs.declared.Verdict.{Verdict}
 use Rattle.row_space.specs.declared.Verdict.the-variants.{Open, Closed}
 use Rattle.row_space.proofs.Substitutions.{backL-small, backL-solves, backU-kept, backU-small, backU-right}

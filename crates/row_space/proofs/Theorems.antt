@@ -15,9 +15,8 @@
 --   open-determined         open: two settings that give the same slots give y the same value
 --   closed-undetermined     closed: for every setting and every value some setting gives the same slots and gives y that value
 --   same-verdict            two sets that pass give y the same verdict
-use mathlib.Core.Path.{_≡_, refl, sym, ap, subst, _∙_}
+use mathlib.Core.Path.{_≡_, refl, sym, subst, _∙_}
 use mathlib.Core.Logic.{_↔_}
-use mathlib.Core.Bool.{Bool, true, false}
 use mathlib.Core.List.{List}
 use Prim.Native.Nat.{ℕ, _<_}
 use native.Mathlib.Omega.{arith}
@@ -29,7 +28,7 @@ use Rattle.lists.proofs.Filled.{zeros-replicate}
 use Rattle.algebra.specs.Congruence.{_≈⟨_⟩_}
 use Rattle.algebra.specs.Sum.{dot}
 use Rattle.algebra.specs.Prime.{Prime}
-use Rattle.algebra.specs.Matrix.{Vector, Matrix, vector}
+use Rattle.algebra.specs.Matrix.{vector}
 use Rattle.algebra.specs.Rank.{Rank}
 use Rattle.algebra.specs.RowSpace.{InRowSpace}
 use Rattle.algebra.specs.Factors.{Factors}

@@ -1,5 +1,4 @@
 // x by substitution through L, from its last pivot row up.
-ghost use mathlib.Core.Path.{_≡_};
 ghost use lib.ListN.{length};
 ghost use Rattle.lists.specs.Tabulate.{tabulate};
 ghost use Rattle.algebra.specs.Sum.{place};

@@ -1,5 +1,5 @@
 -- `open_pivots` meets its contract; the loop's invariant is `Opening`: the pivot columns of the rows from k on have their verdicts. Assumes nothing.
-use Prim.Native.Nat.{ℕ, _+_, _-_, _<_}
+use Prim.Native.Nat.{ℕ, _-_, _<_}
 use mathlib.Core.Path.{_≡_, ap, _∙_}
 use mathlib.Core.List.{List}
 use native.Mathlib.Omega.{arith}

@@ -1,5 +1,5 @@
 -- `reduce_from` meets its contract; the loop's invariant is `Passing`: rows k to i - 1 are taken away. Assumes nothing.
-use Prim.Native.Nat.{ℕ, _+_, _-_, _<_}
+use Prim.Native.Nat.{_-_, _<_}
 use mathlib.Core.Path.{_≡_, _∙_}
 use native.Mathlib.Omega.{arith}
 use lib.ListN.{length, getD}

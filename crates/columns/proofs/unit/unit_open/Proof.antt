@@ -1,5 +1,4 @@
 -- `unit_open` meets its contract: the rows before row k leave the unit question as it is. Assumes nothing.
-use Prim.Native.Nat.{ℕ, _<_}
 use mathlib.Core.Path.{_≡_, ap, _∙_}
 use native.Mathlib.Omega.{arith}
 use lib.ListN.{length, getD, length-set}

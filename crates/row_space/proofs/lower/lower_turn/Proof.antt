@@ -1,11 +1,10 @@
 -- `lower_turn` meets its contract: the last entry of row k is the diagonal entry. Assumes nothing.
-use Prim.Native.Nat.{ℕ, _+_, _-_, _*_, _%_, _≤_, _<_}
+use Prim.Native.Nat.{ℕ, _-_, _*_, _%_, _≤_, _<_}
 use mathlib.Core.Path.{_≡_, ap, _∙_}
 use native.Mathlib.Omega.{arith}
 use lib.ListN.{length, getD}
 use borrow.Author.Needs.{needs}
 use Rattle.residue.specs.Inverse.{invMod}
-use Rattle.sparse.specs.Words.{view}
 use Rattle.sparse.specs.Matrix.{Compressed, viewed, matrix}
 use Rattle.sparse.proofs.Entries.{values-at}
 use Rattle.sparse.proofs.Rows.{form-paired, form-values}

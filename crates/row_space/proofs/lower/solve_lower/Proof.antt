@@ -1,5 +1,5 @@
 -- `solve_lower` meets its contract; the loop's invariant is `Lowering`: the rows from k on have their values in x. Assumes nothing.
-use Prim.Native.Nat.{ℕ, _+_, _-_, _*_, _%_, _≤_, _<_}
+use Prim.Native.Nat.{ℕ, _-_, _<_}
 use mathlib.Core.Path.{_≡_, sym, ap, _∙_}
 use mathlib.Core.List.{List}
 use native.Mathlib.Omega.{arith}
@@ -9,7 +9,7 @@ use Rattle.lists.specs.Filled.{zeros}
 use Rattle.lists.proofs.Filled.{length-zeros}
 use Rattle.algebra.specs.Matrix.{vector}
 use Rattle.sparse.specs.Words.{view}
-use Rattle.sparse.specs.Matrix.{Compressed, viewed, matrix}
+use Rattle.sparse.specs.Matrix.{viewed, matrix}
 use Rattle.row_space.proofs.LowerLoop.{Lowering, lowering-starts, lowering-next, lowering-ends, place-below}
 use Rattle.row_space.proofs.lower.solve_lower.Statement.{statement}
 use Rattle.row_space.proofs.lower.solve_lower.Tie as tie

@@ -1,5 +1,5 @@
 -- `solve_upper` meets its contract; the loop's invariant is `Filling`: the pivot cells of the rows from k on are filled. Assumes nothing.
-use Prim.Native.Nat.{ℕ, _+_, _-_, _<_}
+use Prim.Native.Nat.{ℕ, _-_, _<_}
 use mathlib.Core.Path.{_≡_, _∙_}
 use mathlib.Core.List.{List}
 use native.Mathlib.Omega.{arith}
