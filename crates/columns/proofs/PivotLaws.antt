@@ -17,8 +17,8 @@ use Rattle.sparse.proofs.Entries.{weigh-dot, row-columns}
 use Rattle.sparse.proofs.Rows.{form-row}
 use Rattle.pluq.proofs.Orders.{permutation-means}
 use Rattle.pluq.proofs.Shapes.{Upper, upper-means}
-use Rattle.columns.specs.Counting.{closedOthers, RowReady}
-use Rattle.columns.specs.Opening.{openCell, FactorReady, Known, PivotReady, Cell}
+use Rattle.columns.specs.Counting.{closedOthers, CountReady}
+use Rattle.columns.specs.Opening.{openCell, FactorReady, Known, PivotReady, PivotCell}
 use Rattle.columns.proofs.Kernel.{open-vanishes, vanishes-open, closed-differs, differs-closed}
 use Rattle.columns.proofs.CountLaws.{ZeroAtOpen, count-none, count-one}
 
@@ -79,15 +79,15 @@ module _ (p r : ℕ) (U : Compressed) (C : List ℕ) (m : ℕ) (f : FactorReady 
 
 -- the same, as `pivot_open` meets them
 module _ (p k r : ℕ) (U : Compressed) (C o w : List ℕ) (d : PivotReady p k r U C o w) where
-  pub count-ready : RowReady p k U o
+  pub count-ready : CountReady p k U o
   count-ready = record { formed = rw (d .long) (d .unit .factor .formed); inside = omega (arith, d .unit .inside, d .unit .factor .rows) }
 
   module _ (c v : ℕ) (ec : c ≡ getD C k 0) (ev : v ≡ closedOthers c o (rowOf (U .starts) k (U .cols))) where
     counted : closedOthers (getD C k 0) o (rowOf (U .starts) k (U .cols)) ≡ v
     counted = sym (ev ∙ ap (λ (i : ℕ). closedOthers i o (rowOf (U .starts) k (U .cols))) ec)
 
-    pub pivot-opened : v ≡ 0 → Cell (openCell p (length w) (vector C) (matrix U) r (getD C k 0)) 1 w
+    pub pivot-opened : v ≡ 0 → PivotCell (openCell p (length w) (vector C) (matrix U) r (getD C k 0)) 1 w
     pivot-opened e = record { value = sym (pivot-none p r U C (length w) (d .unit .factor) k (d .unit .inside) o (d .long) (d .known) (counted ∙ e)); row = d .unit .clear }
 
-    pub pivot-closed : v ≡ 1 → Cell (openCell p (length w) (vector C) (matrix U) r (getD C k 0)) 0 w
+    pub pivot-closed : v ≡ 1 → PivotCell (openCell p (length w) (vector C) (matrix U) r (getD C k 0)) 0 w
     pivot-closed e = record { value = sym (pivot-one p r U C (length w) (d .unit .factor) k (d .unit .inside) o (d .long) (d .known) (counted ∙ e)); row = d .unit .clear }
