@@ -1,37 +1,31 @@
 -- What the answer's parts come to: `solve` in its two cases, and a set that passed is ready to answer.
-use mathlib.Core.Path.{_≡_, refl, sym, ap, _∙_}
-use mathlib.Core.Bool.{Bool, true, false, cond}
+use mathlib.Core.Path.{_≡_, sym, ap, _∙_}
+use mathlib.Core.Bool.{Bool, cond}
 use mathlib.Core.List.{List, _++_}
 use Prim.Native.Nat.{ℕ, _+_, _*_, _%_, _≤_, _<_}
 use native.Mathlib.Decide.{ℕ-discrete}
 use native.Mathlib.Omega.{arith}
-use lib.Dec.{leb, eqb}
 use lib.ListN.{length, getD, set, take, drop, length-set, take-append-drop}
 use lib.Seq.{ext-getD, length-take-le, take-all, getD-take, getD-set-same, getD-set-other}
 use borrow.Author.Tests.{le-leb, lt-leb}
 use Rattle.lists.specs.Filled.{zeros}
 use Rattle.lists.specs.Tabulate.{tabulate}
-use Rattle.lists.specs.Tests.{first}
-use Rattle.lists.specs.declared.Outcome.the-variants.{Passed}
 use Rattle.lists.proofs.Filled.{zeros-at, length-zeros}
 use Rattle.lists.proofs.Tabulate.{tabulate-ext}
 use Rattle.algebra.specs.Sum.{δ, place}
-use Rattle.algebra.specs.Prime.{Prime}
 use Rattle.algebra.specs.Matrix.{Vector, Matrix, vector}
 use Rattle.algebra.specs.Reduction.{reduced}
 use Rattle.algebra.proofs.Dot.{δ-same, δ-other}
 use Rattle.sparse.specs.Row.{Below}
 use Rattle.sparse.specs.Matrix.{Compressed, matrix}
 use Rattle.sparse.specs.Set.{Set}
-use Rattle.pluq.specs.Order.{permutation}
-use Rattle.pluq.specs.Judge.{judge, judgeFactors}
 use Rattle.row_space.specs.Substitution.{backL, backU}
 use Rattle.row_space.specs.Solve.{coefficients, lowest, opened, closed, solve}
 use Rattle.row_space.specs.Ready.{residues, LowerOrder, UpperReady}
 use Rattle.row_space.proofs.LowerLoop.{backL-ext}
 use Rattle.row_space.proofs.UpperLoop.{backU-ext}
 use Rattle.answers.specs.Reducing.{MultiplesReady, Reduced, lowestOf, QuestionReady, QuestionReduced}
-use Rattle.answers.specs.Answering.{OpenReady, ClosedReady, SetReady, AnswerReady, Answered}
+use Rattle.answers.specs.Answering.{OpenReady, ClosedReady}
 use Rattle.answers.proofs.ReduceLoop.{residue-cell, lowest-remains}
 
 -- ---- x and z depend on the cells that are read only

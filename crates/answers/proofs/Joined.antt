@@ -1,28 +1,27 @@
 -- The parts of `answer` joined: each is ready where it is called, and what they leave is what `solve` gives.
 use mathlib.Core.Path.{_≡_, refl, sym, ap, _∙_}
-use mathlib.Core.Bool.{true}
 use mathlib.Core.List.{List, _++_}
 use Prim.Native.Nat.{ℕ, _+_, _%_, _≤_, _<_}
-use native.Mathlib.Nat.{mod-eq-of-lt, mod-lt}
+use native.Mathlib.Nat.{mod-eq-of-lt}
 use native.Mathlib.Omega.{arith}
-use lib.ListN.{length, getD, take, drop}
+use lib.ListN.{length, take, drop}
 use lib.Seq.{length-take-le}
 use Rattle.lists.specs.Filled.{zeros}
 use Rattle.lists.specs.Tabulate.{tabulate}
 use Rattle.algebra.specs.Sum.{δ, place}
-use Rattle.algebra.specs.Matrix.{Vector, Matrix, Distinct, vector}
+use Rattle.algebra.specs.Matrix.{vector}
 use Rattle.algebra.specs.Reduction.{reduced}
 use Rattle.algebra.proofs.Reduction.{reduced-small}
 use Rattle.sparse.specs.Row.{Below}
-use Rattle.sparse.specs.Matrix.{Compressed, matrix, form}
+use Rattle.sparse.specs.Matrix.{matrix}
 use Rattle.sparse.specs.Set.{Set}
 use Rattle.pluq.proofs.Orders.{permutation-means}
 use Rattle.row_space.specs.Substitution.{backL, backU}
-use Rattle.row_space.specs.Solve.{coefficients, opened, closed, solve}
+use Rattle.row_space.specs.Solve.{coefficients, solve}
 use Rattle.row_space.specs.Ready.{residues}
 use Rattle.row_space.specs.declared.Verdict.the-variants.{Open, Closed}
 use Rattle.answers.specs.Reducing.{lowestOf, QuestionReady, QuestionReduced}
-use Rattle.answers.specs.Answering.{OpenReady, Opened, ClosedReady, ClosedAs, SetReady, AnswerReady, Answered}
+use Rattle.answers.specs.Answering.{OpenReady, Opened, ClosedReady, ClosedAs, AnswerReady, Answered}
 use Rattle.answers.proofs.AnswerLaws.{x-ext, solve-is-open, solve-is-closed, cleared, restored}
 
 module _ (p : ℕ) (s : Set) (y x₀ z₀ w₀ : List ℕ) (d : AnswerReady p s y x₀ z₀ w₀) where

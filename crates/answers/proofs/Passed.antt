@@ -1,19 +1,26 @@
--- A set that the judge passed is ready to answer questions.
-use mathlib.Core.Path.{_≡_}
-use mathlib.Core.Bool.{true}
-use Prim.Native.Nat.{ℕ, _+_}
-use lib.Dec.{leb}
-use lib.ListN.{length}
-use borrow.Author.Tests.{leb-true}
+-- A set that the judge passed is ready to answer questions, and a question that passed its test has residues.
+use mathlib.Core.Path.{_≡_, refl}
+use mathlib.Core.Bool.{Bool, true, false}
+use mathlib.Core.List.{List}
+use Prim.Native.Nat.{ℕ, _+_, _<_}
+use native.Mathlib.Omega.{arith}
+use lib.Dec.{leb, ltb}
+use lib.ListN.{length, getD}
+use borrow.Author.Tests.{leb-true, ltb-true}
+use Rattle.lists.specs.Tests.{first}
+use Rattle.lists.specs.Refusals.{unless}
 use Rattle.lists.specs.declared.Outcome.the-variants.{Passed}
+use Rattle.lists.proofs.Tests.{first-before}
 use Rattle.algebra.specs.Prime.{Prime}
 use Rattle.algebra.specs.Matrix.{vector}
+use Rattle.sparse.specs.Row.{Below}
 use Rattle.sparse.specs.Matrix.{Compressed, matrix, form}
 use Rattle.sparse.specs.Set.{Set}
 use Rattle.pluq.specs.Order.{permutation}
 use Rattle.pluq.specs.Shape.{lower, upper}
 use Rattle.pluq.specs.Judge.{judge, judgeFactors}
 use Rattle.pluq.proofs.Judged.{unless-passed}
+use Rattle.row_space.specs.Question.{questionOutcome}
 use Rattle.answers.specs.Answering.{SetReady}
 
 pub passed-ready : (p n m : ℕ) (A : Compressed) (s : Set) → Prime p
@@ -44,3 +51,14 @@ passed-ready p n m A s prime long-R long-C long-L long-U h₁ =
       L-shape = low;
       U-shape = up;
     }
+
+pub question-passed : (p : ℕ) (y : List ℕ) → questionOutcome p y ≡ Passed → Below p y
+unfolding questionOutcome
+question-passed p y h i g = go (leb (length y) f) refl h
+  where
+    f : ℕ
+    f = first (length y) (λ j. ltb (getD y j 0) p)
+
+    go : (b : Bool) → leb (length y) f ≡ b → unless b 15 f ≡ Passed → getD y i 0 < p
+    go true e q = ltb-true (getD y i 0) p (first-before (length y) (λ j. ltb (getD y j 0) p) i (omega (arith, leb-true (length y) f e)))
+    go false e q = absurd (let z : _≡_ {A = ℕ} 0 1 = cc in omega arith)

@@ -1,7 +1,7 @@
 -- The loops that reduce the working row by the rows of U.
 use mathlib.Core.Path.{_≡_, refl, sym, ap, _∙_}
 use mathlib.Core.List.{List}
-use Prim.Native.Nat.{ℕ, suc, _+_, _-_, _*_, _%_, _≤_, _<_}
+use Prim.Native.Nat.{ℕ, _+_, _-_, _*_, _%_, _≤_, _<_}
 use native.Mathlib.Nat.{mod-lt, mod-eq-of-lt, mul-le-mul-left}
 use native.Mathlib.Numerals.{add-one}
 use native.Mathlib.Omega.{arith}
@@ -17,7 +17,7 @@ use Rattle.sparse.specs.WorkingRow.{Subtracted}
 use Rattle.sparse.proofs.Subtraction.{subtracted-none, subtracted-ext}
 use Rattle.row_space.specs.Ready.{residues}
 use Rattle.row_space.proofs.LowerLoop.{subtracted-less}
-use Rattle.answers.specs.Reducing.{Turn, Remains, Multiples, Reduced, lowestOf}
+use Rattle.answers.specs.Reducing.{Eliminated, Remains, Multiples, Reduced, lowestOf}
 use Rattle.answers.proofs.Loops.{first-ext}
 
 -- a residue is a cell
@@ -25,8 +25,8 @@ pub residue-cell : (p x : ℕ) → x < p → x < p * p
 residue-cell p x h = omega (arith, mul-le-mul-left {m = 1} {n = p} p (omega arith))
 
 -- a multiple of 0 may be left out
-pub turn-none : (p : ℕ) (U : Compressed) (k c : ℕ) (w : List ℕ) (v : ℕ) → Below (p * p) w → v ≡ getD w c 0 % p → v ≡ 0 → Turn p U k c w w v
-turn-none p U k c w v below e z =
+pub eliminated-none : (p : ℕ) (U : Compressed) (k c : ℕ) (w : List ℕ) (v : ℕ) → Below (p * p) w → v ≡ getD w c 0 % p → v ≡ 0 → Eliminated p U k c w w v
+eliminated-none p U k c w v below e z =
     record { value = e; taken = subtracted-ext p (λ j. 0) (λ j. v * matrix U k j) w w (λ j. omega (arith, ap (λ (x : ℕ). x * matrix U k j) z)) (subtracted-none p w below) }
 
 -- ---- the working row stands for y reduced by the first k rows
@@ -72,7 +72,7 @@ collecting-starts p r C U a w h =
     }
 
 pub collecting-turn : (p r : ℕ) (C : Vector) (U : Compressed) (a₀ a w₀ w w′ : List ℕ) (k c v : ℕ) → 0 < p → k < r → r ≤ length a₀ → c ≡ C k → c < length w
-    → Turn p U k c w w′ v → Collecting p r C (matrix U) a₀ a w₀ w k → Collecting p r C (matrix U) a₀ (set a k v) w₀ w′ (k + 1)
+    → Eliminated p U k c w w′ v → Collecting p r C (matrix U) a₀ a w₀ w k → Collecting p r C (matrix U) a₀ (set a k v) w₀ w′ (k + 1)
 collecting-turn p r C U a₀ a w₀ w w′ k c v pos h room ec hc t s =
     record {
       row = reducing-turn p r C (matrix U) (vector w₀) w₀ w w′ k c v pos h ec hc (t .value) (t .taken) (s .row);

@@ -1,14 +1,14 @@
 -- The reduction of a question by U in the working row: what it needs and what it leaves.
---   TurnReady p k c U w        row k of U, with a column for each cell of w, can be taken away so that column c is cleared
---   Turn p U k c w₀ w v        v is the residue at column c of w₀, and w is w₀ with v times row k of U taken away
---   ReduceReady p r U C w      the first r rows of U have their pivot columns in C, and w has residues
---   MultiplesReady ..          the same, and the list a has room for r numbers
---   Remains p C U k y w        w stands for y reduced by the first k rows of U
---   Multiples p C U k y a      the first k cells of the list a are the multiples of U's rows that were taken away from y
---   Reduced p C U r y a w      both, for all r rows
---   lowestOf m v               the lowest-numbered place below m at which v is not 0; m where there is none
---   QuestionReady ..           what the reduction of a question y needs; the multiples go to the list a
---   QuestionReduced ..         the lowest place of y's remainder, the multiples in a, and the working row all zero
+--   EliminationReady p k c U w    row k of U, with a column for each cell of w, can be taken away so that column c is cleared
+--   Eliminated p U k c w₀ w v     v is the residue at column c of w₀, and w is w₀ with v times row k of U taken away
+--   ReduceReady p r U C w         the first r rows of U have their pivot columns in C, and w has residues
+--   MultiplesReady ..             the same, and the list a has room for r numbers
+--   Remains p C U k y w           w stands for y reduced by the first k rows of U
+--   Multiples p C U k y a         the first k cells of the list a are the multiples of U's rows that were taken away from y
+--   Reduced p C U r y a w         both, for all r rows
+--   lowestOf m v                  the lowest-numbered place below m at which v is not 0; m where there is none
+--   QuestionReady ..              what the reduction of a question y needs; the multiples go to the list a
+--   QuestionReduced ..            the lowest place of y's remainder, the multiples in a, and the working row all zero
 use Prim.Native.Nat.{ℕ, _+_, _*_, _%_, _≤_, _<_}
 use mathlib.Core.Path.{_≡_}
 use mathlib.Core.Bool.{true}
@@ -17,20 +17,20 @@ use lib.Dec.{eqb}
 use lib.ListN.{length, getD}
 use Rattle.lists.specs.Filled.{zeros}
 use Rattle.lists.specs.Tests.{first}
-use Rattle.algebra.specs.Matrix.{Vector, Matrix, vector}
+use Rattle.algebra.specs.Matrix.{Vector, Matrix}
 use Rattle.algebra.specs.Reduction.{reduced}
 use Rattle.sparse.specs.Row.{Below}
 use Rattle.sparse.specs.Matrix.{Compressed, matrix, form}
 use Rattle.sparse.specs.WorkingRow.{Subtracted}
 
-pub record TurnReady (p k c : ℕ) (U : Compressed) (w : List ℕ) : Type 0 where
+pub record EliminationReady (p k c : ℕ) (U : Compressed) (w : List ℕ) : Type 0 where
   pub positive : 0 < p
   pub formed : form p (length w) U ≡ true
   pub inside : k + 1 < length (U .starts)
   pub column : c < length w
   pub below : Below (p * p) w
 
-pub record Turn (p : ℕ) (U : Compressed) (k c : ℕ) (w₀ w : List ℕ) (v : ℕ) : Type 0 where
+pub record Eliminated (p : ℕ) (U : Compressed) (k c : ℕ) (w₀ w : List ℕ) (v : ℕ) : Type 0 where
   pub value : v ≡ getD w₀ c 0 % p
   pub taken : Subtracted p (λ j. v * matrix U k j) w₀ w
 

@@ -1,5 +1,4 @@
 // The answer to a question from a set that passed, in place in the lent lists x and z.
-ghost use mathlib.Core.Path.{_≡_};
 ghost use lib.ListN.{length};
 ghost use Rattle.lists.specs.Tabulate.{tabulate};
 ghost use Rattle.algebra.specs.Sum.{δ, place};
@@ -38,9 +37,9 @@ pub fn open_answer(
     ensures { λ _. ⌜ Opened (tabulate (length (now (x .entry))) (place (length (now (work .entry))) (vector (view (now (ro .entry)) (now (rob .entry)))) (backL (q .p) (matrix (viewed (now (ls .entry)) (now (lsb .entry)) (now (lc .entry)) (now (lcb .entry)) (now (lv .entry)) (now (lvb .entry)))) (length (now (work .entry))) (residues (q .p) (now (z .entry)))))) (now (x .exit)) (now (z .exit)) (now (work .exit)) ⌝ }
 {
     load(z, work);
-    clear(z);
     clear(x);
     solve_lower(q, ls, lsb, lc, lcb, lv, lvb, ro, rob, x, work);
+    clear(z); // the multiples are not needed any more
 }
 
 // Closed: z from its one at the column j.

@@ -6,7 +6,7 @@ ghost use lib.ListN.{length, getD, take};
 ghost use Rattle.algebra.specs.Matrix.{vector};
 ghost use Rattle.sparse.specs.Words.{view};
 ghost use Rattle.sparse.specs.Matrix.{viewed, matrix};
-ghost use Rattle.answers.specs.Reducing.{TurnReady, Turn, MultiplesReady, Reduced, lowestOf, QuestionReady, QuestionReduced};
+ghost use Rattle.answers.specs.Reducing.{EliminationReady, Eliminated, MultiplesReady, Reduced, lowestOf, QuestionReady, QuestionReduced};
 use lists::clear_row;
 use lists::index;
 use residue::Modulus;
@@ -26,7 +26,7 @@ pub fn load(list: &[u32], work: &mut [u64])
 }
 
 // Takes row k of U away so often that column c becomes 0; returns how often. A multiple of 0 is left out.
-pub fn reduce_turn(
+pub fn reduce_by_row(
     q: Modulus,
     us: &[u32],
     usb: &[u8],
@@ -38,8 +38,8 @@ pub fn reduce_turn(
     c: usize,
     work: &mut [u64],
 ) -> u32
-    requires { ⌜ TurnReady (q .p) k c (viewed (now us) (now usb) (now uc) (now ucb) (now uv) (now uvb)) (now work) ⌝ }
-    ensures { λ v. ⌜ Turn (q .p) (viewed (now (us .entry)) (now (usb .entry)) (now (uc .entry)) (now (ucb .entry)) (now (uv .entry)) (now (uvb .entry))) k c (now (work .entry)) (now (work .exit)) v ⌝ }
+    requires { ⌜ EliminationReady (q .p) k c (viewed (now us) (now usb) (now uc) (now ucb) (now uv) (now uvb)) (now work) ⌝ }
+    ensures { λ v. ⌜ Eliminated (q .p) (viewed (now (us .entry)) (now (usb .entry)) (now (uc .entry)) (now (ucb .entry)) (now (uv .entry)) (now (uvb .entry))) k c (now (work .entry)) (now (work .exit)) v ⌝ }
 {
     let v = q.reduce(work[c]);
     if v == 0 {
@@ -70,7 +70,7 @@ pub fn reduce(
     let mut k = 0;
     while k < r {
         let c = index(word(co, cob, k));
-        multiples[k] = reduce_turn(q, us, usb, uc, ucb, uv, uvb, k, c, work);
+        multiples[k] = reduce_by_row(q, us, usb, uc, ucb, uv, uvb, k, c, work);
         k += 1;
     }
 }

@@ -1,10 +1,9 @@
 -- What the number of closed columns beside a row's pivot column says of that column.
 use mathlib.Core.Path.{_≡_, refl, sym, ap, _∙_}
-use mathlib.Core.Logic.{_≢_, _⊎_, inl, inr}
+use mathlib.Core.Logic.{_≢_}
 use mathlib.Core.Bool.{Bool, true, false, cond, _&&_}
 use mathlib.Core.List.{List, [], _∷_}
-use Prim.Native.Nat.{ℕ, zero, suc, _+_, _*_, _≤_, _<_}
-use native.Mathlib.Nat.{mod-eq-of-lt, zero-mod}
+use Prim.Native.Nat.{ℕ, suc, _+_, _*_, _≤_, _<_}
 use native.Mathlib.Omega.{arith}
 use lib.Dec.{eqb, ltb}
 use lib.ListN.{length, getD, drop}
@@ -12,9 +11,9 @@ use borrow.Author.Tests.{eqb-true, eqb-false, eq-eqb, ne-eqb, ltb-true}
 use Rattle.lists.proofs.Bools.{and-left, and-right}
 use Rattle.lists.proofs.Steps.{drop-step, drop-end}
 use Rattle.algebra.specs.Congruence.{_≈⟨_⟩_}
-use Rattle.algebra.specs.Sum.{dot, δ}
+use Rattle.algebra.specs.Sum.{δ}
 use Rattle.algebra.specs.Matrix.{Vector}
-use Rattle.algebra.proofs.Congruence.{exact, turn, _⊙_, _⊕_, _⊗_, same-refl}
+use Rattle.algebra.proofs.Congruence.{exact, _⊙_, _⊕_, _⊗_, same-refl}
 use Rattle.algebra.proofs.Dot.{δ-same, δ-other}
 use Rattle.sparse.specs.Form.{values}
 use Rattle.sparse.specs.Row.{weigh, entry}

@@ -1,28 +1,26 @@
 -- A column is open exactly if every vector that U takes to 0 is 0 there.
 use mathlib.Core.Path.{_≡_, refl, sym, ap, _∙_}
-use mathlib.Core.Logic.{_≢_, _⊎_, inl, inr}
-use mathlib.Core.Bool.{Bool, true, false, cond}
-use mathlib.Core.List.{List}
+use mathlib.Core.Logic.{_⊎_, inl, inr}
+use mathlib.Core.Bool.{Bool, cond}
 use Prim.Native.Nat.{ℕ, zero, suc, _+_, _-_, _*_, _%_, _≤_, _<_}
 use native.Mathlib.Nat.{mod-eq-of-lt, add-mul-mod-self-left}
-use native.Mathlib.Decide.{ℕ-discrete}
 use native.Mathlib.Omega.{arith}
 use lib.Dec.{eqb, leb}
-use borrow.Author.Tests.{eqb-true, eqb-false, leb-true, leb-false, le-leb, lt-leb, eq-eqb}
+use borrow.Author.Tests.{le-leb, lt-leb}
 use Rattle.lists.specs.Tests.{first}
-use Rattle.lists.proofs.Tests.{first-all, first-before, first-here}
 use Rattle.algebra.specs.Congruence.{_≈⟨_⟩_}
-use Rattle.algebra.specs.Sum.{dot, δ}
+use Rattle.algebra.specs.Sum.{δ}
 use Rattle.algebra.specs.Prime.{Prime}
 use Rattle.algebra.specs.Matrix.{Vector, Matrix, Permutation}
 use Rattle.algebra.specs.RowSpace.{InRowSpace, InKernel}
 use Rattle.algebra.specs.Factors.{Factors}
 use Rattle.algebra.specs.Reduction.{reduced, AllZero, Lowest}
-use Rattle.algebra.proofs.Congruence.{exact, turn, _⊙_}
+use Rattle.algebra.proofs.Congruence.{exact, _⊙_}
 use Rattle.algebra.proofs.Inverse.{one-not-zero}
 use Rattle.algebra.proofs.Dot.{dot-δ, δ-same, δ-other}
-use Rattle.algebra.proofs.Finite.{lowest}
 use Rattle.algebra.proofs.Verdict.{not-both, verdict, closed-answer}
+use Rattle.row_space.proofs.Substitutions.{δ-small}
+use Rattle.row_space.proofs.Solutions.{lowest-cases}
 use Rattle.answers.specs.Reducing.{lowestOf}
 use Rattle.columns.specs.Opening.{openCell}
 
@@ -38,9 +36,6 @@ reduced-kept p m C U y (suc k) off small j h =
     ∙ ap (λ (x : ℕ). (y j + x * U k j) % p) (let q : p - 0 ≡ p = omega arith in q)
     ∙ add-mul-mod-self-left (y j) p (U k j)
     ∙ mod-eq-of-lt (small j h)
-
-pub δ-small : (p : ℕ) → 2 ≤ p → (j t : ℕ) → δ j t < p
-δ-small p two j t = elim (ℕ-discrete j t) [ yes e ↦ omega (arith, ap (δ j) (sym e) ∙ δ-same j) | no e ↦ omega (arith, δ-other j t e) ]
 
 -- U as its own product: the rows of U are their own pivot rows
 module _ {p : ℕ} (prime : Prime p) (m r : ℕ) (C : Vector) (U : Matrix) (columns : Permutation m C) (rank : r ≤ m)
@@ -85,8 +80,8 @@ module _ {p : ℕ} (prime : Prime p) (m r : ℕ) (C : Vector) (U : Matrix) (colu
   Cases j = ((cell j ≡ 1) × AllZero m (reduced p C U r (δ j))) ⊎ ((cell j ≡ 0) × ((l : ℕ) × Lowest m (reduced p C U r (δ j)) l))
 
   cases : (j : ℕ) → Cases j
-  unfolding openCell lowestOf AllZero
-  cases j = go (lowest m w)
+  unfolding openCell lowestOf
+  cases j = go (lowest-cases m w)
     where
       w : Vector
       w = reduced p C U r (δ j)
@@ -97,13 +92,9 @@ module _ {p : ℕ} (prime : Prime p) (m r : ℕ) (C : Vector) (U : Matrix) (colu
       mark : Bool → ℕ
       mark b = cond b 1 0
 
-      shut : (l : ℕ) → Lowest m w l → (b : Bool) → leb m f ≡ b → mark b ≡ 0
-      shut l low true e = absurd (low .here (eqb-true (w l) 0 (first-before m (λ i. eqb (w i) 0) l (omega (arith, leb-true m f e, low .within)))))
-      shut l low false e = refl
-
-      go : AllZero m w ⊎ ((l : ℕ) × Lowest m w l) → ((mark (leb m f) ≡ 1) × AllZero m w) ⊎ ((mark (leb m f) ≡ 0) × ((l : ℕ) × Lowest m w l))
-      go (inl none) = inl (ap mark (le-leb m f (omega (arith, first-all m (λ i. eqb (w i) 0) (λ i h. eq-eqb (w i) 0 (none i h))))), none)
-      go (inr (l, low)) = inr (shut l low (leb m f) refl, (l, low))
+      go : ((m ≤ f) × AllZero m w) ⊎ ((f < m) × Lowest m w f) → ((mark (leb m f) ≡ 1) × AllZero m w) ⊎ ((mark (leb m f) ≡ 0) × ((l : ℕ) × Lowest m w l))
+      go (inl (h, none)) = inl (ap mark (le-leb m f h), none)
+      go (inr (h, low)) = inr (ap mark (lt-leb m f h), (f, low))
 
   pub open-vanishes : (j : ℕ) → j < m → (cell j ≡ 0 → ⊥) → Vanishes j
   open-vanishes j h e = go (cases j)

@@ -1,14 +1,13 @@
 -- The pivot column of a row of U, by the number of closed columns beside it: none makes it open, one makes it closed.
-use mathlib.Core.Path.{_≡_, refl, sym, ap, _∙_}
+use mathlib.Core.Path.{_≡_, sym, ap, _∙_}
 use mathlib.Core.Logic.{_≢_}
 use mathlib.Core.List.{List}
-use Prim.Native.Nat.{ℕ, _+_, _*_, _%_, _≤_, _<_}
+use Prim.Native.Nat.{ℕ, _*_, _<_}
 use native.Mathlib.Nat.{mod-eq-of-lt, zero-mod}
 use native.Mathlib.Omega.{arith}
 use lib.ListN.{length, getD}
 use Rattle.algebra.specs.Congruence.{_≈⟨_⟩_}
-use Rattle.algebra.specs.Sum.{dot}
-use Rattle.algebra.specs.Matrix.{Vector, Matrix, Permutation, vector}
+use Rattle.algebra.specs.Matrix.{Vector, Permutation, vector}
 use Rattle.algebra.specs.RowSpace.{InKernel}
 use Rattle.algebra.proofs.Congruence.{exact, turn, _⊙_, _⊕_, _⊗_, same-refl}
 use Rattle.algebra.proofs.Inverse.{no-divisors}
@@ -18,10 +17,10 @@ use Rattle.sparse.proofs.Entries.{weigh-dot, row-columns}
 use Rattle.sparse.proofs.Rows.{form-row}
 use Rattle.pluq.proofs.Orders.{permutation-means}
 use Rattle.pluq.proofs.Shapes.{Upper, upper-means}
-use Rattle.columns.specs.Counting.{closedOthers, RowReady}
-use Rattle.columns.specs.Opening.{openCell, FactorReady, Known, PivotReady, Cell}
+use Rattle.columns.specs.Counting.{closedOthers, CountReady}
+use Rattle.columns.specs.Opening.{openCell, FactorReady, Known, PivotReady, PivotCell}
 use Rattle.columns.proofs.Kernel.{open-vanishes, vanishes-open, closed-differs, differs-closed}
-use Rattle.columns.proofs.CountLaws.{ZeroAtOpen, count-none, One, count-one}
+use Rattle.columns.proofs.CountLaws.{ZeroAtOpen, count-none, count-one}
 
 module _ (p r : ℕ) (U : Compressed) (C : List ℕ) (m : ℕ) (f : FactorReady p r U C m) where
   pub order : Permutation m (vector C)
@@ -80,15 +79,15 @@ module _ (p r : ℕ) (U : Compressed) (C : List ℕ) (m : ℕ) (f : FactorReady 
 
 -- the same, as `pivot_open` meets them
 module _ (p k r : ℕ) (U : Compressed) (C o w : List ℕ) (d : PivotReady p k r U C o w) where
-  pub count-ready : RowReady p k U o
+  pub count-ready : CountReady p k U o
   count-ready = record { formed = rw (d .long) (d .unit .factor .formed); inside = omega (arith, d .unit .inside, d .unit .factor .rows) }
 
   module _ (c v : ℕ) (ec : c ≡ getD C k 0) (ev : v ≡ closedOthers c o (rowOf (U .starts) k (U .cols))) where
     counted : closedOthers (getD C k 0) o (rowOf (U .starts) k (U .cols)) ≡ v
     counted = sym (ev ∙ ap (λ (i : ℕ). closedOthers i o (rowOf (U .starts) k (U .cols))) ec)
 
-    pub pivot-opened : v ≡ 0 → Cell (openCell p (length w) (vector C) (matrix U) r (getD C k 0)) 1 w
+    pub pivot-opened : v ≡ 0 → PivotCell (openCell p (length w) (vector C) (matrix U) r (getD C k 0)) 1 w
     pivot-opened e = record { value = sym (pivot-none p r U C (length w) (d .unit .factor) k (d .unit .inside) o (d .long) (d .known) (counted ∙ e)); row = d .unit .clear }
 
-    pub pivot-closed : v ≡ 1 → Cell (openCell p (length w) (vector C) (matrix U) r (getD C k 0)) 0 w
+    pub pivot-closed : v ≡ 1 → PivotCell (openCell p (length w) (vector C) (matrix U) r (getD C k 0)) 0 w
     pivot-closed e = record { value = sym (pivot-one p r U C (length w) (d .unit .factor) k (d .unit .inside) o (d .long) (d .known) (counted ∙ e)); row = d .unit .clear }

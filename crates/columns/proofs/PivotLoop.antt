@@ -1,22 +1,22 @@
 -- The loop over the pivot columns, from the last row of U up.
 use mathlib.Core.Path.{_≡_, refl, sym, ap, subst, _∙_}
 use mathlib.Core.Logic.{_≢_}
-use mathlib.Core.List.{List, _++_}
-use Prim.Native.Nat.{ℕ, suc, _+_, _-_, _≤_, _<_}
+use mathlib.Core.List.{List}
+use Prim.Native.Nat.{ℕ, suc, _-_, _≤_, _<_}
 use native.Mathlib.Decide.{ℕ-discrete, decLt}
 use native.Mathlib.Omega.{arith}
-use lib.ListN.{length, getD, set, take, drop, length-set}
-use lib.Seq.{getD-set-same, getD-set-other, length-take-le}
+use lib.ListN.{length, getD, set, length-set}
+use lib.Seq.{getD-set-same, getD-set-other}
 use Rattle.lists.specs.Filled.{zeros}
 use Rattle.lists.specs.Tabulate.{tabulate}
 use Rattle.lists.proofs.Filled.{zeros-at, length-zeros}
 use Rattle.lists.proofs.Tabulate.{tabulated}
-use Rattle.algebra.specs.Matrix.{Vector, Matrix, vector}
+use Rattle.algebra.specs.Matrix.{vector}
 use Rattle.algebra.proofs.Finite.{onto}
 use Rattle.sparse.specs.Row.{entry}
 use Rattle.sparse.specs.Matrix.{Compressed, rowOf, matrix}
 use Rattle.sparse.proofs.Entries.{row-columns, values-at, entry-at}
-use Rattle.columns.specs.Opening.{openCell, FactorReady, UnitReady, Known, PivotReady, Cell, PivotsReady}
+use Rattle.columns.specs.Opening.{openCell, FactorReady, Known, PivotReady, PivotCell, PivotsReady}
 use Rattle.columns.proofs.Kernel.{other-closed}
 use Rattle.columns.proofs.PivotLaws.{order, shape, pivot-inside, row-of}
 
@@ -94,7 +94,7 @@ module _ (p r : ℕ) (U : Compressed) (C : List ℕ) (m : ℕ) (f : FactorReady 
           known = opening-known;
         }
 
-    opening-turn : (w′ : List ℕ) (j v : ℕ) → j ≡ getD C k 0 → length w′ ≡ length w → Cell (openCell p (length w) (vector C) (matrix U) r (getD C k 0)) v w′
+    opening-turn : (w′ : List ℕ) (j v : ℕ) → j ≡ getD C k 0 → length w′ ≡ length w → PivotCell (openCell p (length w) (vector C) (matrix U) r (getD C k 0)) v w′
         → Opening p r U C m (set o j v) w′ k
     opening-turn w′ j v ej long a =
         record {
@@ -123,7 +123,7 @@ module _ (p r : ℕ) (U : Compressed) (C : List ℕ) (m : ℕ) (f : FactorReady 
       opening-ready o w (k - 1) (omega (arith, s .inside)) (subst (λ (n : ℕ). Opening p r U C m o w n) (let q : k ≡ suc (k - 1) = omega arith in q) s)
 
   pub opening-next : (o w w′ : List ℕ) (k j v : ℕ) → 0 < k → j ≡ getD C (k - 1) 0 → length w′ ≡ length w
-      → Cell (openCell p (length w) (vector C) (matrix U) r (getD C (k - 1) 0)) v w′ → Opening p r U C m o w k → Opening p r U C m (set o j v) w′ (k - 1)
+      → PivotCell (openCell p (length w) (vector C) (matrix U) r (getD C (k - 1) 0)) v w′ → Opening p r U C m o w k → Opening p r U C m (set o j v) w′ (k - 1)
   opening-next o w w′ k j v h ej long a s =
       opening-turn o w (k - 1) (omega (arith, s .inside)) (subst (λ (n : ℕ). Opening p r U C m o w n) (let q : k ≡ suc (k - 1) = omega arith in q) s) w′ j v ej long a
 

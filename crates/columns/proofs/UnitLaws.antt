@@ -1,15 +1,14 @@
 -- The unit question of a pivot column, reduced by its row and the rows after it.
 use mathlib.Core.Path.{_≡_, refl, sym, ap, _∙_}
-use mathlib.Core.Bool.{Bool, true, false, cond}
+use mathlib.Core.Bool.{Bool, cond}
 use mathlib.Core.List.{List}
 use Prim.Native.Nat.{ℕ, _+_, _*_, _%_, _≤_, _<_}
 use native.Mathlib.Nat.{mod-eq-of-lt}
 use native.Mathlib.Omega.{arith}
-use lib.Dec.{leb}
 use lib.ListN.{length, getD, set, length-set}
 use borrow.Author.Tests.{le-leb, lt-leb}
 use Rattle.lists.specs.Filled.{zeros}
-use Rattle.lists.proofs.Filled.{zeros-at, length-zeros}
+use Rattle.lists.proofs.Filled.{zeros-at}
 use Rattle.algebra.specs.Sum.{δ}
 use Rattle.algebra.specs.Matrix.{Vector, Matrix, vector}
 use Rattle.algebra.specs.Reduction.{reduced}
@@ -18,11 +17,12 @@ use Rattle.sparse.specs.Row.{Below}
 use Rattle.sparse.specs.Matrix.{Compressed, matrix}
 use Rattle.sparse.proofs.Subtraction.{below-set}
 use Rattle.row_space.specs.Ready.{residues}
-use Rattle.answers.specs.Reducing.{Turn, Remains, lowestOf}
-use Rattle.answers.proofs.ReduceLoop.{Reducing, reducing-turn, residue-cell, lowest-remains}
+use Rattle.row_space.proofs.Substitutions.{δ-small}
+use Rattle.answers.specs.Reducing.{Eliminated, Remains, lowestOf}
+use Rattle.answers.proofs.ReduceLoop.{reducing-turn, residue-cell, lowest-remains}
 use Rattle.answers.proofs.AnswerLaws.{unit-cell, cleared}
-use Rattle.columns.specs.Opening.{openCell, FactorReady, FromReady, UnitReady, Cell}
-use Rattle.columns.proofs.Kernel.{reduced-kept, δ-small}
+use Rattle.columns.specs.Opening.{openCell, FromReady, UnitReady, PivotCell}
+use Rattle.columns.proofs.Kernel.{reduced-kept}
 use Rattle.columns.proofs.PivotLaws.{order, pivot-inside}
 
 -- ---- the loop: rows k to i - 1 are taken away
@@ -37,7 +37,7 @@ pub passing-starts : (p r : ℕ) (C : Vector) (U : Matrix) (k : ℕ) (w : List �
 passing-starts p r C U k w h b = record { inside = h; long = refl; below = b; carries = λ y s. s }
 
 pub passing-turn : (p r : ℕ) (C : Vector) (U : Compressed) (k : ℕ) (w₀ w w′ : List ℕ) (i c v : ℕ) → 0 < p → i < r → c ≡ C i → c < length w
-    → Turn p U i c w w′ v → Passing p r C (matrix U) k w₀ w i → Passing p r C (matrix U) k w₀ w′ (i + 1)
+    → Eliminated p U i c w w′ v → Passing p r C (matrix U) k w₀ w i → Passing p r C (matrix U) k w₀ w′ (i + 1)
 passing-turn p r C U k w₀ w w′ i c v pos h ec hc t s =
     record {
       inside = omega arith;
@@ -101,7 +101,7 @@ module _ (p k r : ℕ) (U : Compressed) (C w₀ : List ℕ) (d : UnitReady p k r
         ∙ lowest-remains p (vector C) (matrix U) r (δ j) w₁ (carries (δ j) unit-starts)
         ∙ (λ i. lowestOf ((long ∙ wide) i) (reduced p (vector C) (matrix U) r (δ (ej i))))
 
-    pub unit-closed : low < length w₀ → Cell (openCell p (length w₀) (vector C) (matrix U) r (getD C k 0)) 0 w₂
+    pub unit-closed : low < length w₀ → PivotCell (openCell p (length w₀) (vector C) (matrix U) r (getD C k 0)) 0 w₂
     unfolding openCell
     unit-closed h =
         record {
@@ -109,7 +109,7 @@ module _ (p k r : ℕ) (U : Compressed) (C w₀ : List ℕ) (d : UnitReady p k r
           row = cleared w₂ (length w₁) clear;
         }
 
-    pub unit-opened : length w₀ ≤ low → Cell (openCell p (length w₀) (vector C) (matrix U) r (getD C k 0)) 1 w₂
+    pub unit-opened : length w₀ ≤ low → PivotCell (openCell p (length w₀) (vector C) (matrix U) r (getD C k 0)) 1 w₂
     unfolding openCell
     unit-opened h =
         record {

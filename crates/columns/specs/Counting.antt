@@ -1,7 +1,7 @@
 -- The columns of a row of U that stand in the way of its pivot column being open.
---   closedAt d o c          1 where c is another column than d, and the list o has 0 for it; else 0
---   closedOthers d o cs     how many of the columns cs are such columns
---   RowReady p k U o        U is well formed, with a column for each cell of o, and k is one of its rows
+--   closedAt d o c         1 where c is another column than d, and the list o has 0 for it; else 0
+--   closedOthers d o cs    how many of the columns cs are such columns
+--   CountReady p k U o     U is well formed, with a column for each cell of o, and k is one of its rows
 use Prim.Native.Nat.{ℕ, _+_, _<_}
 use mathlib.Core.Path.{_≡_}
 use mathlib.Core.Bool.{true, cond}
@@ -17,6 +17,6 @@ unfoldable pub closedOthers : ℕ → List ℕ → List ℕ → ℕ
 closedOthers d o [] = 0
 closedOthers d o (c ∷ cs) = closedAt d o c + closedOthers d o cs
 
-pub record RowReady (p k : ℕ) (U : Compressed) (o : List ℕ) : Type 0 where
+pub record CountReady (p k : ℕ) (U : Compressed) (o : List ℕ) : Type 0 where
   pub formed : form p (length o) U ≡ true
   pub inside : k + 1 < length (U .starts)

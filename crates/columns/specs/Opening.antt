@@ -1,16 +1,16 @@
 -- Which columns are open: the verdicts of the unit questions (document 01's open words).
---   openCell p m C U r j      1 where the unit question at column j is open, 0 where it is closed
---   FactorReady p r U C m     U with its column order, as a set that passed has them
---   FromReady ..              what the reduction of a working row by rows k to r - 1 of U needs
---   UnitReady ..              what the unit question of row k's pivot column needs: the working row is all zero
---   PivotReady ..             the same, and the list o has the open columns of the rows after k
---   PivotsReady ..            what all unit questions need, where the working row has a cell for each column
---   ColumnsReady ..           the same, where it may have more
---   Known ..                  o has the verdict of each column of row k but its pivot column
---   Cell v r w                the result is v, and the working row is all zero
---   Columns cells o w         the list o has those cells, and the working row is all zero
---   AllColumns ..             the list o is `openColumns` of every set with this column order and this U, and the working row is all zero
-use Prim.Native.Nat.{ℕ, _+_, _*_, _≤_, _<_}
+--   openCell p m C U r j     1 where the unit question at column j is open, 0 where it is closed
+--   FactorReady p r U C m    U with its column order, as a set that passed has them
+--   FromReady ..             what the reduction of a working row by rows k to r - 1 of U needs
+--   UnitReady ..             what the unit question of row k's pivot column needs: the working row is all zero
+--   PivotReady ..            the same, and the list o has the open columns of the rows after k
+--   PivotsReady ..           what all unit questions need, where the working row has a cell for each column
+--   ColumnsReady ..          the same, where it may have more
+--   Known ..                 o has the verdict of each column of row k but its pivot column
+--   PivotCell v r w          the result is v, and the working row is all zero
+--   Columns cells o w        the list o has those cells, and the working row is all zero
+--   AllColumns ..            the list o is `openColumns` of every set with this column order and this U, and the working row is all zero
+use Prim.Native.Nat.{ℕ, _*_, _≤_, _<_}
 use mathlib.Core.Path.{_≡_}
 use mathlib.Core.Bool.{true, cond}
 use mathlib.Core.List.{List}
@@ -61,7 +61,7 @@ pub record PivotReady (p k r : ℕ) (U : Compressed) (C o w : List ℕ) : Type 0
   pub long : length o ≡ length w
   pub known : Known p r U C k o
 
-pub record Cell (v r : ℕ) (w : List ℕ) : Type 0 where
+pub record PivotCell (v r : ℕ) (w : List ℕ) : Type 0 where
   pub value : r ≡ v
   pub row : w ≡ zeros (length w)
 

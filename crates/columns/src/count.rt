@@ -5,7 +5,7 @@ ghost use lib.ListN.{length};
 ghost use Rattle.sparse.specs.Row.{Below};
 ghost use Rattle.sparse.specs.Words.{view};
 ghost use Rattle.sparse.specs.Matrix.{viewed, rowOf};
-ghost use Rattle.columns.specs.Counting.{closedAt, closedOthers, RowReady};
+ghost use Rattle.columns.specs.Counting.{closedAt, closedOthers, CountReady};
 use lists::index;
 use sparse::words::bytes_part;
 use sparse::words::count;
@@ -55,7 +55,7 @@ pub fn row_closed(
     k: usize,
     d: u32,
 ) -> usize
-    requires { ⌜ RowReady p k (viewed (now us) (now usb) (now uc) (now ucb) (now uv) (now uvb)) (now marks) ⌝ }
+    requires { ⌜ CountReady p k (viewed (now us) (now usb) (now uc) (now ucb) (now uv) (now uvb)) (now marks) ⌝ }
     ensures { λ r. ⌜ r ≡ closedOthers d (now (marks .entry)) (rowOf (view (now (us .entry)) (now (usb .entry))) k (view (now (uc .entry)) (now (ucb .entry)))) ⌝ }
 {
     let a = index(word(us, usb, k));

@@ -1,14 +1,10 @@
 // All open columns, from the last row of U up.
-ghost use mathlib.Core.Path.{_≡_};
-ghost use mathlib.Core.List.{List};
-ghost use Prim.Native.Nat.{ℕ};
 ghost use lib.ListN.{length, getD};
-ghost use Rattle.lists.specs.Filled.{zeros};
 ghost use Rattle.lists.specs.Tabulate.{tabulate};
 ghost use Rattle.algebra.specs.Matrix.{vector};
 ghost use Rattle.sparse.specs.Words.{view};
-ghost use Rattle.sparse.specs.Matrix.{Compressed, viewed, matrix};
-ghost use Rattle.columns.specs.Opening.{openCell, PivotReady, Cell, PivotsReady, Columns, ColumnsReady, AllColumns};
+ghost use Rattle.sparse.specs.Matrix.{viewed, matrix};
+ghost use Rattle.columns.specs.Opening.{openCell, PivotReady, PivotCell, PivotsReady, Columns, ColumnsReady, AllColumns};
 use crate::count::row_closed;
 use crate::unit::unit_open;
 use lists::clear;
@@ -34,7 +30,7 @@ fn pivot_open(
     work: &mut [u64],
 ) -> u32
     requires { ⌜ PivotReady (q .p) k r (viewed (now us) (now usb) (now uc) (now ucb) (now uv) (now uvb)) (view (now co) (now cob)) (now marks) (now work) ⌝ }
-    ensures { λ v. ⌜ Cell (openCell (q .p) (length (now (work .entry))) (vector (view (now (co .entry)) (now (cob .entry)))) (matrix (viewed (now (us .entry)) (now (usb .entry)) (now (uc .entry)) (now (ucb .entry)) (now (uv .entry)) (now (uvb .entry)))) r (getD (view (now (co .entry)) (now (cob .entry))) k 0)) v (now (work .exit)) ⌝ }
+    ensures { λ v. ⌜ PivotCell (openCell (q .p) (length (now (work .entry))) (vector (view (now (co .entry)) (now (cob .entry)))) (matrix (viewed (now (us .entry)) (now (usb .entry)) (now (uc .entry)) (now (ucb .entry)) (now (uv .entry)) (now (uvb .entry)))) r (getD (view (now (co .entry)) (now (cob .entry))) k 0)) v (now (work .exit)) ⌝ }
 {
     let d = word(co, cob, k);
     let closed = row_closed(us, usb, uc, ucb, uv, uvb, marks, q.p, k, d);

@@ -1,13 +1,12 @@
 // The unit question of a pivot column, answered by reduction.
-ghost use mathlib.Core.Path.{_≡_};
 ghost use lib.ListN.{length, getD};
 ghost use Rattle.algebra.specs.Matrix.{Vector, vector};
 ghost use Rattle.sparse.specs.Words.{view};
 ghost use Rattle.sparse.specs.Matrix.{viewed, matrix};
 ghost use Rattle.answers.specs.Reducing.{Remains};
-ghost use Rattle.columns.specs.Opening.{openCell, FromReady, UnitReady, Cell};
+ghost use Rattle.columns.specs.Opening.{openCell, FromReady, UnitReady, PivotCell};
 use answers::reduce::lowest_nonzero;
-use answers::reduce::reduce_turn;
+use answers::reduce::reduce_by_row;
 use lists::clear_row;
 use lists::index;
 use residue::Modulus;
@@ -34,7 +33,7 @@ fn reduce_from(
     let mut i = k;
     while i < r {
         let c = index(word(co, cob, i));
-        reduce_turn(q, us, usb, uc, ucb, uv, uvb, i, c, work);
+        reduce_by_row(q, us, usb, uc, ucb, uv, uvb, i, c, work);
         i += 1;
     }
 }
@@ -55,7 +54,7 @@ pub fn unit_open(
     work: &mut [u64],
 ) -> u32
     requires { ⌜ UnitReady (q .p) k r (viewed (now us) (now usb) (now uc) (now ucb) (now uv) (now uvb)) (view (now co) (now cob)) (now work) ⌝ }
-    ensures { λ v. ⌜ Cell (openCell (q .p) (length (now (work .entry))) (vector (view (now (co .entry)) (now (cob .entry)))) (matrix (viewed (now (us .entry)) (now (usb .entry)) (now (uc .entry)) (now (ucb .entry)) (now (uv .entry)) (now (uvb .entry)))) r (getD (view (now (co .entry)) (now (cob .entry))) k 0)) v (now (work .exit)) ⌝ }
+    ensures { λ v. ⌜ PivotCell (openCell (q .p) (length (now (work .entry))) (vector (view (now (co .entry)) (now (cob .entry)))) (matrix (viewed (now (us .entry)) (now (usb .entry)) (now (uc .entry)) (now (ucb .entry)) (now (uv .entry)) (now (uvb .entry)))) r (getD (view (now (co .entry)) (now (cob .entry))) k 0)) v (now (work .exit)) ⌝ }
 {
     let m = work.len();
     let j = index(word(co, cob, k));

@@ -1,6 +1,6 @@
 -- The last entry of row k of L, a lower triangle, is its diagonal entry.
-use mathlib.Core.Path.{_≡_, refl, sym, ap, _∙_}
-use mathlib.Core.Bool.{Bool, true, _&&_}
+use mathlib.Core.Path.{_≡_, sym, ap, _∙_}
+use mathlib.Core.Bool.{true, _&&_}
 use mathlib.Core.List.{List, [], _∷_}
 use Prim.Native.Nat.{ℕ, zero, suc, _+_, _-_, _≤_, _<_}
 use native.Mathlib.Omega.{arith}
@@ -9,7 +9,6 @@ use lib.Dec.{leb, ltb}
 use lib.ListN.{length, getD, take}
 use lib.Seq.{slice, length-slice, getD-take, getD-drop}
 use Rattle.lists.proofs.Bools.{and-right}
-use Rattle.algebra.specs.Matrix.{Vector, Matrix}
 use Rattle.sparse.specs.Form.{risesFrom}
 use Rattle.sparse.specs.Row.{entry, Row}
 use Rattle.sparse.specs.Matrix.{Compressed, rowOf, matrix, form}

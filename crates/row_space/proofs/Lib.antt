@@ -1,5 +1,6 @@
 pub mod Substitutions
 pub mod Solutions
+pub mod UnitQuestions
 pub mod Theorems
 pub mod Diagonal
 pub mod RowParts

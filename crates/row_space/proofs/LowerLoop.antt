@@ -10,7 +10,6 @@ use native.Mathlib.Omega.{arith}
 use lib.Dec.{eqb}
 use lib.ListN.{length, getD, set, length-set}
 use lib.Seq.{getD-set-same, getD-set-other}
-use Rattle.lists.specs.Filled.{zeros}
 use Rattle.lists.specs.Tabulate.{tabulate}
 use Rattle.lists.proofs.Filled.{zeros-at}
 use Rattle.lists.proofs.Tabulate.{tabulated}
@@ -26,7 +25,7 @@ use Rattle.sparse.specs.Matrix.{Compressed, matrix}
 use Rattle.sparse.specs.WorkingRow.{Subtracted}
 use Rattle.pluq.proofs.Orders.{permutation-means}
 use Rattle.row_space.specs.Substitution.{less, quotient, backL}
-use Rattle.row_space.specs.Ready.{residues, LowerTurn, LowerOrder}
+use Rattle.row_space.specs.Ready.{residues, QuotientTaken, LowerOrder}
 use Rattle.row_space.proofs.Substitutions.{put-here, put-other}
 
 pub backL-ext : (p : ℕ) (L : Matrix) (k : ℕ) (d d′ : Vector) → ((l : ℕ) → l < k → d l ≡ d′ l) → (i : ℕ) → backL p L k d i ≡ backL p L k d′ i
@@ -104,7 +103,7 @@ module _ (p : ℕ) (L : Compressed) (R w₀ x₀ : List ℕ) (d : LowerOrder p L
 
   module _ (w x : List ℕ) where
     -- one turn of the loop, which goes down
-    pub lowering-next : (w′ : List ℕ) (k v t : ℕ) → 0 < k → t ≡ getD R (k - 1) 0 → LowerTurn p L (k - 1) w w′ v
+    pub lowering-next : (w′ : List ℕ) (k v t : ℕ) → 0 < k → t ≡ getD R (k - 1) 0 → QuotientTaken p L (k - 1) w w′ v
         → Lowering p (matrix L) (vector R) w₀ w x₀ x k → Lowering p (matrix L) (vector R) w₀ w′ x₀ (set x t v) (k - 1)
     lowering-next w′ k v t h et turned s =
         let lt : k - 1 < length w₀ = omega (arith, s .inside) in

@@ -1,25 +1,24 @@
 -- What `solve` computes is the answer that document 01 describes.
 use mathlib.Core.Path.{_≡_, refl, sym, ap, _∙_}
 use mathlib.Core.Logic.{_≢_, _⊎_, inl, inr}
-use mathlib.Core.Bool.{Bool, true, false, cond}
+use mathlib.Core.Bool.{Bool, cond}
 use mathlib.Core.List.{List}
 use Prim.Native.Nat.{ℕ, _≤_, _<_}
 use native.Mathlib.Decide.{ℕ-discrete, decLt}
 use native.Mathlib.Omega.{arith}
 use lib.Dec.{eqb, leb}
-use lib.ListN.{length, getD, replicate}
-use borrow.Author.Tests.{eqb-true, eqb-false, leb-true, leb-false}
+use borrow.Author.Tests.{eqb-true, eqb-false, le-leb, lt-leb}
 use Rattle.lists.specs.Filled.{zeros}
 use Rattle.lists.specs.Tabulate.{tabulate}
 use Rattle.lists.specs.Tests.{first}
 use Rattle.lists.proofs.Filled.{zeros-replicate}
 use Rattle.lists.proofs.Tabulate.{length-tabulate, tabulate-at}
 use Rattle.lists.proofs.Tests.{first-before, first-here}
-use Rattle.algebra.specs.Sum.{dot, δ, place}
+use Rattle.algebra.specs.Sum.{δ, place}
 use Rattle.algebra.specs.Prime.{Prime}
 use Rattle.algebra.specs.Matrix.{Vector, Matrix, Distinct, vector}
 use Rattle.algebra.specs.RowSpace.{Combines, InKernel}
-use Rattle.algebra.specs.Reduction.{reduced, AllZero, Lowest}
+use Rattle.algebra.specs.Reduction.{AllZero, Lowest}
 use Rattle.algebra.specs.Answer.{OpenAnswer, ClosedAnswer, AnswerOpen, AnswerClosed, Answer}
 use Rattle.algebra.proofs.Congruence.{exact, turn, _⊙_}
 use Rattle.algebra.proofs.Dot.{dot-eq, dot-left, dot-comm, dot-place, place-at, place-off, δ-same, δ-other}
@@ -36,7 +35,7 @@ use Rattle.row_space.specs.Substitution.{backL, backU}
 use Rattle.row_space.specs.Solve.{remainder, coefficients, lowest, isOpen, Solved, opened, closed, solve}
 use Rattle.row_space.specs.declared.Verdict.{Verdict}
 use Rattle.row_space.specs.declared.Verdict.the-variants.{Open, Closed}
-use Rattle.row_space.proofs.Substitutions.{backL-small, backL-solves, backU-kept, backU-small, backU-right}
+use Rattle.row_space.proofs.Substitutions.{δ-small, backL-small, backL-solves, backU-kept, backU-small, backU-right}
 
 -- the two cases of `solve`
 abbrev openX : (p n : ℕ) → Set → Vector → List ℕ
@@ -45,25 +44,37 @@ openX p n s y = tabulate n (place (s .r) (vector (s .R)) (backL p (matrix (s .L)
 abbrev closedZ : (p m : ℕ) → Set → Vector → List ℕ
 closedZ p m s y = tabulate m (backU p m (vector (s .C)) (matrix (s .U)) (s .r) (δ (lowest p m s y)))
 
+-- a vector is all zero below m, or has a lowest place at which it is not 0
+pub lowest-cases : (m : ℕ) (w : Vector) → ((m ≤ first m (λ j. eqb (w j) 0)) × AllZero m w) ⊎ ((first m (λ j. eqb (w j) 0) < m) × Lowest m w (first m (λ j. eqb (w j) 0)))
+unfolding AllZero
+lowest-cases m w = go (decLt j m)
+  where
+    j : ℕ
+    j = first m (λ j. eqb (w j) 0)
+
+    before : (i : ℕ) → i < j → w i ≡ 0
+    before i h = eqb-true (w i) 0 (first-before m (λ j. eqb (w j) 0) i h)
+
+    go : Dec (j < m) → ((m ≤ j) × AllZero m w) ⊎ ((j < m) × Lowest m w j)
+    go (yes h) = inr (h, record { within = h; here = eqb-false (w j) 0 (first-here m (λ j. eqb (w j) 0) h); before = before })
+    go (no h) = inl (omega arith, λ i b. before i (omega arith))
+
 pub solve-cases : (p n m : ℕ) (s : Set) (y : Vector)
     → (AllZero m (remainder p s y) × (solve p n m s y ≡ opened m (openX p n s y)))
     ⊎ (Lowest m (remainder p s y) (lowest p m s y) × (solve p n m s y ≡ closed n (closedZ p m s y)))
-unfolding solve lowest AllZero
-solve-cases p n m s y = go (leb m j) refl
+unfolding solve lowest
+solve-cases p n m s y = go (lowest-cases m (remainder p s y))
   where
     j : ℕ
     j = lowest p m s y
 
-    before : (i : ℕ) → i < j → remainder p s y i ≡ 0
-    before i h = eqb-true (remainder p s y i) 0 (first-before m (λ j. eqb (remainder p s y j) 0) i h)
+    pick : Bool → Solved
+    pick b = cond b (opened m (openX p n s y)) (closed n (closedZ p m s y))
 
-    go : (b : Bool) → leb m j ≡ b
-        → (AllZero m (remainder p s y) × (cond b (opened m (openX p n s y)) (closed n (closedZ p m s y)) ≡ opened m (openX p n s y)))
-        ⊎ (Lowest m (remainder p s y) j × (cond b (opened m (openX p n s y)) (closed n (closedZ p m s y)) ≡ closed n (closedZ p m s y)))
-    go true e = inl (λ i h. before i (omega (arith, leb-true m j e)), refl)
-    go false e =
-        let lt : j < m = leb-false m j e in
-        inr (record { within = lt; here = eqb-false (remainder p s y j) 0 (first-here m (λ j. eqb (remainder p s y j) 0) lt); before = before }, refl)
+    go : ((m ≤ j) × AllZero m (remainder p s y)) ⊎ ((j < m) × Lowest m (remainder p s y) j)
+        → (AllZero m (remainder p s y) × (pick (leb m j) ≡ opened m (openX p n s y))) ⊎ (Lowest m (remainder p s y) j × (pick (leb m j) ≡ closed n (closedZ p m s y)))
+    go (inl (h, none)) = inl (none, ap pick (le-leb m j h))
+    go (inr (h, low)) = inr (low, ap pick (lt-leb m j h))
 
 module _ {p : ℕ} (prime : Prime p) {n m : ℕ} {A : Compressed} {s : Set} (ok : Passes p n m A s) (y : List ℕ) (small : (j : ℕ) → j < m → vector y j < p) where
   pos : 0 < p
@@ -144,13 +155,10 @@ module _ {p : ℕ} (prime : Prime p) {n m : ℕ} {A : Compressed} {s : Set} (ok 
     z-starts : Right prime (ok .factors) r (δ j)
     z-starts = record { done = λ l h g. absurd (omega arith); todo = λ l h. δ-other j (C l) (λ e. apart l h (sym e)) }
 
-    δ-small : (t : ℕ) → δ j t < p
-    δ-small t = elim (ℕ-discrete j t) [ yes e ↦ omega (arith, prime .two, ap (δ j) (sym e) ∙ δ-same j) | no e ↦ omega (arith, prime .two, δ-other j t e) ]
-
     z-answers : ClosedAnswer p n m r (matrix A) C j z
     z-answers =
         record {
-          residues = λ t h. backU-small p m C U r (δ j) pos δ-small t;
+          residues = λ t h. backU-small p m C U r (δ j) pos (δ-small p (prime .two) j) t;
           kernel = right-ends prime (ok .factors) z (backU-right prime (ok .factors) r (omega arith) (δ j) z-starts);
           pivot = apart;
           one = backU-kept p m C U r (δ j) j apart ∙ δ-same j;

@@ -4,16 +4,17 @@ use mathlib.Core.Logic.{_≢_}
 use mathlib.Core.Bool.{Bool, true, false, cond}
 use Prim.Native.Nat.{ℕ, zero, suc, _+_, _-_, _*_, _%_, _≤_, _<_}
 use native.Mathlib.Nat.{mod-lt, lt-suc-self}
+use native.Mathlib.Decide.{ℕ-discrete}
 use native.Mathlib.Omega.{arith}
 use lib.Dec.{eqb}
 use borrow.Author.Tests.{eq-eqb, ne-eqb}
 use Rattle.algebra.specs.Congruence.{_≈⟨_⟩_}
-use Rattle.algebra.specs.Sum.{dot}
+use Rattle.algebra.specs.Sum.{dot, δ}
 use Rattle.algebra.specs.Prime.{Prime}
 use Rattle.algebra.specs.Matrix.{Vector, Matrix}
 use Rattle.algebra.specs.Factors.{Factors}
 use Rattle.algebra.proofs.Congruence.{exact, turn, _⊙_, _⊕_, _⊗_, same-refl, same-mod, by-multiples}
-use Rattle.algebra.proofs.Dot.{below-suc, dot-suc, dot-eq, dot-vanish}
+use Rattle.algebra.proofs.Dot.{below-suc, dot-suc, dot-eq, dot-vanish, δ-same, δ-other}
 use Rattle.algebra.proofs.Substitution.{Right, right-turn}
 use Rattle.residue.specs.Inverse.{invMod, Invertible}
 use Rattle.residue.proofs.Inverse.{invMod-inverse}
@@ -21,6 +22,9 @@ use Rattle.residue.proofs.Arithmetic.{negative-add}
 use Rattle.row_space.specs.Substitution.{put, less, quotient, backL, missing, backU}
 
 -- ---- one cell written
+
+pub δ-small : (p : ℕ) → 2 ≤ p → (j t : ℕ) → δ j t < p
+δ-small p two j t = elim (ℕ-discrete j t) [ yes e ↦ omega (arith, ap (δ j) (sym e) ∙ δ-same j) | no e ↦ omega (arith, δ-other j t e) ]
 
 pub put-here : (z : Vector) (c v : ℕ) → put z c v c ≡ v
 put-here z c v = ap (λ (b : Bool). cond b v (z c)) (eq-eqb c c refl)

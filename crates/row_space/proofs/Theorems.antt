@@ -14,22 +14,26 @@
 --   closed-differs          y z is not 0
 --   open-determined         open: two settings that give the same slots give y the same value
 --   closed-undetermined     closed: for every setting and every value some setting gives the same slots and gives y that value
+--   answer-is               so the verdict, x and z are together the answer that document 01 describes (algebra's `Answer`)
+--   answer-only             and no other verdict, x and z are
 --   same-verdict            two sets that pass give y the same verdict
-use mathlib.Core.Path.{_≡_, refl, sym, ap, subst, _∙_}
+--   open-columns            a cell of `openColumns` is 1 exactly if the unit vector of its column is in the row space
+--   closed-columns          and 0 exactly if it is not
+use mathlib.Core.Path.{_≡_, refl, sym, subst, _∙_}
 use mathlib.Core.Logic.{_↔_}
-use mathlib.Core.Bool.{Bool, true, false}
+use mathlib.Core.Bool.{true≢false, false≢true}
 use mathlib.Core.List.{List}
 use Prim.Native.Nat.{ℕ, _<_}
 use native.Mathlib.Omega.{arith}
-use lib.ListN.{length}
+use lib.ListN.{length, getD}
 use lib.Seq.{ext-getD}
 use Rattle.lists.specs.Filled.{zeros}
 use Rattle.lists.specs.declared.Outcome.the-variants.{Passed}
 use Rattle.lists.proofs.Filled.{zeros-replicate}
 use Rattle.algebra.specs.Congruence.{_≈⟨_⟩_}
-use Rattle.algebra.specs.Sum.{dot}
+use Rattle.algebra.specs.Sum.{dot, δ}
 use Rattle.algebra.specs.Prime.{Prime}
-use Rattle.algebra.specs.Matrix.{Vector, Matrix, vector}
+use Rattle.algebra.specs.Matrix.{vector}
 use Rattle.algebra.specs.Rank.{Rank}
 use Rattle.algebra.specs.RowSpace.{InRowSpace}
 use Rattle.algebra.specs.Factors.{Factors}
@@ -41,15 +45,16 @@ use Rattle.algebra.proofs.Dot.{dot-eq}
 use Rattle.algebra.proofs.Rank as ranks
 use Rattle.algebra.proofs.Unique.{open-unique, closed-unique}
 use Rattle.algebra.proofs.Verdict as verdicts
-use Rattle.algebra.proofs.Answer.{open-right, closed-right, open-tells, closed-tells}
+use Rattle.algebra.proofs.Answer.{answer-unique, open-right, closed-right, open-tells, closed-tells}
 use Rattle.sparse.specs.Matrix.{Compressed, matrix}
 use Rattle.sparse.specs.Set.{Set}
 use Rattle.pluq.specs.Judge.{judge, Passes}
 use Rattle.pluq.proofs.Judged.{judge-sound}
-use Rattle.row_space.specs.Solve.{remainder, lowest, isOpen, Solved, solve}
+use Rattle.row_space.specs.Solve.{remainder, lowest, isOpen, Solved, solve, openColumns}
 use Rattle.row_space.specs.declared.Verdict.{Verdict}
 use Rattle.row_space.specs.declared.Verdict.the-variants.{Open, Closed}
 use Rattle.row_space.proofs.Solutions.{solve-open, solve-closed, solve-answers}
+use Rattle.row_space.proofs.UnitQuestions.{unit-open, unit-closed}
 
 module _ {p : ℕ} (prime : Prime p) (n m : ℕ) (A : Compressed) (s : Set) (long-R : length (s .R) ≡ n) (long-C : length (s .C) ≡ m) (ok : judge p n m A s ≡ Passed) where
   passes : Passes p n m A s
@@ -142,6 +147,31 @@ module _ {p : ℕ} (prime : Prime p) (n m : ℕ) (A : Compressed) (s : Set) (lon
 
     pub closed-undetermined : answer .verdict ≡ Closed → Undetermined p n m (matrix A) (vector y)
     closed-undetermined e = closed-tells prime product y residues (answer .x) (answer .z) (with-verdict Closed e)
+
+    -- ---- all of it at once
+
+    pub answer-is : Answer p n m (s .r) (matrix A) (vector (s .R)) (vector (s .C)) (matrix (s .U)) y (isOpen (answer .verdict)) (answer .x) (answer .z)
+    answer-is = solve-answers prime passes y residues
+
+    pub answer-only : (v : Verdict) (x z : List ℕ) → Answer p n m (s .r) (matrix A) (vector (s .R)) (vector (s .C)) (matrix (s .U)) y (isOpen v) x z
+        → (v ≡ answer .verdict) × (x ≡ answer .x) × (z ≡ answer .z)
+    answer-only v x z a =
+        let (b, ex, ez) = answer-unique prime product y (isOpen v) (isOpen (answer .verdict)) x z (answer .x) (answer .z) a answer-is in
+        (same v (answer .verdict) b, ex, ez)
+      where
+        same : (v w : Verdict) → isOpen v ≡ isOpen w → v ≡ w
+        same Open Open e = refl
+        same Open Closed e = absurd (true≢false e)
+        same Closed Open e = absurd (false≢true e)
+        same Closed Closed e = refl
+
+  -- ---- the unit questions
+
+  pub open-columns : (j : ℕ) → j < m → (getD (openColumns p m s) j 0 ≡ 1) ↔ InRowSpace p n m (matrix A) (δ j)
+  open-columns j h = unit-open prime passes j h
+
+  pub closed-columns : (j : ℕ) → j < m → (getD (openColumns p m s) j 0 ≡ 0) ↔ (¬ InRowSpace p n m (matrix A) (δ j))
+  closed-columns j h = unit-closed prime passes j h
 
 pub same-verdict : {p : ℕ} → Prime p → (n m : ℕ) (A : Compressed) (s s′ : Set)
     → length (s .R) ≡ n → length (s .C) ≡ m → judge p n m A s ≡ Passed

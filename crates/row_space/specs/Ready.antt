@@ -1,13 +1,13 @@
 -- What the two substitutions need of a set and of the lent lists, and what a turn of the first one leaves.
---   residues p w               the residues that the cells of a working row stand for
---   LowerReady p L w           L is well formed and lower triangular, with a column for each cell of w
---   LowerRowReady p k L w      the same, and k is one of its rows
---   LowerTurn p L k w₀ w v     v is the value of row k, and w is w₀ with v times that row taken away
---   LowerOrder p L R w x       R gives each row of L a place in x, which is all zero
---   Placed xs x w              x is the list xs, and the working row is all zero
---   RowTimesReady p cs vs z    the columns cs and values vs are a row of a well-formed matrix with a column for each cell of z
---   UpperRowReady p k U z      U is well formed, with a column for each cell of z, and k is one of its rows
---   UpperReady p r U C z       the same for the first r rows of U, and C gives each a place in z
+--   residues p w                  the residues that the cells of a working row stand for
+--   LowerReady p L w              L is well formed and lower triangular, with a column for each cell of w
+--   LowerRowReady p k L w         the same, and k is one of its rows
+--   QuotientTaken p L k w₀ w v    v is the value of row k, and w is w₀ with v times that row taken away
+--   LowerOrder p L R w x          R gives each row of L a place in x, which is all zero
+--   Placed xs x w                 x is the list xs, and the working row is all zero
+--   RowTimesReady p cs vs z       the columns cs and values vs are a row of a well-formed matrix with a column for each cell of z
+--   UpperRowReady p k U z         U is well formed, with a column for each cell of z, and k is one of its rows
+--   UpperReady p r U C z          the same for the first r rows of U, and C gives each a place in z
 use Prim.Native.Nat.{ℕ, _+_, _*_, _%_, _≤_, _<_}
 use mathlib.Core.Path.{_≡_}
 use mathlib.Core.Bool.{true}
@@ -37,7 +37,7 @@ pub record LowerRowReady (p k : ℕ) (L : Compressed) (w : List ℕ) : Type 0 wh
   pub inside : k < length w
   pub ready : LowerReady p L w
 
-pub record LowerTurn (p : ℕ) (L : Compressed) (k : ℕ) (w₀ w : List ℕ) (v : ℕ) : Type 0 where
+pub record QuotientTaken (p : ℕ) (L : Compressed) (k : ℕ) (w₀ w : List ℕ) (v : ℕ) : Type 0 where
   pub value : v ≡ quotient p (matrix L) k (residues p w₀)
   pub taken : Subtracted p (λ j. v * matrix L k j) w₀ w
 

@@ -1,5 +1,4 @@
 // x by substitution through L, from its last pivot row up.
-ghost use mathlib.Core.Path.{_≡_};
 ghost use lib.ListN.{length};
 ghost use Rattle.lists.specs.Tabulate.{tabulate};
 ghost use Rattle.algebra.specs.Sum.{place};
@@ -7,7 +6,7 @@ ghost use Rattle.algebra.specs.Matrix.{vector};
 ghost use Rattle.sparse.specs.Words.{view};
 ghost use Rattle.sparse.specs.Matrix.{viewed, matrix};
 ghost use Rattle.row_space.specs.Substitution.{backL};
-ghost use Rattle.row_space.specs.Ready.{residues, LowerRowReady, LowerTurn, LowerOrder, Placed};
+ghost use Rattle.row_space.specs.Ready.{residues, LowerRowReady, QuotientTaken, LowerOrder, Placed};
 use lists::clear_row;
 use lists::index;
 use residue::Modulus;
@@ -16,7 +15,7 @@ use sparse::words::word;
 
 // The value of row k: what the working row has at k, divided by the row's last entry, which is its diagonal entry.
 // The row is taken away so often.
-fn lower_turn(
+fn take_quotient(
     q: Modulus,
     ls: &[u32],
     lsb: &[u8],
@@ -28,7 +27,7 @@ fn lower_turn(
     work: &mut [u64],
 ) -> u32
     requires { ⌜ LowerRowReady (q .p) k (viewed (now ls) (now lsb) (now lc) (now lcb) (now lv) (now lvb)) (now work) ⌝ }
-    ensures { λ v. ⌜ LowerTurn (q .p) (viewed (now (ls .entry)) (now (lsb .entry)) (now (lc .entry)) (now (lcb .entry)) (now (lv .entry)) (now (lvb .entry))) k (now (work .entry)) (now (work .exit)) v ⌝ }
+    ensures { λ v. ⌜ QuotientTaken (q .p) (viewed (now (ls .entry)) (now (lsb .entry)) (now (lc .entry)) (now (lcb .entry)) (now (lv .entry)) (now (lvb .entry))) k (now (work .entry)) (now (work .exit)) v ⌝ }
 {
     let e = index(word(ls, lsb, k + 1));
     let a = word(lv, lvb, e - 1);
@@ -59,7 +58,7 @@ pub fn solve_lower(
     while 0 < k {
         k -= 1;
         let t = index(word(ro, rob, k));
-        x[t] = lower_turn(q, ls, lsb, lc, lcb, lv, lvb, k, work);
+        x[t] = take_quotient(q, ls, lsb, lc, lcb, lv, lvb, k, work);
     }
     clear_row(work);
 }

@@ -43,7 +43,7 @@ fn row_times(q: Modulus, cols: &[u32], cb: &[u8], vals: &[u32], vb: &[u8], z: &[
 }
 
 // What row k of U times z lacks to be 0.
-fn upper_turn(
+fn missing_value(
     q: Modulus,
     us: &[u32],
     usb: &[u8],
@@ -90,6 +90,6 @@ pub fn solve_upper(
     while 0 < k {
         k -= 1;
         let t = index(word(co, cob, k));
-        z[t] = upper_turn(q, us, usb, uc, ucb, uv, uvb, k, z);
+        z[t] = missing_value(q, us, usb, uc, ucb, uv, uvb, k, z);
     }
 }

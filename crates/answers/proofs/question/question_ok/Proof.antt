@@ -1,6 +1,5 @@
 -- `question_ok` meets its contract; the loop's invariant is `Searching`: every value before j is below p. Assumes nothing.
-use Prim.Native.Nat.{ℕ, _-_}
-use mathlib.Core.Path.{_≡_}
+use Prim.Native.Nat.{_-_}
 use native.Mathlib.Omega.{arith}
 use lib.Dec.{ltb}
 use lib.ListN.{length, getD}

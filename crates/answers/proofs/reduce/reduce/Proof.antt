@@ -1,7 +1,6 @@
 -- `reduce` meets its contract; the loop's invariant is `Collecting`: the working row is reduced by the first k rows. Assumes nothing.
-use Prim.Native.Nat.{ℕ, _+_, _-_, _<_}
+use Prim.Native.Nat.{_-_, _<_}
 use mathlib.Core.Path.{_≡_, _∙_}
-use mathlib.Core.List.{List}
 use native.Mathlib.Omega.{arith}
 use lib.ListN.{length, getD}
 use borrow.Author.Needs.{needs}
@@ -43,8 +42,8 @@ word-requires c κs = omega (arith, start c .pre .ready .order)
 index-requires : tie.Need-index-requires Inv-loop μ-loop
 index-requires c κs = search needs
 
-reduce-turn-requires : tie.Need-reduce-turn-requires Inv-loop μ-loop
-reduce-turn-requires c κs = let i = c .before in let turn = i .before .before in let l = turn .before .loop in let d = start turn .pre .ready in
+reduce-by-row-requires : tie.Need-reduce-by-row-requires Inv-loop μ-loop
+reduce-by-row-requires c κs = let i = c .before in let turn = i .before .before in let l = turn .before .loop in let d = start turn .pre .ready in
     record {
       positive = d .positive;
       formed = rw (l .inv .row .long) (d .formed);
@@ -67,8 +66,8 @@ loop-less c = omega arith
 
 loop-again : tie.Need-loop-again Inv-loop μ-loop
 loop-again c = let i = c .before .before .before .before in let turn = i .before .before in let l = turn .before .loop in let s = start turn in
-    collecting-turn (s .args .q .p) _ _ _ _ (l .multiples) _ _ _ (l .k) (i .index .result) (c .before .before .reduce-turn .result)
-    (s .pre .ready .positive) (omega arith) (s .pre .room) (place i) (column i) (c .before .before .reduce-turn .ensures) (l .inv)
+    collecting-turn (s .args .q .p) _ _ _ _ (l .multiples) _ _ _ (l .k) (i .index .result) (c .before .before .reduce-by-row .result)
+    (s .pre .ready .positive) (omega arith) (s .pre .room) (place i) (column i) (c .before .before .reduce-by-row .ensures) (l .inv)
 
 same-length : tie.Need-same-length Inv-loop μ-loop
 same-length c = c .before .loop .inv .long
@@ -88,7 +87,7 @@ reduce-spec =
     loop-holds
     word-requires
     index-requires
-    reduce-turn-requires
+    reduce-by-row-requires
     mul-multiples
     slice-write-multiples
     add-k

@@ -1,7 +1,6 @@
 -- `closed_others` meets its contract; the loop's invariant is `Counting`: the first t columns are counted. Assumes nothing.
 use Prim.Native.Nat.{_-_, _≤_}
 use native.Mathlib.Omega.{arith}
-use lib.ListN.{length}
 use borrow.Author.Needs.{needs}
 use Rattle.sparse.specs.Words.{view}
 use Rattle.columns.proofs.CountLaws.{at-most, Counting, counting-starts, counting-turn, counting-ends}

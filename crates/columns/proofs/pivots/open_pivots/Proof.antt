@@ -1,5 +1,5 @@
 -- `open_pivots` meets its contract; the loop's invariant is `Opening`: the pivot columns of the rows from k on have their verdicts. Assumes nothing.
-use Prim.Native.Nat.{ℕ, _+_, _-_, _<_}
+use Prim.Native.Nat.{ℕ, _-_, _<_}
 use mathlib.Core.Path.{_≡_, ap, _∙_}
 use mathlib.Core.List.{List}
 use native.Mathlib.Omega.{arith}
@@ -49,7 +49,8 @@ clear-requires : tie.Need-clear-requires Inv-loop μ-loop
 clear-requires c κs = search needs
 
 loop-holds : tie.Need-loop-holds Inv-loop μ-loop
-loop-holds c = let s = c .before .before .before .before .before .before .before .before .before .before .before .before .before .before in opening-starts (s .args .q .p) _ _ _ _ _ _ (s .pre) (c .before .before .clear .ensures)
+loop-holds c = let s = c .before .before .before .before .before .before .before .before .before .before .before .before .before .before in
+    opening-starts (s .args .q .p) _ _ _ _ _ _ (s .pre) (c .before .before .clear .ensures)
 
 sub-k : tie.Need-sub-k Inv-loop μ-loop
 sub-k c = omega arith
@@ -64,7 +65,7 @@ pivot-open-requires : tie.Need-pivot-open-requires Inv-loop μ-loop
 pivot-open-requires c κs = let turn = c .before .before .before .before in let l = turn .before .loop in opening-at _ _ _ _ _ (factor (turn .before)) _ _ (l .k) (omega arith) (l .inv)
 
 mul-marks : tie.Need-mul-marks Inv-loop μ-loop
-mul-marks c = omega (arith, column (c .before .before .before .before .before), c .before .before .before .before .before .before .before .before .loop .inv .long, c .before .before .before .before .before .before .before .before .before .before .before .before .before .before .before .before .before .before .before .before .before .before .before .good)
+mul-marks c = let i = c .before .before .before .before .before in omega (arith, column i, i .before .before .before .loop .inv .long, start (i .before .before .before) .good)
 
 slice-write-marks : tie.Need-slice-write-marks Inv-loop μ-loop
 slice-write-marks c = column (c .before .before .before .before .before)
@@ -73,8 +74,8 @@ loop-less : tie.Need-loop-less Inv-loop μ-loop
 loop-less c = omega arith
 
 loop-again : tie.Need-loop-again Inv-loop μ-loop
-loop-again c = let turn = c .before .before .before .before .before .before .before in let l = turn .before .loop in
-    opening-next _ _ _ _ _ (factor (turn .before)) (l .marks) _ _ (l .k) (c .before .before .before .before .before .index .result) (c .before .before .pivot-open .result) (omega arith) (place (c .before .before .before .before .before)) (c .before .before .pivot-open .kept .1 .1 .1 .1 .1 .1 .1 .1 .1 .1 .1 .1 .0) (c .before .before .pivot-open .ensures) (l .inv)
+loop-again c = let i = c .before .before .before .before .before in let l = i .before .before .before .loop in let t = c .before .before .pivot-open in
+    opening-next _ _ _ _ _ (factor (i .before .before .before)) (l .marks) _ _ (l .k) (i .index .result) (t .result) (omega arith) (place i) (t .kept .1 .1 .1 .1 .1 .1 .1 .1 .1 .1 .1 .1 .0) (t .ensures) (l .inv)
 
 same-length : tie.Need-same-length Inv-loop μ-loop
 same-length c = c .before .loop .inv .long ∙ long (c .before)

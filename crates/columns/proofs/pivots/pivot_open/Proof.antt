@@ -5,17 +5,20 @@ use borrow.Author.Needs.{needs}
 use Rattle.columns.proofs.pivots.pivot_open.Statement.{statement}
 use Rattle.columns.proofs.pivots.pivot_open.Tie as tie
 
+abbrev start : tie.After-word → tie.Start
+start c = c .before .before .before .before .before .before .before .before .before .before .before
+
 word-requires : tie.Need-word-requires
 word-requires c κs = search needs
 
 row-closed-requires : tie.Need-row-closed-requires
-row-closed-requires c κs = let s = c .before .before .before .before .before .before .before .before .before .before .before in count-ready _ _ _ _ _ _ _ (s .pre)
+row-closed-requires c κs = count-ready _ _ _ _ _ _ _ (start c .pre)
 
 returns : tie.Need-returns
-returns c = let s = c .before .before .before .before .before .before .before .before .before .before .before .before .before in pivot-opened _ _ _ _ _ _ _ (s .pre) _ _ (c .before .before .word .ensures) (c .before .row-closed .ensures) (omega arith)
+returns c = let w = c .before .before in pivot-opened _ _ _ _ _ _ _ (start w .pre) _ _ (w .word .ensures) (c .before .row-closed .ensures) (omega arith)
 
 returns-2 : tie.Need-returns-2
-returns-2 c = let s = c .before .before .before .before .before .before .before .before .before .before .before .before .before .before in pivot-closed _ _ _ _ _ _ _ (s .pre) _ _ (c .before .before .before .word .ensures) (c .before .before .row-closed .ensures) (omega arith)
+returns-2 c = let w = c .before .before .before in pivot-closed _ _ _ _ _ _ _ (start w .pre) _ _ (w .word .ensures) (c .before .before .row-closed .ensures) (omega arith)
 
 unit-open-requires : tie.Need-unit-open-requires
 unit-open-requires c κs = search needs

@@ -1,5 +1,5 @@
 -- `reduce_from` meets its contract; the loop's invariant is `Passing`: rows k to i - 1 are taken away. Assumes nothing.
-use Prim.Native.Nat.{ℕ, _+_, _-_, _<_}
+use Prim.Native.Nat.{_-_, _<_}
 use mathlib.Core.Path.{_≡_, _∙_}
 use native.Mathlib.Omega.{arith}
 use lib.ListN.{length, getD}
@@ -40,8 +40,8 @@ word-requires c κs = let f = start c .pre .factor in omega (arith, f .rank, f .
 index-requires : tie.Need-index-requires Inv-loop μ-loop
 index-requires c κs = search needs
 
-reduce-turn-requires : tie.Need-reduce-turn-requires Inv-loop μ-loop
-reduce-turn-requires c κs = let i = c .before in let l = i .before .before .before .loop in let f = start (i .before .before) .pre .factor in
+reduce-by-row-requires : tie.Need-reduce-by-row-requires Inv-loop μ-loop
+reduce-by-row-requires c κs = let i = c .before in let l = i .before .before .before .loop in let f = start (i .before .before) .pre .factor in
     record {
       positive = omega (arith, f .prime .two);
       formed = rw (l .inv .long) (f .formed);
@@ -58,7 +58,7 @@ loop-less c = omega arith
 
 loop-again : tie.Need-loop-again Inv-loop μ-loop
 loop-again c = let i = c .before .before .before .before in let l = i .before .before .before .loop in let s = start (i .before .before) in
-    passing-turn (s .args .q .p) _ _ _ _ _ _ _ (l .i) (i .index .result) (c .before .before .reduce-turn .result) (omega (arith, s .pre .factor .prime .two)) (omega arith) (place i) (column i) (c .before .before .reduce-turn .ensures) (l .inv)
+    passing-turn (s .args .q .p) _ _ _ _ _ _ _ (l .i) (i .index .result) (c .before .before .reduce-by-row .result) (omega (arith, s .pre .factor .prime .two)) (omega arith) (place i) (column i) (c .before .before .reduce-by-row .ensures) (l .inv)
 
 same-length : tie.Need-same-length Inv-loop μ-loop
 same-length c = c .before .loop .inv .long
@@ -75,7 +75,7 @@ reduce-from-spec =
     loop-holds
     word-requires
     index-requires
-    reduce-turn-requires
+    reduce-by-row-requires
     add-i
     loop-less
     loop-again

@@ -1,5 +1,5 @@
 -- `solve_lower` meets its contract; the loop's invariant is `Lowering`: the rows from k on have their values in x. Assumes nothing.
-use Prim.Native.Nat.{ℕ, _+_, _-_, _*_, _%_, _≤_, _<_}
+use Prim.Native.Nat.{ℕ, _-_, _<_}
 use mathlib.Core.Path.{_≡_, sym, ap, _∙_}
 use mathlib.Core.List.{List}
 use native.Mathlib.Omega.{arith}
@@ -9,7 +9,7 @@ use Rattle.lists.specs.Filled.{zeros}
 use Rattle.lists.proofs.Filled.{length-zeros}
 use Rattle.algebra.specs.Matrix.{vector}
 use Rattle.sparse.specs.Words.{view}
-use Rattle.sparse.specs.Matrix.{Compressed, viewed, matrix}
+use Rattle.sparse.specs.Matrix.{viewed, matrix}
 use Rattle.row_space.proofs.LowerLoop.{Lowering, lowering-starts, lowering-next, lowering-ends, place-below}
 use Rattle.row_space.proofs.lower.solve_lower.Statement.{statement}
 use Rattle.row_space.proofs.lower.solve_lower.Tie as tie
@@ -48,8 +48,8 @@ word-requires c κs = let l = c .before .loop in let s = start c in omega (arith
 index-requires : tie.Need-index-requires Inv-loop μ-loop
 index-requires c κs = search needs
 
-lower-turn-requires : tie.Need-lower-turn-requires Inv-loop μ-loop
-lower-turn-requires c κs = let turn = c .before .before .before in let l = turn .before .loop in let d = start turn .pre .ready in
+take-quotient-requires : tie.Need-take-quotient-requires Inv-loop μ-loop
+take-quotient-requires c κs = let turn = c .before .before .before in let l = turn .before .loop in let d = start turn .pre .ready in
     record {
       inside = omega (arith, l .inv .inside, l .inv .long);
       ready = record { prime = d .prime; formed = rw (l .inv .long) (d .formed); rows = omega (arith, l .inv .long, d .rows); shaped = rw (l .inv .long) (d .shaped); below = l .inv .below };
@@ -66,7 +66,7 @@ loop-less c = omega arith
 
 loop-again : tie.Need-loop-again Inv-loop μ-loop
 loop-again c = let i = c .before .before .before .before in let turn = i .before .before in let l = turn .before .loop in let s = start turn in
-    lowering-next (s .args .q .p) _ (R s) _ _ (s .pre) _ (l .x) _ (l .k) (c .before .before .lower-turn .result) (i .index .result) (omega arith) (place i) (c .before .before .lower-turn .ensures) (l .inv)
+    lowering-next (s .args .q .p) _ (R s) _ _ (s .pre) _ (l .x) _ (l .k) (c .before .before .take-quotient .result) (i .index .result) (omega arith) (place i) (c .before .before .take-quotient .ensures) (l .inv)
 
 clear-row-requires : tie.Need-clear-row-requires Inv-loop μ-loop
 clear-row-requires c κs = search needs
@@ -97,7 +97,7 @@ solve-lower-spec =
     sub-k
     word-requires
     index-requires
-    lower-turn-requires
+    take-quotient-requires
     mul-x
     slice-write-x
     loop-less

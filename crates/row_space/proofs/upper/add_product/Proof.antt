@@ -1,6 +1,4 @@
 -- `add_product` meets its contract. Assumes nothing.
-use Prim.Native.Nat.{_+_, _*_, _^_, _≤_, _<_}
-use native.Mathlib.Omega.{arith}
 use borrow.Author.Needs.{needs}
 use Rattle.residue.proofs.Arithmetic.{mul-fits}
 use Rattle.row_space.proofs.UpperLoop.{mul-add-fits}

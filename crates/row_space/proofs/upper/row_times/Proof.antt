@@ -1,5 +1,5 @@
 -- `row_times` meets its contract; the loop's invariant is `Adding`: s is the product of the first t entries. Assumes nothing.
-use Prim.Native.Nat.{ℕ, _-_, _<_}
+use Prim.Native.Nat.{_-_, _<_}
 use mathlib.Core.Path.{_≡_, _∙_}
 use native.Mathlib.Omega.{arith}
 use lib.ListN.{length, getD}

@@ -1,5 +1,5 @@
 -- `solve_upper` meets its contract; the loop's invariant is `Filling`: the pivot cells of the rows from k on are filled. Assumes nothing.
-use Prim.Native.Nat.{ℕ, _+_, _-_, _<_}
+use Prim.Native.Nat.{ℕ, _-_, _<_}
 use mathlib.Core.Path.{_≡_, _∙_}
 use mathlib.Core.List.{List}
 use native.Mathlib.Omega.{arith}
@@ -45,8 +45,8 @@ word-requires c κs = let l = c .before .loop in let s = start c in omega (arith
 index-requires : tie.Need-index-requires Inv-loop μ-loop
 index-requires c κs = search needs
 
-upper-turn-requires : tie.Need-upper-turn-requires Inv-loop μ-loop
-upper-turn-requires c κs = let turn = c .before .before .before in let l = turn .before .loop in let s = start turn in
+missing-value-requires : tie.Need-missing-value-requires Inv-loop μ-loop
+missing-value-requires c κs = let turn = c .before .before .before in let l = turn .before .loop in let s = start turn in
     record { positive = s .pre .positive; formed = rw (l .inv .long) (s .pre .formed); inside = omega (arith, l .inv .inside, s .pre .rows) }
 
 mul-z : tie.Need-mul-z Inv-loop μ-loop
@@ -60,7 +60,7 @@ loop-less c = omega arith
 
 loop-again : tie.Need-loop-again Inv-loop μ-loop
 loop-again c = let i = c .before .before in let turn = i .before .before in let l = turn .before .loop in
-    filling-turn (start turn .args .q .p) _ _ _ _ (l .z) (l .k) (c .upper-turn .result) (i .index .result) (omega arith) (place i) (column i) (c .upper-turn .ensures) (l .inv)
+    filling-turn (start turn .args .q .p) _ _ _ _ (l .z) (l .k) (c .missing-value .result) (i .index .result) (omega arith) (place i) (column i) (c .missing-value .ensures) (l .inv)
 
 same-length : tie.Need-same-length Inv-loop μ-loop
 same-length c = c .before .loop .inv .long
@@ -78,7 +78,7 @@ solve-upper-spec =
     sub-k
     word-requires
     index-requires
-    upper-turn-requires
+    missing-value-requires
     mul-z
     slice-write-z
     loop-less

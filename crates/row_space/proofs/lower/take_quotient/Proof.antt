@@ -1,17 +1,16 @@
--- `lower_turn` meets its contract: the last entry of row k is the diagonal entry. Assumes nothing.
-use Prim.Native.Nat.{ℕ, _+_, _-_, _*_, _%_, _≤_, _<_}
+-- `take_quotient` meets its contract: the last entry of row k is the diagonal entry. Assumes nothing.
+use Prim.Native.Nat.{ℕ, _-_, _*_, _%_, _≤_, _<_}
 use mathlib.Core.Path.{_≡_, ap, _∙_}
 use native.Mathlib.Omega.{arith}
 use lib.ListN.{length, getD}
 use borrow.Author.Needs.{needs}
 use Rattle.residue.specs.Inverse.{invMod}
-use Rattle.sparse.specs.Words.{view}
 use Rattle.sparse.specs.Matrix.{Compressed, viewed, matrix}
 use Rattle.sparse.proofs.Entries.{values-at}
 use Rattle.sparse.proofs.Rows.{form-paired, form-values}
 use Rattle.row_space.proofs.Diagonal.{diagonal-last}
-use Rattle.row_space.proofs.lower.lower_turn.Statement.{statement}
-use Rattle.row_space.proofs.lower.lower_turn.Tie as tie
+use Rattle.row_space.proofs.lower.take_quotient.Statement.{statement}
+use Rattle.row_space.proofs.lower.take_quotient.Tie as tie
 
 abbrev start : tie.After-index → tie.Start
 start c = c .before .before .before .before .before .before .before .before .before
@@ -78,8 +77,8 @@ returns c = let m = c .before .before .before .before in let i = m .before in le
       taken = c .before .before .subtract-row .ensures;
     }
 
-pub lower-turn-spec : {M : Type 1} → statement M
-lower-turn-spec =
+pub take-quotient-spec : {M : Type 1} → statement M
+take-quotient-spec =
     tie.close
     (tie.spec
     add-word

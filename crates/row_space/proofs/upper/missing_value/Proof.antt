@@ -1,7 +1,6 @@
--- `upper_turn` meets its contract: the parts that it hands on are row k. Assumes nothing.
-use Prim.Native.Nat.{ℕ, _+_, _-_, _%_, _≤_, _<_}
+-- `missing_value` meets its contract: the parts that it hands on are row k. Assumes nothing.
+use Prim.Native.Nat.{ℕ, _+_, _-_, _%_, _≤_}
 use mathlib.Core.Path.{_≡_, ap, _∙_}
-use mathlib.Core.List.{List}
 use native.Mathlib.Omega.{arith}
 use lib.ListN.{length, getD}
 use borrow.Author.Needs.{needs}
@@ -13,8 +12,8 @@ use Rattle.sparse.proofs.WordLaws.{length-view}
 use Rattle.sparse.proofs.Entries.{weigh-dot, row-columns}
 use Rattle.sparse.proofs.Rows.{form-starts, form-paired, form-row}
 use Rattle.row_space.proofs.RowParts.{row-parts}
-use Rattle.row_space.proofs.upper.upper_turn.Statement.{statement}
-use Rattle.row_space.proofs.upper.upper_turn.Tie as tie
+use Rattle.row_space.proofs.upper.missing_value.Statement.{statement}
+use Rattle.row_space.proofs.upper.missing_value.Tie as tie
 
 abbrev start : tie.After-index2 → tie.Start
 start c = c .before .before .before .before .before .before .before .before .before .before .before
@@ -94,8 +93,8 @@ returns c = let d = c .before .before in let s = start (d .before .before .befor
     ∙ ap (λ (x : ℕ). (s .args .q .p - x % s .args .q .p) % s .args .q .p)
     ((λ i. weigh (columns d i) (numbers d i) (vector (s .args .z .now))) ∙ weigh-dot (length (s .args .z .now)) _ _ (vector (s .args .z .now)) (row-columns _ _ _ _ (row s)))
 
-pub upper-turn-spec : {M : Type 1} → statement M
-upper-turn-spec =
+pub missing-value-spec : {M : Type 1} → statement M
+missing-value-spec =
     tie.close
     (tie.spec
     word-requires
