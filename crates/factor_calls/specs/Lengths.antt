@@ -1,0 +1,26 @@
+-- The lists that are lent to factoring.
+--   Lent                   how long each of them is
+--   lentLengths n m l      they have the lengths that factoring takes: R n, C m, the starts of L and of U n + 1 each, values as columns, and a
+--                          working row of its length
+--   lentOutcome ..         9 where a length is wrong, then the plan: 1, 2, 8
+use Prim.Native.Nat.{ℕ, _+_}
+use mathlib.Core.Bool.{Bool, _&&_}
+use lib.Dec.{eqb}
+use Rattle.lists.specs.declared.Outcome.{Outcome}
+use Rattle.sparse.specs.Matrix.{Compressed}
+use Rattle.call_tests.specs.Limits.{workLength}
+use Rattle.call_tests.specs.Tests.{callOutcome}
+use Rattle.factor_calls.specs.declared.Lent.{Lent}
+
+unfoldable pub lentLengths : ℕ → ℕ → Lent → Bool
+lentLengths n m l =
+    eqb (l .rows) n
+    && (eqb (l .columns) m
+    && (eqb (l .lstarts) (n + 1)
+    && (eqb (l .lcols) (l .lvals)
+    && (eqb (l .ustarts) (n + 1)
+    && (eqb (l .ucols) (l .uvals)
+    && eqb (l .work) workLength)))))
+
+unfoldable pub lentOutcome : (p n m : ℕ) → Compressed → Lent → Outcome
+lentOutcome p n m A l = callOutcome (lentLengths n m l) p n m A
