@@ -1,37 +1,21 @@
 -- Laws of writing into a lent buffer: both ways out, and how its length tells refusal 9.
 use mathlib.Core.Path.{_≡_, refl, sym, ap, _∙_}
 use mathlib.Core.Bool.{Bool, true, false, cond}
-use mathlib.Core.List.{List, [], _++_}
-use Prim.Native.Nat.{ℕ, zero, suc, _+_, _-_, _≤_, _<_}
+use mathlib.Core.List.{List, []}
+use Prim.Native.Nat.{ℕ, _+_, _≤_, _<_}
 use native.Mathlib.Omega.{arith}
-use native.Mathlib.Nat.{sub-zero, zero-sub, suc-sub-suc}
 use lib.Dec.{leb}
-use lib.ListN.{length, drop}
-use lib.Seq.{sets, sets-eq}
+use lib.ListN.{length}
 use borrow.Author.Tests.{le-leb, lt-leb}
 use Rattle.lists.specs.Filled.{zeros, filled}
 use Rattle.lists.specs.Refusals.{unless}
 use Rattle.lists.specs.declared.Outcome.the-variants.{Passed, Refused}
-use Rattle.lists.proofs.Filled.{length-zeros, filled-none}
+use Rattle.lists.proofs.Filled.{filled-none}
+use Rattle.byte_buffer.specs.Stored.{Stored}
+use Rattle.byte_buffer.proofs.Storing.{stored-filled}
 use Rattle.sparse.specs.Set.{Set}
 use Rattle.certificate.specs.Layout.{mark, certificateOf}
-use Rattle.certificate.specs.Writing.{roomFor, written, Writes, Stored}
-
-drop-zeros : (k n : ℕ) → drop k (zeros n) ≡ zeros (n - k)
-unfolding zeros
-drop-zeros zero n = ap zeros (sym (sub-zero n))
-drop-zeros (suc k) zero = ap zeros (sym (zero-sub (suc k)))
-drop-zeros (suc k) (suc n) = drop-zeros k n ∙ ap zeros (sym (suc-sub-suc n k))
-
--- a cleared buffer in which a list is stored at the front is filled with it
-stored-filled : (n : ℕ) {b₁ b : List ℕ} {size : ℕ} {ys : List ℕ} → length ys ≤ n → b₁ ≡ zeros n → Stored b₁ b 0 size ys → b ≡ filled n ys
-unfolding filled
-stored-filled n {b₁} {b} {size} {ys} h e s =
-    s .now-is
-    ∙ ap (λ (l : List ℕ). sets l 0 ys) e
-    ∙ sets-eq ys (zeros n) 0 (omega (arith, length-zeros n))
-    ∙ ap (λ (k : ℕ). ys ++ drop k (zeros n)) (let q : 0 + length ys ≡ length ys = omega arith in q)
-    ∙ ap (λ (l : List ℕ). ys ++ l) (drop-zeros (length ys) n)
+use Rattle.certificate.specs.Writing.{roomFor, written, Writes}
 
 module _ (n : ℕ) (cert : List ℕ) where
   written-whole : length cert ≤ n → written n cert ≡ cert

@@ -4,14 +4,12 @@
 --   Writes cert b₀ b size     the contract of writing: the length returned, and every byte of the buffer
 --   Writable n m s            a set that can be written: its lists have their lengths, and the entry counts are 32-bit numbers
 --   Room p n m s b            such a set, and a buffer that holds its certificate
---   Stored b₀ b at next ys    the contract of each step: the bytes ys are stored from a place on, and next is the place after them
-use Prim.Native.Nat.{ℕ, _+_, _≤_, _<_, _^_}
+use Prim.Native.Nat.{ℕ, _≤_, _<_, _^_}
 use mathlib.Core.Bool.{cond}
 use mathlib.Core.List.{List, []}
 use mathlib.Core.Path.{_≡_}
 use lib.Dec.{leb}
 use lib.ListN.{length}
-use lib.Seq.{sets}
 use Rattle.lists.specs.Filled.{filled}
 use Rattle.lists.specs.Table.{wrongLength}
 use Rattle.lists.specs.Refusals.{unless}
@@ -37,7 +35,3 @@ pub record Writable (n m : ℕ) (s : Set) : Type 0 where
 pub record Room (p n m : ℕ) (s : Set) (b : List ℕ) : Type 0 where
   pub writable : Writable n m s
   pub room : length (certificateOf p n m s) ≤ length b
-
-pub record Stored (b₀ b : List ℕ) (at next : ℕ) (ys : List ℕ) : Type 0 where
-  pub now-is : b ≡ sets b₀ at ys
-  pub next-is : next ≡ at + length ys

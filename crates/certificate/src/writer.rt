@@ -6,9 +6,11 @@ ghost use lib.ListN.{length};
 ghost use lib.Seq.{sets};
 ghost use Rattle.sparse.specs.Matrix.{compressed};
 ghost use Rattle.sparse.specs.Set.{setOf};
+ghost use Rattle.byte_buffer.specs.Stored.{Stored};
 ghost use Rattle.certificate.specs.Layout.{bytes, mark, version, headerNumbers, factorNumbers, certificateOf};
-ghost use Rattle.certificate.specs.Writing.{Writes, Writable, Room, Stored};
+ghost use Rattle.certificate.specs.Writing.{Writes, Writable, Room};
 use crate::parts::places_of;
+use byte_buffer::put_bytes;
 use lists::clear_bytes;
 
 // Stores a number as four bytes, least significant first.
@@ -32,21 +34,6 @@ fn put_words(list: &[u32], buffer: &mut [u8], at: usize) -> usize
     while i < list.len() {
         put_word(list[i], buffer, next);
         next += 4;
-        i += 1;
-    }
-    next
-}
-
-// Stores bytes from a place on; the place after them.
-fn put_bytes(list: &[u8], buffer: &mut [u8], at: usize) -> usize
-    requires { ⌜ at + length (now list) ≤ length (now buffer) ⌝ }
-    ensures { λ r. ⌜ Stored (now (buffer .entry)) (now (buffer .exit)) at r (now (list .entry)) ⌝ }
-{
-    let mut next = at;
-    let mut i = 0;
-    while i < list.len() {
-        buffer[next] = list[i];
-        next += 1;
         i += 1;
     }
     next

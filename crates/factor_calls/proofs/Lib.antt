@@ -1,1 +1,2 @@
 pub mod LentLists
+pub mod Ready

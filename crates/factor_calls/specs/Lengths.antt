@@ -1,16 +1,33 @@
 -- The lists that are lent to factoring.
 --   Lent                   how long each of them is
+--   lentOf R C L U w       the lengths of these lists
 --   lentLengths n m l      they have the lengths that factoring takes: R n, C m, the starts of L and of U n + 1 each, values as columns, and a
 --                          working row of its length
 --   lentOutcome ..         9 where a length is wrong, then the plan: 1, 2, 8
 use Prim.Native.Nat.{ℕ, _+_}
 use mathlib.Core.Bool.{Bool, _&&_}
+use mathlib.Core.List.{List}
 use lib.Dec.{eqb}
+use lib.ListN.{length}
 use Rattle.lists.specs.declared.Outcome.{Outcome}
 use Rattle.sparse.specs.Matrix.{Compressed}
 use Rattle.call_tests.specs.Limits.{workLength}
 use Rattle.call_tests.specs.Tests.{callOutcome}
 use Rattle.factor_calls.specs.declared.Lent.{Lent}
+
+abbrev pub lentOf : (R C : List ℕ) (L U : Compressed) (w : List ℕ) → Lent
+lentOf R C L U w =
+    record {
+      rows = length R;
+      columns = length C;
+      lstarts = length (L .starts);
+      lcols = length (L .cols);
+      lvals = length (L .vals);
+      ustarts = length (U .starts);
+      ucols = length (U .cols);
+      uvals = length (U .vals);
+      work = length w;
+    }
 
 unfoldable pub lentLengths : ℕ → ℕ → Lent → Bool
 lentLengths n m l =

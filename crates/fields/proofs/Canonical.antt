@@ -16,11 +16,11 @@ use Rattle.fields.specs.Number.{digitsFrom, numberOf, zeroAlone}
 use Rattle.fields.specs.Decimal.{decimalIn, decimal}
 use Rattle.fields.proofs.Values.{number-else}
 
-decimal-one : (f n : ℕ) → n < 10 → decimalIn (suc f) n ≡ (48 + n) ∷ []
+pub decimal-one : (f n : ℕ) → n < 10 → decimalIn (suc f) n ≡ (48 + n) ∷ []
 unfolding decimalIn
 decimal-one f n h = rw (lt-ltb n 10 h)
 
-decimal-more : (f n : ℕ) → 10 ≤ n → decimalIn (suc f) n ≡ decimalIn f (n / 10) ++ ((48 + n % 10) ∷ [])
+pub decimal-more : (f n : ℕ) → 10 ≤ n → decimalIn (suc f) n ≡ decimalIn f (n / 10) ++ ((48 + n % 10) ∷ [])
 unfolding decimalIn
 decimal-more f n h = rw (le-ltb n 10 h)
 
@@ -31,7 +31,7 @@ small? n = go (ltb n 10) refl
     go true e = inl (ltb-true n 10 e)
     go false e = inr (ltb-false n 10 e)
 
-tenth : (f n : ℕ) → n < 10 ^ suc f → n / 10 < 10 ^ f
+pub tenth : (f n : ℕ) → n < 10 ^ suc f → n / 10 < 10 ^ f
 tenth f n h = div-lt-iff-lt-mul {k = 10} (omega arith) .1 (subst (λ (k : ℕ). n < k) (pow-suc 10 f) h)
 
 digit-in : (v d : ℕ) (bs : List ℕ) → d < 10 → digitsFrom v ((48 + d) ∷ bs) ≡ digitsFrom (v * 10 + d) bs

@@ -3,7 +3,8 @@ use mathlib.Core.List.{_++_}
 use native.Mathlib.Omega.{arith}
 use Rattle.certificate.specs.Layout.{factorNumbers}
 use Rattle.certificate.proofs.Bytes.{length-bytes}
-use Rattle.certificate.proofs.Storing.{ends, numbers-then}
+use Rattle.byte_buffer.proofs.Storing.{ends}
+use Rattle.certificate.proofs.Storing.{numbers-then}
 use borrow.Author.Needs.{needs}
 use Rattle.certificate.proofs.writer.put_factor.Statement.{statement}
 use Rattle.certificate.proofs.writer.put_factor.Tie as tie

@@ -1,0 +1,60 @@
+-- What a check that passed says of the set.
+--   Checked ..             p is prime, the lists have their lengths, the judge passed the set, and the working row is long enough
+--   factors-checked        stored factors that passed
+--   certificate-checked    the set of a certificate that passed
+--   checked-ready          such a set is ready to answer
+use mathlib.Core.Path.{_≡_, refl}
+use mathlib.Core.Bool.{true}
+use mathlib.Core.List.{List}
+use Prim.Native.Nat.{ℕ, _≤_}
+use native.Mathlib.Omega.{arith}
+use Rattle.lists.specs.Refusals.{_▷_}
+use Rattle.lists.specs.declared.Outcome.{Outcome}
+use Rattle.lists.specs.declared.Outcome.the-variants.{Passed, Refused}
+use Rattle.algebra.specs.Prime.{Prime}
+use Rattle.residue.proofs.Primes.{modulus-prime}
+use Rattle.sparse.specs.Matrix.{Compressed}
+use Rattle.sparse.specs.Set.{Set}
+use Rattle.pluq.specs.Judge.{judge}
+use Rattle.certificate.specs.Layout.{Sized}
+use Rattle.certificate.specs.Reading.{headerOk, setOfCertificate}
+use Rattle.certificate.proofs.Passed.{passed-sized}
+use Rattle.answers.specs.Answering.{SetReady}
+use Rattle.answers.proofs.Passed.{passed-ready}
+use Rattle.check_calls.specs.Calls.{factorsOutcome, certificateOutcome, checkFactorsOf, checkCertificateOf}
+use Rattle.check_calls.proofs.Tested.{factors-good, certificate-good}
+
+pub record Checked (p n m : ℕ) (A : Compressed) (s : Set) (w : ℕ) : Type 0 where
+  pub prime : Prime p
+  pub sized : Sized n m s
+  pub judged : judge p n m A s ≡ Passed
+  pub room : m ≤ w
+
+-- both of two tests, one after the other, passed
+pub both-passed : (a b : Outcome) → (a ▷ b) ≡ Passed → (a ≡ Passed) × (b ≡ Passed)
+both-passed Passed b e = (refl, e)
+both-passed (Refused k d) b e = absurd (let z : _≡_ {A = ℕ} 0 1 = cc in omega arith)
+
+module _ (p n m : ℕ) (A : Compressed) (w : ℕ) where
+  pub factors-checked : (s : Set) → checkFactorsOf p n m A s w ≡ Passed → Checked p n m A s w
+  unfolding checkFactorsOf
+  factors-checked s h =
+      let (tested, judged) = both-passed (factorsOutcome p n m A s w) (judge p n m A s) h in
+      let (g, sized, wide) = factors-good p n m A s w tested in
+      record { prime = modulus-prime p (g .modulus); sized = sized; judged = judged; room = omega (arith, g .few-columns) }
+
+  module _ (cert : List ℕ) (h : checkCertificateOf p n m A cert w ≡ Passed) where
+    parts : (certificateOutcome p n m A cert w ≡ Passed) × (judge p n m A (setOfCertificate n m cert) ≡ Passed)
+    unfolding checkCertificateOf
+    parts = both-passed (certificateOutcome p n m A cert w) (judge p n m A (setOfCertificate n m cert)) h
+
+    pub certificate-header : headerOk p n m cert ≡ true
+    certificate-header = certificate-good p n m A cert w (parts .0) .1
+
+    pub certificate-checked : Checked p n m A (setOfCertificate n m cert) w
+    certificate-checked =
+        let (g, header, wide) = certificate-good p n m A cert w (parts .0) in
+        record { prime = modulus-prime p (g .modulus); sized = passed-sized p n m cert header; judged = parts .1; room = omega (arith, g .few-columns) }
+
+pub checked-ready : (p n m : ℕ) (A : Compressed) (s : Set) (w : ℕ) → Checked p n m A s w → SetReady p n m s
+checked-ready p n m A s w c = let z = c .sized in passed-ready p n m A s (c .prime) (z .row-order) (z .column-order) (z .lower-starts) (z .upper-starts) (c .judged)

@@ -1,0 +1,4 @@
+pub mod Checked
+pub mod Lengths
+pub mod Ways
+pub mod Theorems

@@ -1,0 +1,9 @@
+pub mod Steps
+pub mod Finding
+pub mod Sizes
+pub mod Readiness
+pub mod TurnedRows
+pub mod TakeRow
+pub mod Schedules
+pub mod PivotPass
+pub mod LowerPass

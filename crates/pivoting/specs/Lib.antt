@@ -1,0 +1,4 @@
+pub mod State
+pub mod Turning
+pub mod Passing
+pub mod Filling

@@ -1,0 +1,4 @@
+pub mod Ending
+pub mod Stepping
+pub mod Room
+pub mod Example

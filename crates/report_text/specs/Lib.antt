@@ -1,0 +1,6 @@
+pub mod Labels
+pub mod Lines
+pub mod Report
+pub mod Needs
+pub mod Answer
+pub mod Digits

@@ -1,0 +1,5 @@
+// What the programs print, written into a lent buffer.
+pub mod answer;
+pub mod lines;
+mod number;
+pub mod report;

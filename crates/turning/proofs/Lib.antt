@@ -1,0 +1,5 @@
+pub mod Storage
+pub mod LoadedRows
+pub mod GatheredRows
+pub mod PivotRows
+pub mod TakenRows
