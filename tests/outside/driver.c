@@ -1,9 +1,10 @@
-/* Runs many cases of the two C calls in one process.
+/* Runs many cases of the C calls in one process.
 
    Standard input, any number of requests: one byte 'M' (make) or 'C' (check),
    the text's length and the certificate's length as 32-bit little-endian
    numbers, the text, the certificate. For 'M' the certificate bytes are what
-   the lent buffer holds before the call.
+   the lent buffer holds before the call. 'M' is known where the header
+   declares the call (PLQ_MAKES_CERTIFICATES).
 
    Standard output, for each request: the number returned (64 bits,
    little-endian), one byte that is 1 if the call changed nothing that it was
@@ -59,6 +60,15 @@ static int guards_kept(struct lent part) {
     return 1;
 }
 
+static uint64_t called(int call, struct lent text, struct lent certificate) {
+#ifdef PLQ_MAKES_CERTIFICATES
+    if (call == 'M')
+        return plq_make_certificate(text.bytes, text.length, certificate.bytes, certificate.length);
+#endif
+    if (call != 'C') fail("unknown call");
+    return plq_check_certificate(text.bytes, text.length, certificate.bytes, certificate.length);
+}
+
 static void answer(int call) {
     uint32_t text_length = read_number();
     struct lent certificate = lend(read_number());
@@ -67,10 +77,7 @@ static void answer(int call) {
     read_exactly(certificate.bytes, certificate.length);
     memcpy(before.bytes, text.bytes, text.length);
 
-    uint64_t number =
-        call == 'M'
-            ? plq_make_certificate(text.bytes, text.length, certificate.bytes, certificate.length)
-            : plq_check_certificate(text.bytes, text.length, certificate.bytes, certificate.length);
+    uint64_t number = called(call, text, certificate);
 
     uint8_t kept = guards_kept(text) && guards_kept(certificate) &&
                    memcmp(before.bytes, text.bytes, text.length) == 0;
@@ -88,7 +95,6 @@ static void answer(int call) {
 int main(void) {
     int call;
     while ((call = getchar()) != EOF) {
-        if (call != 'M' && call != 'C') fail("unknown call");
         answer(call);
         fflush(stdout);
     }

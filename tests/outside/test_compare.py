@@ -19,6 +19,7 @@ HERE = Path(__file__).parent
 STUB_HEADER = """
 #include <stddef.h>
 #include <stdint.h>
+#define PLQ_MAKES_CERTIFICATES
 uint64_t plq_make_certificate(const uint8_t *, size_t, uint8_t *, size_t);
 uint64_t plq_check_certificate(const uint8_t *, size_t, const uint8_t *, size_t);
 """
