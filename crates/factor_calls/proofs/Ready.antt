@@ -15,7 +15,8 @@ use Rattle.sparse.specs.Matrix.{Compressed, form}
 use Rattle.call_tests.specs.Limits.{largestSize, workLength}
 use Rattle.check_calls.proofs.Tested.{GoodPlan, good-plan}
 use Rattle.factoring.specs.Outcome.{Outcome, factoring, Leaves}
-use Rattle.factoring.specs.Needs.{Lists, AllClear, FactorReady}
+use Rattle.passing.specs.Needs.{Lists}
+use Rattle.factoring.specs.Needs.{AllClear, FactorReady}
 use Rattle.factor_calls.specs.Lengths.{lentOf, lentLengths, lentOutcome}
 use Rattle.factor_calls.specs.Calls.{refusal, unlessRefused, factorCallOf}
 use Rattle.factor_calls.specs.declared.Lent.{Lent}

@@ -1,6 +1,3 @@
-pub mod WorkingRow
-pub mod PassOne
-pub mod PassTwo
 pub mod Outcomes
 pub mod StructuralStart
 pub mod OwnSet

@@ -19,13 +19,14 @@ use Rattle.elimination.proofs.Schedule.{schedule-holds}
 use Rattle.elimination.proofs.Order.{rows-rising}
 use Rattle.turning.proofs.Storage.{FilledWith, holds-filled}
 use Rattle.pivoting.specs.State.{pivotRows}
-use Rattle.pivoting.specs.Passing.{pairsOf, Passed}
+use Rattle.pivoting.specs.Passing.{pairsOf, PassLeaves}
 use Rattle.pivoting.proofs.Steps.{entries-values}
 use Rattle.pivoting.proofs.Schedules.{pairs-many}
 use Rattle.pivoting.proofs.Sizes.{rank-most}
 use Rattle.factoring.specs.Outcome.{Outcome, refusedAt, done, factoringFrom, Leaves}
-use Rattle.factoring.specs.Needs.{FromReady, AllClear, FoundFrom, CompleteReady, CompletedFor}
-use Rattle.factoring.proofs.WorkingRow.{lists-same, zeros-self}
+use Rattle.passing.specs.Needs.{FromReady, FoundFrom, CompleteReady, CompletedFor}
+use Rattle.factoring.specs.Needs.{AllClear}
+use Rattle.passing.proofs.WorkingRow.{lists-same, zeros-self}
 
 cleared-filled : (l : List ℕ) → l ≡ zeros (length l) → l ≡ filled (length l) []
 cleared-filled l e = e ∙ sym (filled-none (length l))
@@ -95,7 +96,7 @@ module _ (p s : ℕ) (A : Compressed) (R C : List ℕ) (L U : Compressed) (w : L
   small : (i j : ℕ) → i < n → j < m → matrix A i j < p
   small i j a b = form-below p m (A .starts) (A .cols) (A .vals) (h .lists .formed) i j (omega (arith, h .lists .prime .two))
 
-  module _ (roomL roomU : ℕ) (R₁ C₁ : List ℕ) (L₁ U₁ : Compressed) (over : Bool) (stop r at l total : ℕ) (q : Passed p s A R C m roomL roomU R₁ C₁ L₁ U₁ over stop r at l total) where
+  module _ (roomL roomU : ℕ) (R₁ C₁ : List ℕ) (L₁ U₁ : Compressed) (over : Bool) (stop r at l total : ℕ) (q : PassLeaves p s A R C m roomL roomU R₁ C₁ L₁ U₁ over stop r at l total) where
     pub from-refused : over ≡ true → (R₂ C₂ : List ℕ) (L₂ U₂ : Compressed) (w₂ : List ℕ) → AllClear R₂ C₂ L₂ U₂ w₂ → Leaves (outcome roomL roomU) 7 stop 0 0 R₂ C₂ L₂ U₂ w₂
     unfolding factoringFrom
     from-refused e R₂ C₂ L₂ U₂ w₂ z = rw (q .stopped e) (leaves-refused stop R₂ C₂ L₂ U₂ w₂ z)

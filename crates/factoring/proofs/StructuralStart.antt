@@ -15,8 +15,9 @@ use Rattle.ordering.specs.Search.{PairsFound}
 use Rattle.pivoting.specs.Passing.{pairsIn, pairsOf}
 use Rattle.pivoting.proofs.Schedules.{pairs-again}
 use Rattle.factoring.specs.Outcome.{factoringFrom, factoring, Leaves}
-use Rattle.factoring.specs.Needs.{FromReady, FactorReady}
-use Rattle.factoring.proofs.WorkingRow.{part-clear, whole-again, lists-same}
+use Rattle.passing.specs.Needs.{FromReady}
+use Rattle.factoring.specs.Needs.{FactorReady}
+use Rattle.passing.proofs.WorkingRow.{part-clear, whole-again, lists-same}
 
 -- a list that is filled has room for what it is filled with, and begins with it
 module _ (n : ℕ) (xs l : List ℕ) (e : l ≡ filled n xs) (long : length l ≡ n) where

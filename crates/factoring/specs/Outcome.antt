@@ -12,6 +12,7 @@ use mathlib.Core.List.{List, []}
 use mathlib.Core.Option.{Option, none, some}
 use lib.ListN.{length}
 use Rattle.lists.specs.Filled.{zeros, filled}
+use Rattle.lists.specs.Table.{storageTooShort}
 use Rattle.algebra.specs.Matrix.{Matrix}
 use Rattle.sparse.specs.Matrix.{Compressed, compressed, matrix}
 use Rattle.sparse.specs.Set.{Set}
@@ -29,7 +30,7 @@ pub record Outcome : Type 0 where
   pub U : Compressed
 
 abbrev pub refusedAt : ℕ → Outcome
-refusedAt i = record { number = 7; detail = i; rank = 0; structural = 0; R = []; C = []; L = compressed [] [] []; U = compressed [] [] [] }
+refusedAt i = record { number = storageTooShort; detail = i; rank = 0; structural = 0; R = []; C = []; L = compressed [] [] []; U = compressed [] [] [] }
 
 abbrev pub done : ℕ → Set → Outcome
 done s g = record { number = 0; detail = 0; rank = g .r; structural = s; R = g .R; C = g .C; L = g .L; U = g .U }

@@ -4,11 +4,12 @@ ghost use lib.ListN.{length};
 ghost use Rattle.sparse.specs.Matrix.{compressed, matrix};
 ghost use Rattle.pivoting.specs.Passing.{pairsOf};
 ghost use Rattle.factoring.specs.Outcome.{factoringFrom, factoring, Leaves};
-ghost use Rattle.factoring.specs.Needs.{FromReady, FactorReady};
+ghost use Rattle.passing.specs.Needs.{FromReady};
+ghost use Rattle.factoring.specs.Needs.{FactorReady};
 use crate::clearing::clear_all;
-use crate::passes::pass_one;
-use crate::passes::pass_two;
 use ordering::pairs::structural_pairs;
+use passing::passes::pass_one;
+use passing::passes::pass_two;
 use residue::Modulus;
 
 // What factoring returns: document 01's number with its detail, the rank and the number of structural pivots.

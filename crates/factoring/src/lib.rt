@@ -1,4 +1,3 @@
 // Factoring: the pivot rules of document 01 in two passes over lent lists.
 pub mod clearing;
 pub mod factor;
-pub mod passes;

@@ -11,7 +11,7 @@ use Rattle.lists.specs.Tests.{first}
 use Rattle.algebra.specs.Matrix.{Vector}
 use Rattle.sparse.specs.Matrix.{Compressed}
 use Rattle.turning.specs.Gathering.{multiplesBy, remainderBy}
-use Rattle.turning.specs.Taking.{PairReady, Taken}
+use Rattle.turning.specs.Taking.{PairReady, RowFound}
 use Rattle.pivoting.specs.Turning.{lowerOf, remainderOf, columnOf}
 
 -- ---- a row stays out of the orders
@@ -33,10 +33,10 @@ pub pair-at : (p i c k r at l total : ℕ) (A : Compressed) (w lc lv uc uv : Lis
 pair-at p i c k r at l total A w lc lv uc uv e h = rw e h
 
 module _ (p m : ℕ) (paired : Bool) (r at l total : ℕ) (C : List ℕ) (U : Compressed) (y : Vector) (lc₀ lv₀ uc₀ uv₀ lc lv uc uv work : List ℕ) (over : Bool) (found at′ l′ total′ : ℕ) where
-  pub found-pair : paired ≡ true → (c : ℕ) → c ≡ getD C r 0 → Taken p m at l total (zeros r) y c lc₀ lv₀ uc₀ uv₀ lc lv uc uv work over found at′ l′ total′
-      → Taken p m at l total (lowerOf p paired r C U y) (remainderOf p paired r C U y) (columnOf p m paired r C U y) lc₀ lv₀ uc₀ uv₀ lc lv uc uv work over found at′ l′ total′
+  pub found-pair : paired ≡ true → (c : ℕ) → c ≡ getD C r 0 → RowFound p m at l total (zeros r) y c lc₀ lv₀ uc₀ uv₀ lc lv uc uv work over found at′ l′ total′
+      → RowFound p m at l total (lowerOf p paired r C U y) (remainderOf p paired r C U y) (columnOf p m paired r C U y) lc₀ lv₀ uc₀ uv₀ lc lv uc uv work over found at′ l′ total′
   found-pair e c ec t = rw (e, sym ec) t
 
-  pub found-other : paired ≡ false → Taken p m at l total (multiplesBy p r C U y) (remainderBy p r C U y) (first m (λ j. eqb (remainderBy p r C U y j) 0)) lc₀ lv₀ uc₀ uv₀ lc lv uc uv work over found at′ l′ total′
-      → Taken p m at l total (lowerOf p paired r C U y) (remainderOf p paired r C U y) (columnOf p m paired r C U y) lc₀ lv₀ uc₀ uv₀ lc lv uc uv work over found at′ l′ total′
+  pub found-other : paired ≡ false → RowFound p m at l total (multiplesBy p r C U y) (remainderBy p r C U y) (first m (λ j. eqb (remainderBy p r C U y j) 0)) lc₀ lv₀ uc₀ uv₀ lc lv uc uv work over found at′ l′ total′
+      → RowFound p m at l total (lowerOf p paired r C U y) (remainderOf p paired r C U y) (columnOf p m paired r C U y) lc₀ lv₀ uc₀ uv₀ lc lv uc uv work over found at′ l′ total′
   found-other e t = rw e t

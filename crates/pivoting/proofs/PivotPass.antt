@@ -21,9 +21,9 @@ use Rattle.elimination.proofs.Completion.{completed}
 use Rattle.elimination.proofs.Invariant.{Invariant, nothing-holds}
 use Rattle.elimination.proofs.Turns.{other-either}
 use Rattle.turning.proofs.Storage.{holds-none}
-use Rattle.pivoting.specs.State.{pivotRows, pivotLowers, State, turnOf, Turned}
-use Rattle.pivoting.specs.Turning.{Lent, PairAt, TurnReady, RowTurned}
-use Rattle.pivoting.specs.Passing.{pairsOf, Cleared, PassReady, Passed}
+use Rattle.pivoting.specs.State.{pivotRows, pivotLowers, State, turnOf, AfterTurn}
+use Rattle.pivoting.specs.Turning.{Lent, PairAt, TurnReady, TurnLeaves}
+use Rattle.pivoting.specs.Passing.{pairsOf, Cleared, PassReady, PassLeaves}
 use Rattle.pivoting.proofs.Steps.{rank-more}
 use Rattle.pivoting.proofs.Readiness.{turn-holds}
 use Rattle.pivoting.proofs.Schedules.{Remaining, remaining-starts, remaining-turn, remaining-over, remaining-none, rows-are, columns-are, pairs-many, schedule-turn, schedule-ends}
@@ -213,11 +213,11 @@ module _ (p s : ℕ) (A : Compressed) (R₀ C₀ : List ℕ) (L₀ U₀ : Compre
           go false e = ap other (sym row-is)
 
       module _ (R′ C′ : List ℕ) (L′ U′ : Compressed) (w′ : List ℕ) (over : Bool) (r′ at′ l′ total′ : ℕ)
-          (d : RowTurned p (getD R k 0) (ltb k s) A R C L U w r at l total R′ C′ L′ U′ w′ over r′ at′ l′ total′) where
+          (d : TurnLeaves p (getD R k 0) (ltb k s) A R C L U w r at l total R′ C′ L′ U′ w′ over r′ at′ l′ total′) where
         abbrev found : Found
         found = turn p m (matrix A) (t .f) taken
 
-        turned : Turned found m (length (L₀ .cols)) (length (U₀ .cols)) R′ C′ L′ U′ w′ over r′ at′ l′ total′
+        turned : AfterTurn found m (length (L₀ .cols)) (length (U₀ .cols)) R′ C′ L′ U′ w′ over r′ at′ l′ total′
         turned =
             rw (t .same .w-long, t .same .lc-long, t .same .uc-long) at (d .turned (t .f) (t .state))
 
@@ -258,7 +258,7 @@ module _ (p s : ℕ) (A : Compressed) (R₀ C₀ : List ℕ) (L₀ U₀ : Compre
               }
 
     pub passing-ends : (R C : List ℕ) (L U : Compressed) (w : List ℕ) (k r at l total : ℕ) → Passing R C L U w k r at l total → n ≤ k → (stop : ℕ)
-        → Passed p s A R₀ C₀ m (length (L₀ .cols)) (length (U₀ .cols)) R C L U false stop r at l total
+        → PassLeaves p s A R₀ C₀ m (length (L₀ .cols)) (length (U₀ .cols)) R C L U false stop r at l total
     passing-ends R C L U w k r at l total t b stop =
         let q = remaining-none p m (matrix A) (length (L₀ .cols)) (length (U₀ .cols)) nothing all (t .f) (drop k all) (t .left) (schedule-ends s R₀ C₀ (h .rows-inside) (h .columns-inside) (h .order) k b) in
         record {
@@ -271,7 +271,7 @@ module _ (p s : ℕ) (A : Compressed) (R₀ C₀ : List ℕ) (L₀ U₀ : Compre
     passing-clear R C L U w k r at l total t = t .clear ∙ ap zeros (t .same .w-long)
 
 pub passed-over : (p s : ℕ) (A : Compressed) (R₀ C₀ : List ℕ) (m roomL roomU : ℕ) (R C : List ℕ) (L U : Compressed) (over : Bool) (stop r at l total : ℕ)
-    → over ≡ true → firstOver p m (matrix A) roomL roomU nothing (schedule (length R₀) (pairsOf s R₀ C₀)) ≡ some stop → Passed p s A R₀ C₀ m roomL roomU R C L U over stop r at l total
+    → over ≡ true → firstOver p m (matrix A) roomL roomU nothing (schedule (length R₀) (pairsOf s R₀ C₀)) ≡ some stop → PassLeaves p s A R₀ C₀ m roomL roomU R C L U over stop r at l total
 passed-over p s A R₀ C₀ m roomL roomU R C L U over stop r at l total e q =
     record { stopped = λ z. q; fitted = λ z. absurd (true≢false (sym e ∙ z)); state = λ z. absurd (true≢false (sym e ∙ z)) }
 

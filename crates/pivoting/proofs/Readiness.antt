@@ -21,7 +21,7 @@ use Rattle.elimination.specs.Factoring.{entries}
 use Rattle.elimination.proofs.Invariant.{columns-many, uppers-many, Invariant}
 use Rattle.elimination.proofs.Turns.{other-holds, pair-holds}
 use Rattle.turning.specs.Gathering.{cut, GatherReadyFrom}
-use Rattle.turning.specs.Settling.{ListsReady}
+use Rattle.turning.specs.PivotRow.{ListsReady}
 use Rattle.turning.proofs.Storage.{holds-cut}
 use Rattle.pivoting.specs.State.{State, turnOf}
 use Rattle.pivoting.specs.Turning.{FindReady, Lent, PairAt, TurnReady}

@@ -20,7 +20,7 @@ use Rattle.elimination.proofs.Listed.{snoc-length, map-append}
 use Rattle.elimination.proofs.Invariant.{uppers-many}
 use Rattle.elimination.proofs.Room.{entries-stored}
 use Rattle.turning.specs.Storage.{Holds}
-use Rattle.turning.specs.Taking.{upperRow, PivotTaken, DependentTaken}
+use Rattle.turning.specs.Taking.{upperRow, PivotFound, DependentFound}
 use Rattle.turning.proofs.Storage.{holds-more, holds-same}
 use Rattle.pivoting.specs.State.{pivotRows, pivotLowers, State}
 
@@ -120,7 +120,7 @@ front-more xs l r x e h = ap (λ (k : ℕ). take k (set l r x)) (add-one r) ∙ 
 module _ (f : Found) (R C : List ℕ) (L U : Compressed) (r at l total : ℕ) (s : State f R C L U r at l total) (L-paired : length (L .cols) ≡ length (L .vals)) (U-paired : length (U .cols) ≡ length (U .vals)) where
   -- it is a pivot row
   module _ (p m i c : ℕ) (cs : List ℕ) (w : Vector) (lc lv uc uv : List ℕ) (over : Bool) (at′ l′ total′ : ℕ)
-      (t : PivotTaken p m at l total cs w c (L .cols) (L .vals) (U .cols) (U .vals) lc lv uc uv over at′ l′ total′) where
+      (t : PivotFound p m at l total cs w c (L .cols) (L .vals) (U .cols) (U .vals) lc lv uc uv over at′ l′ total′) where
     pub pivot-fits : fits (length (L .cols)) (length (U .cols)) (withPivot p m f i c cs w) ≡ not over
     unfolding fits
     pivot-fits =
@@ -169,7 +169,7 @@ module _ (f : Found) (R C : List ℕ) (L U : Compressed) (r at l total : ℕ) (s
           }
 
   -- it is dependent
-  module _ (i : ℕ) (cs lc lv uc uv : List ℕ) (over : Bool) (at′ l′ total′ : ℕ) (t : DependentTaken at l total cs (L .cols) (L .vals) (U .cols) (U .vals) lc lv uc uv over at′ l′ total′)
+  module _ (i : ℕ) (cs lc lv uc uv : List ℕ) (over : Bool) (at′ l′ total′ : ℕ) (t : DependentFound at l total cs (L .cols) (L .vals) (U .cols) (U .vals) lc lv uc uv over at′ l′ total′)
       (U-fits : at ≤ length (U .cols)) where
     pub dependent-fits : fits (length (L .cols)) (length (U .cols)) (withDependent f i cs) ≡ not over
     unfolding fits withDependent uppersOf

@@ -12,9 +12,9 @@ use Rattle.sparse.specs.Matrix.{Compressed, compressed, matrix}
 use Rattle.elimination.specs.Pivots.{Found, rankOf, turn}
 use Rattle.elimination.proofs.Invariant.{Invariant}
 use Rattle.turning.specs.Gathering.{cut}
-use Rattle.turning.specs.Taking.{Taken}
+use Rattle.turning.specs.Taking.{RowFound}
 use Rattle.pivoting.specs.State.{turnOf}
-use Rattle.pivoting.specs.Turning.{lowerOf, remainderOf, columnOf, TurnReady, RowTurned}
+use Rattle.pivoting.specs.Turning.{lowerOf, remainderOf, columnOf, TurnReady, TurnLeaves}
 use Rattle.pivoting.proofs.Finding.{stays-true, stays-false}
 use Rattle.pivoting.proofs.Sizes.{rank-most, U-most, L-most}
 use Rattle.pivoting.proofs.Readiness.{turn-holds}
@@ -31,9 +31,9 @@ module _ (p i : ℕ) (paired : Bool) (A : Compressed) (R C : List ℕ) (L U : Co
   paired-inside : paired ≡ true → getD C r 0 < m
   paired-inside e = h .pair e .column
 
-  module _ (t : Taken p m at l total (lowerOf p paired r C cutU (matrix A i)) (remainderOf p paired r C cutU (matrix A i)) (columnOf p m paired r C cutU (matrix A i)) (L .cols) (L .vals) (U .cols) (U .vals) lc lv uc uv work over column at′ l′ total′)
+  module _ (t : RowFound p m at l total (lowerOf p paired r C cutU (matrix A i)) (remainderOf p paired r C cutU (matrix A i)) (columnOf p m paired r C cutU (matrix A i)) (L .cols) (L .vals) (U .cols) (U .vals) lc lv uc uv work over column at′ l′ total′)
       (b : Bool) (wide : ℕ) (ew : wide ≡ m) (eb : b ≡ (over || eqb column wide)) where
-    pub row-stays : b ≡ true → RowTurned p i paired A R C L U w r at l total R C (compressed (L .starts) lc lv) (compressed (U .starts) uc uv) work over r at′ l′ total′
+    pub row-stays : b ≡ true → TurnLeaves p i paired A R C L U w r at l total R C (compressed (L .starts) lc lv) (compressed (U .starts) uc uv) work over r at′ l′ total′
     row-stays e =
         record {
           turned = λ f s. turned-stays p m (matrix A) i paired f R C L U r at l total s paired-inside (h .lent .L-paired) (h .lent .U-paired) (h .U-room) lc lv uc uv work over column at′ l′ total′ t
@@ -88,7 +88,7 @@ module _ (p i : ℕ) (paired : Bool) (A : Compressed) (R C : List ℕ) (L U : Co
       rank-inside = omega (arith, rank-is, rank-most p (length R) m (matrix A) found holds, h .lent .columns)
 
       pub row-enters : (R′ C′ ls′ us′ : List ℕ) → R′ ≡ set R r i → C′ ≡ set C r column → ls′ ≡ set (L .starts) (r + 1) l′ → us′ ≡ set (U .starts) (r + 1) at′
-          → RowTurned p i paired A R C L U w r at l total R′ C′ (compressed ls′ lc lv) (compressed us′ uc uv) work false (r + 1) at′ l′ total′
+          → TurnLeaves p i paired A R C L U w r at l total R′ C′ (compressed ls′ lc lv) (compressed us′ uc uv) work false (r + 1) at′ l′ total′
       row-enters R′ C′ ls′ us′ eR eC el eu =
           rw (eR, eC, el, eu) (record {
             turned = λ f s. turned-enters p m (matrix A) i paired f R C L U r at l total s paired-inside (h .lent .L-paired) (h .lent .U-paired) (h .U-room) lc lv uc uv work over column at′ l′ total′ t fitted apart

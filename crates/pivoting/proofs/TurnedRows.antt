@@ -19,9 +19,9 @@ use Rattle.elimination.specs.Pivots.{Found, uppersOf, upper, rankOf, reducedBy,
 use Rattle.elimination.specs.Factoring.{entries, fits}
 use Rattle.turning.specs.Loading.{multiples}
 use Rattle.turning.specs.Gathering.{cut, multiplesBy, remainderBy}
-use Rattle.turning.specs.Taking.{Taken}
+use Rattle.turning.specs.Taking.{RowFound}
 use Rattle.turning.proofs.TakenRows.{first-most}
-use Rattle.pivoting.specs.State.{pivotLowers, State, turnOf, Turned}
+use Rattle.pivoting.specs.State.{pivotLowers, State, turnOf, AfterTurn}
 use Rattle.pivoting.specs.Turning.{lowerOf, remainderOf, columnOf}
 use Rattle.pivoting.proofs.Steps.{rank-more, pivot-U-entries, pivot-lower-entries, pivot-fits, pivot-state, dependent-fits, dependent-state}
 use Rattle.pivoting.proofs.Readiness.{cut-found}
@@ -89,7 +89,7 @@ module _ (p m : ℕ) (A : Matrix) (i : ℕ) (paired : Bool) (f : Found) (R C : L
 
   module _ (L-paired : length (L .cols) ≡ length (L .vals)) (U-paired : length (U .cols) ≡ length (U .vals)) (U-fits : at ≤ length (U .cols))
       (lc lv uc uv work : List ℕ) (over : Bool) (column at′ l′ total′ : ℕ)
-      (t : Taken p m at l total cs w c (L .cols) (L .vals) (U .cols) (U .vals) lc lv uc uv work over column at′ l′ total′) where
+      (t : RowFound p m at l total cs w c (L .cols) (L .vals) (U .cols) (U .vals) lc lv uc uv work over column at′ l′ total′) where
     taken-fits : fits (length (L .cols)) (length (U .cols)) found ≡ not over
     taken-fits = go (decLt c m)
       where
@@ -100,7 +100,7 @@ module _ (p m : ℕ) (A : Matrix) (i : ℕ) (paired : Bool) (f : Found) (R C : L
             ∙ dependent-fits f R C L U r at l total s L-paired U-paired i cs lc lv uc uv over at′ l′ total′ (t .dependent (omega arith)) U-fits
 
     -- it did not fit, or it is dependent
-    pub turned-stays : (over ≡ false → column ≡ m) → Turned found m (length (L .cols)) (length (U .cols)) R C (compressed (L .starts) lc lv) (compressed (U .starts) uc uv) work over r at′ l′ total′
+    pub turned-stays : (over ≡ false → column ≡ m) → AfterTurn found m (length (L .cols)) (length (U .cols)) R C (compressed (L .starts) lc lv) (compressed (U .starts) uc uv) work over r at′ l′ total′
     turned-stays h =
         record {
           fit = taken-fits;
@@ -132,7 +132,7 @@ module _ (p m : ℕ) (A : Matrix) (i : ℕ) (paired : Bool) (f : Found) (R C : L
       l-found = t .pivot inside .lower e .place ∙ omega (arith, s .pivot-entries, ap (λ (g : Found). entries (pivotLowers g)) (pivot-is inside) ∙ pivot-lower-entries p m f i c cs w)
 
       pub turned-enters : r < length R → r < length C → r + 1 < length (L .starts) → r + 1 < length (U .starts)
-          → Turned found m (length (L .cols)) (length (U .cols)) (set R r i) (set C r column) (compressed (set (L .starts) (r + 1) l′) lc lv) (compressed (set (U .starts) (r + 1) at′) uc uv) work false (r + 1) at′ l′ total′
+          → AfterTurn found m (length (L .cols)) (length (U .cols)) (set R r i) (set C r column) (compressed (set (L .starts) (r + 1) l′) lc lv) (compressed (set (U .starts) (r + 1) at′) uc uv) work false (r + 1) at′ l′ total′
       turned-enters hR hC hL hU =
           record {
             fit = taken-fits ∙ ap not e;

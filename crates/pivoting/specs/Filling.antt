@@ -1,9 +1,9 @@
 -- The second pass: the rows of L of the dependent rows, each found again by the finished rows of U.
---   LowerReady p i r at l A ..         row i can be reduced, and there is room for its row of L at place l
---   LowerStored p i r at l A ..        its row of L is stored, and the working row is cleared
---   FillFrom p A R C L U w r at l ..   the lists hold the pivots of f, R has all its rows in order, and L has room for all its entries
---   FillReady ..                       so it is, for some f
---   FillDone f h                       the lists of h are filled with the rows of L that f has
+--   LowerReady p i r at l A ..          row i can be reduced, and there is room for its row of L at place l
+--   LowerStored p i r at l A ..         its row of L is stored, and the working row is cleared
+--   FillFrom p A R C L U w r at l ..    the lists hold the pivots of f, R has all its rows in order, and L has room for all its entries
+--   FillReady ..                        so it is, for some f
+--   FillDone f h                        the lists of h are filled with the rows of L that f has
 use Prim.Native.Nat.{ℕ, _+_, _≤_}
 use mathlib.Core.Path.{_≡_}
 use mathlib.Core.List.{List}

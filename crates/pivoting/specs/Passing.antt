@@ -1,9 +1,9 @@
 -- The first pass: every row in the order of the schedule.
---   pairsIn is cs                  the pairs of the rows `is` and the columns `cs`, place by place
---   pairsOf s R C                  the pairs that the first s places of R and C hold
---   Cleared h                      the lists of h are all zero
---   PassReady p s A R C L U w      the pairs can be pivots as they stand, R has their rows and then the other rows rising, and the factors' lists are all zero
---   Passed p s A R₀ C₀ ..          the lists hold what the schedule finds, unless row `stop` is the first whose entries do not fit
+--   pairsIn is cs                the pairs of the rows `is` and the columns `cs`, place by place
+--   pairsOf s R C                the pairs that the first s places of R and C hold
+--   Cleared h                    the lists of h are all zero
+--   PassReady p s A R C L U w    the pairs can be pivots as they stand, R has their rows and then the other rows rising, and the factors' lists are all zero
+--   PassLeaves p s A R₀ C₀ ..    the lists hold what the schedule finds, unless row `stop` is the first whose entries do not fit
 use Prim.Native.Nat.{ℕ, _≤_}
 use mathlib.Core.Path.{_≡_}
 use mathlib.Core.Bool.{Bool, true, false}
@@ -41,7 +41,7 @@ pub record PassReady (p s : ℕ) (A : Compressed) (R C : List ℕ) (L U : Compre
   pub L-clear : Cleared L
   pub U-clear : Cleared U
 
-pub record Passed (p s : ℕ) (A : Compressed) (R₀ C₀ : List ℕ) (m roomL roomU : ℕ) (R C : List ℕ) (L U : Compressed) (over : Bool) (stop r at l total : ℕ) : Type 0 where
+pub record PassLeaves (p s : ℕ) (A : Compressed) (R₀ C₀ : List ℕ) (m roomL roomU : ℕ) (R C : List ℕ) (L U : Compressed) (over : Bool) (stop r at l total : ℕ) : Type 0 where
   pub stopped : over ≡ true → firstOver p m (matrix A) roomL roomU nothing (schedule (length R₀) (pairsOf s R₀ C₀)) ≡ some stop
   pub fitted : over ≡ false → firstOver p m (matrix A) roomL roomU nothing (schedule (length R₀) (pairsOf s R₀ C₀)) ≡ none
   pub state : over ≡ false → State (turns p m (matrix A) nothing (schedule (length R₀) (pairsOf s R₀ C₀))) R C L U r at l total

@@ -1,9 +1,9 @@
 -- What the lent lists hold of the pivots found so far.
---   pivotRows, pivotLowers f      the rows of the pivots, and their rows of L
---   State f R C L U r at l total  R and C begin with the pivots' rows and columns, U holds the rows of U, L those of the pivot rows; r counts the pivots,
---                                 `at` the entries of U, l those of L's pivot rows, `total` all of L, with the dependent rows
---   turnOf paired i c             the turn of row i: with its column c where it is paired
---   Turned f ..                   what a turn leaves that finds f: unless it does not fit, the state of f and a working row that is all zero
+--   pivotRows, pivotLowers f        the rows of the pivots, and their rows of L
+--   State f R C L U r at l total    R and C begin with the pivots' rows and columns, U holds the rows of U, L those of the pivot rows; r counts the pivots,
+--                                   `at` the entries of U, l those of L's pivot rows, `total` all of L, with the dependent rows
+--   turnOf paired i c               the turn of row i: with its column c where it is paired
+--   AfterTurn f ..                  what a turn leaves that finds f: unless it does not fit, the state of f and a working row that is all zero
 use Prim.Native.Nat.{ℕ}
 use mathlib.Core.Path.{_≡_}
 use mathlib.Core.Bool.{Bool, false, not, cond}
@@ -34,7 +34,7 @@ pub record State (f : Found) (R C : List ℕ) (L U : Compressed) (r at l total :
 abbrev pub turnOf : Bool → ℕ → ℕ → Turn
 turnOf paired i c = cond paired (pair (record { row = i; column = c })) (other i)
 
-pub record Turned (f : Found) (m roomL roomU : ℕ) (R C : List ℕ) (L U : Compressed) (work : List ℕ) (over : Bool) (r at l total : ℕ) : Type 0 where
+pub record AfterTurn (f : Found) (m roomL roomU : ℕ) (R C : List ℕ) (L U : Compressed) (work : List ℕ) (over : Bool) (r at l total : ℕ) : Type 0 where
   pub fit : fits roomL roomU f ≡ not over
   pub state : over ≡ false → State f R C L U r at l total
   pub clear : over ≡ false → work ≡ zeros m

@@ -1,11 +1,11 @@
 -- One turn: what it needs and leaves.
---   lowerOf, remainderOf, columnOf     the multiples taken away from a row, what remains of it, and its pivot column (m where nothing remains):
---                                      a paired row is taken as it stands, with its own column
---   FindReady ..                       the row can be taken, as a pair or reduced
---   Lent p A R C L U w                 what is lent to the factoring: a stored matrix in its form, lists of its sizes, and a working row that is all zero
---   PairAt m A i r C                   row i can be the pivot row of column C[r] as it stands
---   TurnReady ..                       row i can be taken, where the lists hold what was found before it
---   RowTurned ..                       it was taken, as the definition's turn says; the rows ahead in R are as they were, and C too where it was paired
+--   lowerOf, remainderOf, columnOf    the multiples taken away from a row, what remains of it, and its pivot column (m where nothing remains):
+--                                     a paired row is taken as it stands, with its own column
+--   FindReady ..                      the row can be taken, as a pair or reduced
+--   Lent p A R C L U w                what is lent to the factoring: a stored matrix in its form, lists of its sizes, and a working row that is all zero
+--   PairAt m A i r C                  row i can be the pivot row of column C[r] as it stands
+--   TurnReady ..                      row i can be taken, where the lists hold what was found before it
+--   TurnLeaves ..                     it was taken, as the definition's turn says; the rows ahead in R are as they were, and C too where it was paired
 use Prim.Native.Nat.{ℕ, _+_, _*_, _^_, _≤_, _<_}
 use mathlib.Core.Path.{_≡_}
 use mathlib.Core.Bool.{Bool, true, false, cond}
@@ -21,7 +21,7 @@ use Rattle.elimination.specs.Pivots.{Found, turn}
 use Rattle.elimination.proofs.Invariant.{Invariant}
 use Rattle.turning.specs.Gathering.{multiplesBy, remainderBy}
 use Rattle.turning.specs.Taking.{PairReady, OtherReady}
-use Rattle.pivoting.specs.State.{State, turnOf, Turned}
+use Rattle.pivoting.specs.State.{State, turnOf, AfterTurn}
 
 abbrev pub lowerOf : ℕ → Bool → ℕ → List ℕ → Compressed → Vector → List ℕ
 lowerOf p paired r C U y = cond paired (zeros r) (multiplesBy p r C U y)
@@ -68,8 +68,8 @@ pub record TurnReady (p i : ℕ) (paired : Bool) (A : Compressed) (R C : List �
   pub state : State f R C L U r at l total
   pub pair : paired ≡ true → PairAt (length w) (matrix A) i r C
 
-pub record RowTurned (p i : ℕ) (paired : Bool) (A : Compressed) (R₀ C₀ : List ℕ) (L₀ U₀ : Compressed) (w₀ : List ℕ) (r₀ at₀ l₀ total₀ : ℕ) (R C : List ℕ) (L U : Compressed) (w : List ℕ) (over : Bool) (r at l total : ℕ) : Type 0 where
+pub record TurnLeaves (p i : ℕ) (paired : Bool) (A : Compressed) (R₀ C₀ : List ℕ) (L₀ U₀ : Compressed) (w₀ : List ℕ) (r₀ at₀ l₀ total₀ : ℕ) (R C : List ℕ) (L U : Compressed) (w : List ℕ) (over : Bool) (r at l total : ℕ) : Type 0 where
   pub turned : (f : Found) → State f R₀ C₀ L₀ U₀ r₀ at₀ l₀ total₀
-      → Turned (turn p (length w₀) (matrix A) f (turnOf paired i (getD C₀ r₀ 0))) (length w₀) (length (L₀ .cols)) (length (U₀ .cols)) R C L U w over r at l total
+      → AfterTurn (turn p (length w₀) (matrix A) f (turnOf paired i (getD C₀ r₀ 0))) (length w₀) (length (L₀ .cols)) (length (U₀ .cols)) R C L U w over r at l total
   pub ahead : drop (r₀ + 1) R ≡ drop (r₀ + 1) R₀
   pub columns : paired ≡ true → C ≡ C₀

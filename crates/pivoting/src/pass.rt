@@ -4,7 +4,7 @@ ghost use mathlib.Core.Bool.{false};
 ghost use lib.ListN.{length};
 ghost use Rattle.lists.specs.Filled.{zeros};
 ghost use Rattle.sparse.specs.Matrix.{compressed};
-ghost use Rattle.pivoting.specs.Passing.{PassReady, Passed};
+ghost use Rattle.pivoting.specs.Passing.{PassReady, PassLeaves};
 use crate::turn::Progress;
 use crate::turn::take_row;
 use residue::Modulus;
@@ -34,7 +34,7 @@ pub fn find_pivots(
     work: &mut [u64],
 ) -> Pass
     requires { ⌜ PassReady (q .p) s (compressed (now ss) (now cols) (now vals)) (now rows) (now columns) (compressed (now ls) (now lc) (now lv)) (compressed (now us) (now uc) (now uv)) (now work) ⌝ }
-    ensures { λ to. ⌜ Passed (q .p) s (compressed (now (ss .entry)) (now (cols .entry)) (now (vals .entry))) (now (rows .entry)) (now (columns .entry)) (length (now (work .entry))) (length (now (lc .entry))) (length (now (uc .entry))) (now (rows .exit)) (now (columns .exit)) (compressed (now (ls .exit)) (now (lc .exit)) (now (lv .exit))) (compressed (now (us .exit)) (now (uc .exit)) (now (uv .exit))) (to .so .over) (to .stop) (to .so .r) (to .so .at) (to .so .l) (to .so .total) × (to .so .over ≡ false → now (work .exit) ≡ zeros (length (now (work .entry)))) ⌝ }
+    ensures { λ to. ⌜ PassLeaves (q .p) s (compressed (now (ss .entry)) (now (cols .entry)) (now (vals .entry))) (now (rows .entry)) (now (columns .entry)) (length (now (work .entry))) (length (now (lc .entry))) (length (now (uc .entry))) (now (rows .exit)) (now (columns .exit)) (compressed (now (ls .exit)) (now (lc .exit)) (now (lv .exit))) (compressed (now (us .exit)) (now (uc .exit)) (now (uv .exit))) (to .so .over) (to .stop) (to .so .r) (to .so .at) (to .so .l) (to .so .total) × (to .so .over ≡ false → now (work .exit) ≡ zeros (length (now (work .entry)))) ⌝ }
 {
     let mut so = Progress {
         over: false,

@@ -6,11 +6,11 @@ ghost use lib.Dec.{eqb};
 ghost use lib.ListN.{length, set};
 ghost use Rattle.sparse.specs.Matrix.{compressed, matrix};
 ghost use Rattle.turning.specs.Gathering.{cut};
-ghost use Rattle.turning.specs.Taking.{Taken};
-ghost use Rattle.pivoting.specs.Turning.{lowerOf, remainderOf, columnOf, FindReady, TurnReady, RowTurned};
+ghost use Rattle.turning.specs.Taking.{RowFound};
+ghost use Rattle.pivoting.specs.Turning.{lowerOf, remainderOf, columnOf, FindReady, TurnReady, TurnLeaves};
 use lists::index;
 use residue::Modulus;
-use turning::settling::Step;
+use turning::pivot_row::Step;
 use turning::taking::take_other;
 use turning::taking::take_pair;
 
@@ -45,7 +45,7 @@ fn find(
     work: &mut [u64],
 ) -> Step
     requires { ⌜ FindReady (q .p) i paired r at l total (compressed (now ss) (now cols) (now vals)) (now columns) (now us) (now work) (now lc) (now lv) (now uc) (now uv) ⌝ }
-    ensures { λ s. ⌜ Taken (q .p) (length (now (work .entry))) at l total (lowerOf (q .p) paired r (now (columns .entry)) (cut r at (now (us .entry)) (now (uc .entry)) (now (uv .entry))) (matrix (compressed (now (ss .entry)) (now (cols .entry)) (now (vals .entry))) i)) (remainderOf (q .p) paired r (now (columns .entry)) (cut r at (now (us .entry)) (now (uc .entry)) (now (uv .entry))) (matrix (compressed (now (ss .entry)) (now (cols .entry)) (now (vals .entry))) i)) (columnOf (q .p) (length (now (work .entry))) paired r (now (columns .entry)) (cut r at (now (us .entry)) (now (uc .entry)) (now (uv .entry))) (matrix (compressed (now (ss .entry)) (now (cols .entry)) (now (vals .entry))) i)) (now (lc .entry)) (now (lv .entry)) (now (uc .entry)) (now (uv .entry)) (now (lc .exit)) (now (lv .exit)) (now (uc .exit)) (now (uv .exit)) (now (work .exit)) (s .over) (s .column) (s .at) (s .l) (s .total) ⌝ }
+    ensures { λ s. ⌜ RowFound (q .p) (length (now (work .entry))) at l total (lowerOf (q .p) paired r (now (columns .entry)) (cut r at (now (us .entry)) (now (uc .entry)) (now (uv .entry))) (matrix (compressed (now (ss .entry)) (now (cols .entry)) (now (vals .entry))) i)) (remainderOf (q .p) paired r (now (columns .entry)) (cut r at (now (us .entry)) (now (uc .entry)) (now (uv .entry))) (matrix (compressed (now (ss .entry)) (now (cols .entry)) (now (vals .entry))) i)) (columnOf (q .p) (length (now (work .entry))) paired r (now (columns .entry)) (cut r at (now (us .entry)) (now (uc .entry)) (now (uv .entry))) (matrix (compressed (now (ss .entry)) (now (cols .entry)) (now (vals .entry))) i)) (now (lc .entry)) (now (lv .entry)) (now (uc .entry)) (now (uv .entry)) (now (lc .exit)) (now (lv .exit)) (now (uc .exit)) (now (uv .exit)) (now (work .exit)) (s .over) (s .column) (s .at) (s .l) (s .total) ⌝ }
 {
     if paired {
         let c = index(columns[r]);
@@ -138,7 +138,7 @@ pub fn take_row(
     work: &mut [u64],
 ) -> Progress
     requires { ⌜ TurnReady (q .p) i paired (compressed (now ss) (now cols) (now vals)) (now rows) (now columns) (compressed (now ls) (now lc) (now lv)) (compressed (now us) (now uc) (now uv)) (now work) (so .r) (so .at) (so .l) (so .total) ⌝ }
-    ensures { λ to. ⌜ RowTurned (q .p) i paired (compressed (now (ss .entry)) (now (cols .entry)) (now (vals .entry))) (now (rows .entry)) (now (columns .entry)) (compressed (now (ls .entry)) (now (lc .entry)) (now (lv .entry))) (compressed (now (us .entry)) (now (uc .entry)) (now (uv .entry))) (now (work .entry)) (so .r) (so .at) (so .l) (so .total) (now (rows .exit)) (now (columns .exit)) (compressed (now (ls .exit)) (now (lc .exit)) (now (lv .exit))) (compressed (now (us .exit)) (now (uc .exit)) (now (uv .exit))) (now (work .exit)) (to .over) (to .r) (to .at) (to .l) (to .total) ⌝ }
+    ensures { λ to. ⌜ TurnLeaves (q .p) i paired (compressed (now (ss .entry)) (now (cols .entry)) (now (vals .entry))) (now (rows .entry)) (now (columns .entry)) (compressed (now (ls .entry)) (now (lc .entry)) (now (lv .entry))) (compressed (now (us .entry)) (now (uc .entry)) (now (uv .entry))) (now (work .entry)) (so .r) (so .at) (so .l) (so .total) (now (rows .exit)) (now (columns .exit)) (compressed (now (ls .exit)) (now (lc .exit)) (now (lv .exit))) (compressed (now (us .exit)) (now (uc .exit)) (now (uv .exit))) (now (work .exit)) (to .over) (to .r) (to .at) (to .l) (to .total) ⌝ }
 {
     let r = so.r;
     let step = find(

@@ -17,7 +17,7 @@ use Rattle.residue.proofs.Inverse.{Inverse, invMod-inverse}
 use Rattle.sparse.specs.Dense.{nonzeros, scaled}
 use Rattle.sparse.specs.Storing.{StoreReady, RowStored}
 use Rattle.sparse.proofs.Nonzeros.{count-scaled}
-use Rattle.turning.specs.Settling.{SettleReady, Settled}
+use Rattle.turning.specs.PivotRow.{PivotReady, PivotOutcome}
 
 -- ---- the test
 
@@ -60,7 +60,7 @@ inverse-invertible p v i = record { prime = i .prime; nonzero = go (ℕ-discrete
 
 -- ---- before and after the store
 
-module _ (p c r at l total : ℕ) (w lc lv uc uv : List ℕ) (h : SettleReady p c r at l total w lc lv uc uv) where
+module _ (p c r at l total : ℕ) (w lc lv uc uv : List ℕ) (h : PivotReady p c r at l total w lc lv uc uv) where
   abbrev v : ℕ
   v = getD w c 0 % p
 
@@ -76,8 +76,8 @@ module _ (p c r at l total : ℕ) (w lc lv uc uv : List ℕ) (h : SettleReady p 
     tested : (leb (total + 1) (length lc) && leb (at + length (nonzeros (scaled p 1 w))) (length uc)) ≡ b
     tested = ap (λ (n : ℕ). leb (total + 1) (length lc) && leb (at + n) (length uc)) (sym ek) ∙ sym eb
 
-    pub settled-over : b ≡ false → (at′ l′ total′ : ℕ) → Settled p c r at l total w lc lv uc uv w lc lv uc uv true at′ l′ total′
-    settled-over e at′ l′ total′ = record { fit = tested ∙ e; put = λ q. absurd (true≢false q) }
+    pub pivot-over : b ≡ false → (at′ l′ total′ : ℕ) → PivotOutcome p c r at l total w lc lv uc uv w lc lv uc uv true at′ l′ total′
+    pivot-over e at′ l′ total′ = record { fit = tested ∙ e; put = λ q. absurd (true≢false q) }
 
     module _ (e : b ≡ true) where
       pub one-more : total + 1 ≤ length lc
@@ -98,9 +98,9 @@ module _ (p c r at l total : ℕ) (w lc lv uc uv : List ℕ) (h : SettleReady p 
             };
           }
 
-      pub settled-done : (x i : ℕ) → x ≡ v → i ≡ invMod p x → (w′ uc′ uv′ : List ℕ) (at′ : ℕ) → RowStored p i at w uc uv w′ uc′ uv′ at′
-          → Settled p c r at l total w lc lv uc uv w′ (set lc l r) (set lv l x) uc′ uv′ false at′ (l + 1) (total + 1)
-      settled-done x i ex ei w′ uc′ uv′ at′ d =
+      pub pivot-done : (x i : ℕ) → x ≡ v → i ≡ invMod p x → (w′ uc′ uv′ : List ℕ) (at′ : ℕ) → RowStored p i at w uc uv w′ uc′ uv′ at′
+          → PivotOutcome p c r at l total w lc lv uc uv w′ (set lc l r) (set lv l x) uc′ uv′ false at′ (l + 1) (total + 1)
+      pivot-done x i ex ei w′ uc′ uv′ at′ d =
           record {
             fit = tested ∙ e;
             put = λ q. record {

@@ -25,8 +25,8 @@ use Rattle.sparse.proofs.Rows.{form-below}
 use Rattle.sparse.proofs.Nonzeros.{count-append, nonzeros-one, stored-then, stored-one, stored-columns, stored-values, scaled-tabulate, count-scaled}
 use Rattle.turning.specs.Loading.{StandsFor, multiples}
 use Rattle.turning.specs.Gathering.{cut, multiplesBy, remainderBy, RowGathered}
-use Rattle.turning.specs.Settling.{ListsReady, SettleReady, PivotPut, Settled}
-use Rattle.turning.specs.Taking.{upperRow, PivotTaken, Taken, PairReady, OtherReady}
+use Rattle.turning.specs.PivotRow.{ListsReady, PivotReady, PivotStored, PivotOutcome}
+use Rattle.turning.specs.Taking.{upperRow, PivotFound, RowFound, PairReady, OtherReady}
 use Rattle.turning.proofs.PivotRows.{inverse-invertible}
 
 -- ---- the first that fails a test
@@ -83,8 +83,8 @@ module _ (p m r at l total : ℕ) (cs : List ℕ) (w : Vector) (c : ℕ) (lc₀ 
   entries-of-L = count-append cs (w c ∷ []) ∙ ap (λ (n : ℕ). length (nonzeros cs) + n) (nonzeros-one (w c) [] here)
 
   pub pivot-taken : (total₁ : ℕ) → total₁ ≡ total + length (nonzeros cs) → (row′ lc lv uc uv : List ℕ) (over : Bool) (at′ l′ total′ : ℕ)
-      → Settled p c r at l₁ total₁ row lc₁ lv₁ uc₀ uv₀ row′ lc lv uc uv over at′ l′ total′
-      → PivotTaken p m at l total cs w c lc₀ lv₀ uc₀ uv₀ lc lv uc uv over at′ l′ total′
+      → PivotOutcome p c r at l₁ total₁ row lc₁ lv₁ uc₀ uv₀ row′ lc lv uc uv over at′ l′ total′
+      → PivotFound p m at l total cs w c lc₀ lv₀ uc₀ uv₀ lc lv uc uv over at′ l′ total′
   pivot-taken total₁ et row′ lc lv uc uv over at′ l′ total′ h =
       record {
         fit = (λ t. leb (all t) (same t) && leb (at + sym entries-of-U t) (length uc₀)) ∙ h .fit;
@@ -100,7 +100,7 @@ module _ (p m r at l total : ℕ) (cs : List ℕ) (w : Vector) (c : ℕ) (lc₀ 
       same : length lc₀ ≡ length lc₁
       same = sym (stored-columns 0 l cs lc₀ lv₀ lc₁ lv₁ l₁ d)
 
-      last : PivotPut p c r at l₁ total₁ row lc₁ lv₁ uc₀ uv₀ row′ lc lv uc uv at′ l′ total′ → Stored (0 + length cs) l₁ (w c ∷ []) lc₁ lv₁ lc lv l′
+      last : PivotStored p c r at l₁ total₁ row lc₁ lv₁ uc₀ uv₀ row′ lc lv uc uv at′ l′ total′ → Stored (0 + length cs) l₁ (w c ∷ []) lc₁ lv₁ lc lv l′
       last q = rw (q .column, q .value, value, q .place, sym long, zero-add) (stored-one (length cs) l₁ (w c) lc₁ lv₁ here)
 
 -- ---- a row that is taken as it stands
@@ -133,8 +133,8 @@ module _ (p i c r at l total : ℕ) (A : Compressed) (w lc lv uc uv : List ℕ) 
             ∙ mod-eq-of-lt (form-below p (length w) (A .starts) (A .cols) (A .vals) (h .row .formed) i j (omega (arith, h .prime .two)));
       }
 
-  pub pair-settle : SettleReady p c r at l total row lc lv uc uv
-  pair-settle =
+  pub pair-pivot : PivotReady p c r at l total row lc lv uc uv
+  pair-pivot =
       record {
         prime = h .prime;
         column = omega (arith, h .column, loaded .long);
@@ -142,8 +142,8 @@ module _ (p i c r at l total : ℕ) (A : Compressed) (w lc lv uc uv : List ℕ) 
         lists = subst (λ (m : ℕ). ListsReady m r at l total lc lv uc uv) (sym (loaded .long)) (h .lists);
       }
 
-  pub pair-taken : (row′ lc′ lv′ uc′ uv′ : List ℕ) (over : Bool) (found at′ l′ total′ : ℕ) → found ≡ c → Settled p c r at l total row lc lv uc uv row′ lc′ lv′ uc′ uv′ over at′ l′ total′
-      → Taken p (length w) at l total (zeros r) (matrix A i) c lc lv uc uv lc′ lv′ uc′ uv′ row′ over found at′ l′ total′
+  pub pair-taken : (row′ lc′ lv′ uc′ uv′ : List ℕ) (over : Bool) (found at′ l′ total′ : ℕ) → found ≡ c → PivotOutcome p c r at l total row lc lv uc uv row′ lc′ lv′ uc′ uv′ over at′ l′ total′
+      → RowFound p (length w) at l total (zeros r) (matrix A i) c lc lv uc uv lc′ lv′ uc′ uv′ row′ over found at′ l′ total′
   pair-taken row′ lc′ lv′ uc′ uv′ over found at′ l′ total′ ec d =
       record {
         pivot = λ b. pivot-taken p (length w) r at l total (zeros r) (matrix A i) c lc lv uc uv row lc lv l (h .prime) (length-zeros r) b (h .here) loaded (stored-zeros l r lc lv)
@@ -175,7 +175,7 @@ module _ (p i r at l total : ℕ) (A : Compressed) (columns us w lc lv uc uv : L
 
   module _ (lc₁ lv₁ row : List ℕ) (over : Bool) (next : ℕ) (g : RowGathered p m l total cs rest lc lv lc₁ lv₁ row over next) where
     -- its multiples do not fit
-    pub other-over : over ≡ true → (uc′ uv′ row′ : List ℕ) (found at′ l′ total′ : ℕ) → Taken p m at l total cs rest c lc lv uc uv lc₁ lv₁ uc′ uv′ row′ true found at′ l′ total′
+    pub other-over : over ≡ true → (uc′ uv′ row′ : List ℕ) (found at′ l′ total′ : ℕ) → RowFound p m at l total cs rest c lc lv uc uv lc₁ lv₁ uc′ uv′ row′ true found at′ l′ total′
     other-over e uc′ uv′ row′ found at′ l′ total′ =
         record {
           pivot = λ b. record {
@@ -218,7 +218,7 @@ module _ (p i r at l total : ℕ) (A : Compressed) (columns us w lc lv uc uv : L
 
         -- nothing remains
         pub other-dependent : found ≡ length row → (row′ : List ℕ) → row′ ≡ zeros (length row) → (total′ : ℕ) → total′ ≡ total + (next - l)
-            → Taken p m at l total cs rest c lc lv uc uv lc₁ lv₁ uc uv row′ false found at l total′
+            → RowFound p m at l total cs rest c lc lv uc uv lc₁ lv₁ uc uv row′ false found at l total′
         other-dependent ec row′ er total′ et =
             record {
               pivot = λ b. absurd (omega (arith, ec, found-is, g .remainder e .long));
@@ -244,8 +244,8 @@ module _ (p i r at l total : ℕ) (A : Compressed) (columns us w lc lv uc uv : L
           here : ¬ (rest c ≡ 0)
           here = eqb-false (rest c) 0 (first-here m (λ j. eqb (rest j) 0) inside)
 
-          pub other-settle : (total₁ : ℕ) → total₁ ≡ total + (next - l) → SettleReady p found r at next total₁ row lc₁ lv₁ uc uv
-          other-settle total₁ et =
+          pub other-pivot : (total₁ : ℕ) → total₁ ≡ total + (next - l) → PivotReady p found r at next total₁ row lc₁ lv₁ uc uv
+          other-pivot total₁ et =
               record {
                 prime = h .prime;
                 column = omega (arith, found-is, inside, g .remainder e .long);
@@ -263,8 +263,8 @@ module _ (p i r at l total : ℕ) (A : Compressed) (columns us w lc lv uc uv : L
 
           -- something remains
           pub other-taken : (total₁ : ℕ) → total₁ ≡ total + (next - l) → (row′ lc′ lv′ uc′ uv′ : List ℕ) (over′ : Bool) (found′ at′ l′ total′ : ℕ) → found′ ≡ found
-              → Settled p found r at next total₁ row lc₁ lv₁ uc uv row′ lc′ lv′ uc′ uv′ over′ at′ l′ total′
-              → Taken p m at l total cs rest c lc lv uc uv lc′ lv′ uc′ uv′ row′ over′ found′ at′ l′ total′
+              → PivotOutcome p found r at next total₁ row lc₁ lv₁ uc uv row′ lc′ lv′ uc′ uv′ over′ at′ l′ total′
+              → RowFound p m at l total cs rest c lc lv uc uv lc′ lv′ uc′ uv′ row′ over′ found′ at′ l′ total′
           other-taken total₁ et row′ lc′ lv′ uc′ uv′ over′ found′ at′ l′ total′ ec d =
               record {
                 pivot = λ b. pivot-taken p m r at l total cs rest c lc lv uc uv row lc₁ lv₁ next (h .prime) cs-long inside here (g .remainder e) stored total₁ (omega (arith, next-place)) row′ lc′ lv′ uc′ uv′ over′ at′ l′ total′ (rw found-is at d);

@@ -1,9 +1,9 @@
 -- The row of L of a row of the matrix: the multiples of the rows of U that its reduction takes away.
---   GatherRowReady p i l total A C U w ..   row i can be reduced, and its multiples stored at place l, where L has `total` entries so far
---   cut r at us uc uv                       the lists of r rows of U with `at` entries, cut to their lengths
---   multiplesBy, remainderBy                the multiples and the remainder of a row, by r rows of U and the first r of the pivot columns
---   GatherReadyFrom ..                      the same as GatherRowReady, of lists that are not cut
---   RowGathered p m l total cs w ..         the multiples cs are stored at place l, and the working row stands for the remainder w, unless they do not fit
+--   GatherRowReady p i l total A C U w ..    row i can be reduced, and its multiples stored at place l, where L has `total` entries so far
+--   cut r at us uc uv                        the lists of r rows of U with `at` entries, cut to their lengths
+--   multiplesBy, remainderBy                 the multiples and the remainder of a row, by r rows of U and the first r of the pivot columns
+--   GatherReadyFrom ..                       the same as GatherRowReady, of lists that are not cut
+--   RowGathered p m l total cs w ..          the multiples cs are stored at place l, and the working row stands for the remainder w, unless they do not fit
 use Prim.Native.Nat.{ℕ, _+_, _^_, _≤_}
 use mathlib.Core.Path.{_≡_}
 use mathlib.Core.Bool.{Bool, false, not}

@@ -1,5 +1,5 @@
 pub mod Storage
 pub mod Loading
-pub mod Settling
+pub mod PivotRow
 pub mod Taking
 pub mod Gathering

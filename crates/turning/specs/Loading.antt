@@ -1,9 +1,9 @@
 -- A row of the stored matrix in the working row, whole and reduced by the rows of U found so far.
---   RowLoadable p i A w           row i of the matrix can be loaded: the matrix has its form, and the working row is all zero
---   StandsFor p m w row           the m cells of the working row stand for the residues w
---   multiples p r C U y           the multiples of the r rows of U that are taken away from y, in order: the row of L
---   ReduceReady p i A C U w       row i can be loaded and reduced by the rows of U, as many as there are pivot columns
---   LoadedReduced p y C U m w     the working row has m cells and holds y reduced by the rows of U, with the multiples in the pivot columns
+--   RowLoadable p i A w          row i of the matrix can be loaded: the matrix has its form, and the working row is all zero
+--   StandsFor p m w row          the m cells of the working row stand for the residues w
+--   multiples p r C U y          the multiples of the r rows of U that are taken away from y, in order: the row of L
+--   ReduceReady p i A C U w      row i can be loaded and reduced by the rows of U, as many as there are pivot columns
+--   LoadedReduced p y C U m w    the working row has m cells and holds y reduced by the rows of U, with the multiples in the pivot columns
 use Prim.Native.Nat.{ℕ, _+_, _%_, _<_}
 use mathlib.Core.Path.{_≡_}
 use mathlib.Core.Bool.{true}

@@ -1,6 +1,6 @@
 -- Lent lists that are being filled with the rows of a factor, one row after another.
---   Begins xs bound l          the list l begins with xs, and is all zero from place `bound` on
---   Holds rows bound h         the lists of h begin with the stored form of `rows`: the starts are zero past them, columns and values from `bound` on
+--   Begins xs bound l     the list l begins with xs, and is all zero from place `bound` on
+--   Holds rows bound h    the lists of h begin with the stored form of `rows`: the starts are zero past them, columns and values from `bound` on
 use Prim.Native.Nat.{ℕ, _+_, _-_, _≤_}
 use mathlib.Core.Path.{_≡_}
 use mathlib.Core.List.{List}

@@ -5,11 +5,11 @@ ghost use Rattle.lists.specs.Filled.{zeros};
 ghost use Rattle.lists.specs.Tests.{first};
 ghost use Rattle.sparse.specs.Matrix.{compressed, matrix};
 ghost use Rattle.turning.specs.Gathering.{cut, multiplesBy, remainderBy};
-ghost use Rattle.turning.specs.Taking.{PairReady, OtherReady, Taken};
+ghost use Rattle.turning.specs.Taking.{PairReady, OtherReady, RowFound};
 use crate::gathering::gather_row;
 use crate::loading::load_row;
-use crate::settling::Step;
-use crate::settling::settle;
+use crate::pivot_row::Step;
+use crate::pivot_row::store_pivot;
 use lists::clear_row;
 use residue::Modulus;
 use sparse::dense::first_nonzero;
@@ -33,10 +33,10 @@ pub fn take_pair(
     work: &mut [u64],
 ) -> Step
     requires { ⌜ PairReady (q .p) i c r at l total (compressed (now ss) (now cols) (now vals)) (now work) (now lc) (now lv) (now uc) (now uv) ⌝ }
-    ensures { λ s. ⌜ Taken (q .p) (length (now (work .entry))) at l total (zeros r) (matrix (compressed (now (ss .entry)) (now (cols .entry)) (now (vals .entry))) i) c (now (lc .entry)) (now (lv .entry)) (now (uc .entry)) (now (uv .entry)) (now (lc .exit)) (now (lv .exit)) (now (uc .exit)) (now (uv .exit)) (now (work .exit)) (s .over) (s .column) (s .at) (s .l) (s .total) ⌝ }
+    ensures { λ s. ⌜ RowFound (q .p) (length (now (work .entry))) at l total (zeros r) (matrix (compressed (now (ss .entry)) (now (cols .entry)) (now (vals .entry))) i) c (now (lc .entry)) (now (lv .entry)) (now (uc .entry)) (now (uv .entry)) (now (lc .exit)) (now (lv .exit)) (now (uc .exit)) (now (uv .exit)) (now (work .exit)) (s .over) (s .column) (s .at) (s .l) (s .total) ⌝ }
 {
     load_row(ss, cols, vals, i, q.p, work);
-    settle(q, c, r, at, l, total, lc, lv, uc, uv, work)
+    store_pivot(q, c, r, at, l, total, lc, lv, uc, uv, work)
 }
 
 // Row i is reduced by r rows of U with `at` entries; what remains gives a pivot row, or the row is dependent.
@@ -59,7 +59,7 @@ pub fn take_other(
     work: &mut [u64],
 ) -> Step
     requires { ⌜ OtherReady (q .p) i r at l total (compressed (now ss) (now cols) (now vals)) (now columns) (now us) (now work) (now lc) (now lv) (now uc) (now uv) ⌝ }
-    ensures { λ s. ⌜ Taken (q .p) (length (now (work .entry))) at l total (multiplesBy (q .p) r (now (columns .entry)) (cut r at (now (us .entry)) (now (uc .entry)) (now (uv .entry))) (matrix (compressed (now (ss .entry)) (now (cols .entry)) (now (vals .entry))) i)) (remainderBy (q .p) r (now (columns .entry)) (cut r at (now (us .entry)) (now (uc .entry)) (now (uv .entry))) (matrix (compressed (now (ss .entry)) (now (cols .entry)) (now (vals .entry))) i)) (first (length (now (work .entry))) (λ j. eqb (remainderBy (q .p) r (now (columns .entry)) (cut r at (now (us .entry)) (now (uc .entry)) (now (uv .entry))) (matrix (compressed (now (ss .entry)) (now (cols .entry)) (now (vals .entry))) i) j) 0)) (now (lc .entry)) (now (lv .entry)) (now (uc .entry)) (now (uv .entry)) (now (lc .exit)) (now (lv .exit)) (now (uc .exit)) (now (uv .exit)) (now (work .exit)) (s .over) (s .column) (s .at) (s .l) (s .total) ⌝ }
+    ensures { λ s. ⌜ RowFound (q .p) (length (now (work .entry))) at l total (multiplesBy (q .p) r (now (columns .entry)) (cut r at (now (us .entry)) (now (uc .entry)) (now (uv .entry))) (matrix (compressed (now (ss .entry)) (now (cols .entry)) (now (vals .entry))) i)) (remainderBy (q .p) r (now (columns .entry)) (cut r at (now (us .entry)) (now (uc .entry)) (now (uv .entry))) (matrix (compressed (now (ss .entry)) (now (cols .entry)) (now (vals .entry))) i)) (first (length (now (work .entry))) (λ j. eqb (remainderBy (q .p) r (now (columns .entry)) (cut r at (now (us .entry)) (now (uc .entry)) (now (uv .entry))) (matrix (compressed (now (ss .entry)) (now (cols .entry)) (now (vals .entry))) i) j) 0)) (now (lc .entry)) (now (lv .entry)) (now (uc .entry)) (now (uv .entry)) (now (lc .exit)) (now (lv .exit)) (now (uc .exit)) (now (uv .exit)) (now (work .exit)) (s .over) (s .column) (s .at) (s .l) (s .total) ⌝ }
 {
     let g = gather_row(
         q,
@@ -102,5 +102,5 @@ pub fn take_other(
             total: sum,
         };
     }
-    settle(q, c, r, at, next, sum, lc, lv, uc, uv, work)
+    store_pivot(q, c, r, at, next, sum, lc, lv, uc, uv, work)
 }

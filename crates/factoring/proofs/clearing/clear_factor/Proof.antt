@@ -1,5 +1,5 @@
 -- `clear_factor` meets its contract. Assumes nothing.
-use Rattle.factoring.proofs.WorkingRow.{zeros-self}
+use Rattle.passing.proofs.WorkingRow.{zeros-self}
 use borrow.Author.Needs.{needs}
 use Rattle.factoring.proofs.clearing.clear_factor.Statement.{statement}
 use Rattle.factoring.proofs.clearing.clear_factor.Tie as tie

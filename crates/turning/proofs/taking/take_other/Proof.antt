@@ -1,7 +1,7 @@
 -- `take_other` meets its contract: each way out is a law of `TakenRows`. Assumes nothing.
 use mathlib.Core.Path.{refl}
 use native.Mathlib.Omega.{arith}
-use Rattle.turning.proofs.TakenRows.{other-over, enough, next-place, other-dependent, other-settle, other-taken}
+use Rattle.turning.proofs.TakenRows.{other-over, enough, next-place, other-dependent, other-pivot, other-taken}
 use borrow.Author.Needs.{needs}
 use Rattle.turning.proofs.taking.take_other.Statement.{statement}
 use Rattle.turning.proofs.taking.take_other.Tie as tie
@@ -59,9 +59,9 @@ returns-2 : tie.Need-returns-2
 returns-2 c = let s = c .before .before .before .before .before .before .before .before .before .before .before .before .before .before .before .before .before .before .before .before .before .before .before .before .before .before .before .before .before .before in
     other-dependent _ _ _ _ _ _ _ _ _ _ _ _ _ _ (s .pre) _ _ _ _ _ (c .before .before .before .before .before .before .before .before .before .before .before .before .before .before .gather-row .ensures) (c .before .before .before .before .before .before .before .if1 .left) _ (c .before .before .before .before .before .first-nonzero .ensures) (c .before .before .before .before .if2 .taken) _ (c .before .before .clear-row .ensures) _ refl
 
-settle-requires : tie.Need-settle-requires
-settle-requires c κs = let s = c .before .before .before .before .before .before .before .before .before .before .before .before .before .before .before .before .before .before .before .before .before .before .before .before .before .before .before .before .before .before .before in
-    other-settle _ _ _ _ _ _ _ _ _ _ _ _ _ _ (s .pre) _ _ _ _ _ (c .before .before .before .before .before .before .before .before .before .before .before .before .before .before .before .gather-row .ensures) (c .before .before .before .before .before .before .before .before .if1 .left) _ (c .before .before .before .before .before .before .first-nonzero .ensures) (c .before .before .before .before .before .if2 .left) _ refl
+store-pivot-requires : tie.Need-store-pivot-requires
+store-pivot-requires c κs = let s = c .before .before .before .before .before .before .before .before .before .before .before .before .before .before .before .before .before .before .before .before .before .before .before .before .before .before .before .before .before .before .before in
+    other-pivot _ _ _ _ _ _ _ _ _ _ _ _ _ _ (s .pre) _ _ _ _ _ (c .before .before .before .before .before .before .before .before .before .before .before .before .before .before .before .gather-row .ensures) (c .before .before .before .before .before .before .before .before .if1 .left) _ (c .before .before .before .before .before .before .first-nonzero .ensures) (c .before .before .before .before .before .if2 .left) _ refl
 
 same-length-11 : tie.Need-same-length-11
 same-length-11 c = search needs
@@ -79,7 +79,7 @@ same-length-15 : tie.Need-same-length-15
 same-length-15 c = search needs
 
 returns-3 : tie.Need-returns-3
-returns-3 c = let s = c .before .before .before .before .before .before .before .before .before .before .before .before .before .before .before .before .before .before .before .before .before .before .before .before .before .before .before .before .before .before .before .before .before .before .before .before .before .before .before .before .before .before in let d = c .before .before .before .before .before .before .before .before .before .before .settle .ensures in
+returns-3 c = let s = c .before .before .before .before .before .before .before .before .before .before .before .before .before .before .before .before .before .before .before .before .before .before .before .before .before .before .before .before .before .before .before .before .before .before .before .before .before .before .before .before .before .before in let d = c .before .before .before .before .before .before .before .before .before .before .store-pivot .ensures in
     other-taken _ _ _ _ _ _ _ _ _ _ _ _ _ _ (s .pre) _ _ _ _ _ (c .before .before .before .before .before .before .before .before .before .before .before .before .before .before .before .before .before .before .before .before .before .before .before .before .before .before .gather-row .ensures) (c .before .before .before .before .before .before .before .before .before .before .before .before .before .before .before .before .before .before .before .if1 .left) _ (c .before .before .before .before .before .before .before .before .before .before .before .before .before .before .before .before .before .first-nonzero .ensures) (c .before .before .before .before .before .before .before .before .before .before .before .before .before .before .before .before .if2 .left) _ refl _ _ _ _ _ _ _ _ _ _ (d .0) (d .1)
 
 pub take-other-spec : {M : Type 1} → statement M
@@ -103,7 +103,7 @@ take-other-spec =
     same-length-9
     same-length-10
     returns-2
-    settle-requires
+    store-pivot-requires
     same-length-11
     same-length-12
     same-length-13

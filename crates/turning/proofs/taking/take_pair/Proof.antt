@@ -1,5 +1,5 @@
 -- `take_pair` meets its contract: a row that is loaded is its own remainder. Assumes nothing.
-use Rattle.turning.proofs.TakenRows.{pair-settle, pair-taken}
+use Rattle.turning.proofs.TakenRows.{pair-pivot, pair-taken}
 use borrow.Author.Needs.{needs}
 use Rattle.turning.proofs.taking.take_pair.Statement.{statement}
 use Rattle.turning.proofs.taking.take_pair.Tie as tie
@@ -7,8 +7,8 @@ use Rattle.turning.proofs.taking.take_pair.Tie as tie
 load-row-requires : tie.Need-load-row-requires
 load-row-requires c κs = search needs
 
-settle-requires : tie.Need-settle-requires
-settle-requires c κs = pair-settle _ _ _ _ _ _ _ _ _ _ _ _ _ (c .before .before .before .before .before .before .before .before .before .before .before .before .before .before .before .before .before .pre) _ (c .before .before .before .before .before .before .before .load-row .ensures)
+store-pivot-requires : tie.Need-store-pivot-requires
+store-pivot-requires c κs = pair-pivot _ _ _ _ _ _ _ _ _ _ _ _ _ (c .before .before .before .before .before .before .before .before .before .before .before .before .before .before .before .before .before .pre) _ (c .before .before .before .before .before .before .before .load-row .ensures)
 
 same-length : tie.Need-same-length
 same-length c = search needs
@@ -26,14 +26,14 @@ same-length-5 : tie.Need-same-length-5
 same-length-5 c = search needs
 
 returns : tie.Need-returns
-returns c = let d = c .before .before .before .before .before .before .before .before .before .before .settle .ensures in pair-taken _ _ _ _ _ _ _ _ _ _ _ _ _ (c .before .before .before .before .before .before .before .before .before .before .before .before .before .before .before .before .before .before .before .before .before .before .before .before .before .before .before .before .pre) _ (c .before .before .before .before .before .before .before .before .before .before .before .before .before .before .before .before .before .before .load-row .ensures) _ _ _ _ _ _ _ _ _ _ (d .0) (d .1)
+returns c = let d = c .before .before .before .before .before .before .before .before .before .before .store-pivot .ensures in pair-taken _ _ _ _ _ _ _ _ _ _ _ _ _ (c .before .before .before .before .before .before .before .before .before .before .before .before .before .before .before .before .before .before .before .before .before .before .before .before .before .before .before .before .pre) _ (c .before .before .before .before .before .before .before .before .before .before .before .before .before .before .before .before .before .before .load-row .ensures) _ _ _ _ _ _ _ _ _ _ (d .0) (d .1)
 
 pub take-pair-spec : {M : Type 1} → statement M
 take-pair-spec =
     tie.close
     (tie.spec
     load-row-requires
-    settle-requires
+    store-pivot-requires
     same-length
     same-length-2
     same-length-3

@@ -9,7 +9,7 @@ use Rattle.lists.specs.Filled.{zeros}
 use Rattle.lists.proofs.Filled.{length-zeros}
 use Rattle.sparse.specs.Matrix.{Compressed}
 use Rattle.pivoting.specs.Turning.{Lent}
-use Rattle.factoring.specs.Needs.{Lists}
+use Rattle.passing.specs.Needs.{Lists}
 
 take-zeros : (m k : ℕ) → m ≤ k → take m (zeros k) ≡ zeros m
 unfolding zeros

@@ -7,8 +7,8 @@ ghost use lib.ListN.{length};
 ghost use Rattle.lists.specs.Filled.{zeros};
 ghost use Rattle.sparse.specs.Matrix.{compressed};
 ghost use Rattle.elimination.specs.Pivots.{Found};
-ghost use Rattle.pivoting.specs.Passing.{Passed};
-ghost use Rattle.factoring.specs.Needs.{FromReady, FoundFrom, CompleteReady, CompletedFor};
+ghost use Rattle.pivoting.specs.Passing.{PassLeaves};
+ghost use Rattle.passing.specs.Needs.{FromReady, FoundFrom, CompleteReady, CompletedFor};
 use ordering::complete::complete;
 use pivoting::fill::fill_dependents;
 use pivoting::pass::Pass;
@@ -33,7 +33,7 @@ pub fn pass_one(
     work: &mut [u64],
 ) -> Pass
     requires { ⌜ FromReady (q .p) s (compressed (now ss) (now cols) (now vals)) (now rows) (now columns) (compressed (now ls) (now lc) (now lv)) (compressed (now us) (now uc) (now uv)) (now work) ⌝ }
-    ensures { λ to. ⌜ Passed (q .p) s (compressed (now (ss .entry)) (now (cols .entry)) (now (vals .entry))) (now (rows .entry)) (now (columns .entry)) (length (now (columns .entry))) (length (now (lc .entry))) (length (now (uc .entry))) (now (rows .exit)) (now (columns .exit)) (compressed (now (ls .exit)) (now (lc .exit)) (now (lv .exit))) (compressed (now (us .exit)) (now (uc .exit)) (now (uv .exit))) (to .so .over) (to .stop) (to .so .r) (to .so .at) (to .so .l) (to .so .total) × (to .so .over ≡ false → now (work .exit) ≡ zeros (length (now (work .entry)))) ⌝ }
+    ensures { λ to. ⌜ PassLeaves (q .p) s (compressed (now (ss .entry)) (now (cols .entry)) (now (vals .entry))) (now (rows .entry)) (now (columns .entry)) (length (now (columns .entry))) (length (now (lc .entry))) (length (now (uc .entry))) (now (rows .exit)) (now (columns .exit)) (compressed (now (ls .exit)) (now (lc .exit)) (now (lv .exit))) (compressed (now (us .exit)) (now (uc .exit)) (now (uv .exit))) (to .so .over) (to .stop) (to .so .r) (to .so .at) (to .so .l) (to .so .total) × (to .so .over ≡ false → now (work .exit) ≡ zeros (length (now (work .entry)))) ⌝ }
 {
     let n = rows.len();
     let m = columns.len();

@@ -1,8 +1,8 @@
 -- `pass_two` meets its contract: the completed orders are those of the factors. Assumes nothing.
-use Rattle.factoring.proofs.PassTwo.{columns-part, two-columns, rows-part, two-rows, last-part, two-fill, two-done, two-clear}
+use Rattle.passing.proofs.PassTwo.{columns-part, two-columns, rows-part, two-rows, last-part, two-fill, two-done, two-clear}
 use borrow.Author.Needs.{needs}
-use Rattle.factoring.proofs.passes.pass_two.Statement.{statement}
-use Rattle.factoring.proofs.passes.pass_two.Tie as tie
+use Rattle.passing.proofs.passes.pass_two.Statement.{statement}
+use Rattle.passing.proofs.passes.pass_two.Tie as tie
 
 slice-relend-prefix-complete : tie.Need-slice-relend-prefix-complete
 slice-relend-prefix-complete c = search needs

@@ -1,11 +1,11 @@
--- `settle` meets its contract: each way out is a law of `PivotRows`. Assumes nothing.
+-- `store_pivot` meets its contract: each way out is a law of `PivotRows`. Assumes nothing.
 use mathlib.Core.Path.{refl}
 use native.Mathlib.Omega.{arith}
 use borrow.Author.Tests.{not-true, not-false}
-use Rattle.turning.proofs.PivotRows.{settled-over, one-more, store-ready, settled-done}
+use Rattle.turning.proofs.PivotRows.{pivot-over, one-more, store-ready, pivot-done}
 use borrow.Author.Needs.{needs}
-use Rattle.turning.proofs.settling.settle.Statement.{statement}
-use Rattle.turning.proofs.settling.settle.Tie as tie
+use Rattle.turning.proofs.pivot_row.store_pivot.Statement.{statement}
+use Rattle.turning.proofs.pivot_row.store_pivot.Tie as tie
 
 count-nonzero-requires : tie.Need-count-nonzero-requires
 count-nonzero-requires c κs = search needs
@@ -18,7 +18,7 @@ same-length c = search needs
 
 returns : tie.Need-returns
 returns c = let s = c .before .before .before .before .before .before .before .before .before in let a = s .args in
-    (refl, settled-over _ _ _ _ _ _ _ _ _ _ _ (s .pre) _ (c .before .before .count-nonzero .ensures) _ (c .before .fits2 .ensures) (not-true _ (c .if1 .taken)) (a .at) (a .l) (a .total))
+    (refl, pivot-over _ _ _ _ _ _ _ _ _ _ _ (s .pre) _ (c .before .before .count-nonzero .ensures) _ (c .before .fits2 .ensures) (not-true _ (c .if1 .taken)) (a .at) (a .l) (a .total))
 
 mul-reduce : tie.Need-mul-reduce
 mul-reduce c = search needs
@@ -75,10 +75,10 @@ same-length-6 c = search needs
 
 returns-2 : tie.Need-returns-2
 returns-2 c = let s = c .before .before .before .before .before .before .before .before .before .before .before .before .before .before .before .before .before .before .before .before .before .before in
-    (refl, settled-done _ _ _ _ _ _ _ _ _ _ _ (s .pre) _ (c .before .before .before .before .before .before .before .before .before .before .before .before .before .before .before .count-nonzero .ensures) _ (c .before .before .before .before .before .before .before .before .before .before .before .before .before .before .fits2 .ensures) (not-false _ (c .before .before .before .before .before .before .before .before .before .before .before .before .before .if1 .left)) _ _ (c .before .before .before .before .before .before .before .before .before .before .before .reduce .ensures .value) (c .before .before .before .before .before .before .before .before .before .before .invert .ensures .value) _ _ _ _ (c .before .before .before .before .before .before .store .ensures))
+    (refl, pivot-done _ _ _ _ _ _ _ _ _ _ _ (s .pre) _ (c .before .before .before .before .before .before .before .before .before .before .before .before .before .before .before .count-nonzero .ensures) _ (c .before .before .before .before .before .before .before .before .before .before .before .before .before .before .fits2 .ensures) (not-false _ (c .before .before .before .before .before .before .before .before .before .before .before .before .before .if1 .left)) _ _ (c .before .before .before .before .before .before .before .before .before .before .before .reduce .ensures .value) (c .before .before .before .before .before .before .before .before .before .before .invert .ensures .value) _ _ _ _ (c .before .before .before .before .before .before .store .ensures))
 
-pub settle-spec : {M : Type 1} → statement M
-settle-spec =
+pub store-pivot-spec : {M : Type 1} → statement M
+store-pivot-spec =
     tie.close
     (tie.spec
     count-nonzero-requires

@@ -1,9 +1,9 @@
 -- `pass_one` meets its contract: the completed order is the schedule. Assumes nothing.
 use mathlib.Core.Path.{_∙_}
-use Rattle.factoring.proofs.PassOne.{rows-part, one-complete, columns-part, R₁-long, one-pass, one-passed, one-clear}
+use Rattle.passing.proofs.PassOne.{rows-part, one-complete, columns-part, R₁-long, one-pass, one-passed, one-clear}
 use borrow.Author.Needs.{needs}
-use Rattle.factoring.proofs.passes.pass_one.Statement.{statement}
-use Rattle.factoring.proofs.passes.pass_one.Tie as tie
+use Rattle.passing.proofs.passes.pass_one.Statement.{statement}
+use Rattle.passing.proofs.passes.pass_one.Tie as tie
 
 slice-relend-prefix-complete : tie.Need-slice-relend-prefix-complete
 slice-relend-prefix-complete c = search needs

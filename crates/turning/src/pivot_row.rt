@@ -3,7 +3,7 @@ ghost use mathlib.Core.Path.{_≡_};
 ghost use mathlib.Core.Bool.{_&&_};
 ghost use Prim.Native.Nat.{_+_, _≤_};
 ghost use lib.Dec.{leb};
-ghost use Rattle.turning.specs.Settling.{SettleReady, Settled};
+ghost use Rattle.turning.specs.PivotRow.{PivotReady, PivotOutcome};
 use residue::Modulus;
 use sparse::dense::count_nonzero;
 use sparse::dense::store;
@@ -30,7 +30,7 @@ fn fits(lower: usize, total: usize, upper: usize, at: usize, k: usize) -> bool
 }
 
 // Stores the working row, divided by its value at column c, as row r of U, and that value as an entry of L, if they fit.
-pub fn settle(
+pub fn store_pivot(
     q: Modulus,
     c: usize,
     r: usize,
@@ -43,8 +43,8 @@ pub fn settle(
     uv: &mut [u32],
     work: &mut [u64],
 ) -> Step
-    requires { ⌜ SettleReady (q .p) c r at l total (now work) (now lc) (now lv) (now uc) (now uv) ⌝ }
-    ensures { λ s. ⌜ (s .column ≡ c) × Settled (q .p) c r at l total (now (work .entry)) (now (lc .entry)) (now (lv .entry)) (now (uc .entry)) (now (uv .entry)) (now (work .exit)) (now (lc .exit)) (now (lv .exit)) (now (uc .exit)) (now (uv .exit)) (s .over) (s .at) (s .l) (s .total) ⌝ }
+    requires { ⌜ PivotReady (q .p) c r at l total (now work) (now lc) (now lv) (now uc) (now uv) ⌝ }
+    ensures { λ s. ⌜ (s .column ≡ c) × PivotOutcome (q .p) c r at l total (now (work .entry)) (now (lc .entry)) (now (lv .entry)) (now (uc .entry)) (now (uv .entry)) (now (work .exit)) (now (lc .exit)) (now (lv .exit)) (now (uc .exit)) (now (uv .exit)) (s .over) (s .at) (s .l) (s .total) ⌝ }
 {
     let k = count_nonzero(q, work);
     if !fits(lc.len(), total, uc.len(), at, k) {

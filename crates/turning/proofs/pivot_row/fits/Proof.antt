@@ -1,8 +1,8 @@
 -- `fits` meets its contract: the tests by differences are the tests by sums. Assumes nothing.
 use Rattle.turning.proofs.PivotRows.{no-room, some-room}
 use borrow.Author.Needs.{needs}
-use Rattle.turning.proofs.settling.fits.Statement.{statement}
-use Rattle.turning.proofs.settling.fits.Tie as tie
+use Rattle.turning.proofs.pivot_row.fits.Statement.{statement}
+use Rattle.turning.proofs.pivot_row.fits.Tie as tie
 
 returns : tie.Need-returns
 returns c = let a = c .before .args in no-room (a .total) (a .lower) (a .at) (a .k) _ (c .if1 .taken)

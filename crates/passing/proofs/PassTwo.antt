@@ -18,8 +18,8 @@ use Rattle.pivoting.specs.State.{pivotRows}
 use Rattle.pivoting.specs.Turning.{Lent}
 use Rattle.pivoting.specs.Filling.{FillFrom, FillReady, FillDone}
 use Rattle.pivoting.proofs.Sizes.{columns-distinct, rank-most}
-use Rattle.factoring.specs.Needs.{Lists, FoundFrom, CompleteReady, CompletedFor}
-use Rattle.factoring.proofs.WorkingRow.{part-clear, whole-again, lists-lent, lists-same}
+use Rattle.passing.specs.Needs.{Lists, FoundFrom, CompleteReady, CompletedFor}
+use Rattle.passing.proofs.WorkingRow.{part-clear, whole-again, lists-lent, lists-same}
 
 -- what holds of the first k numbers of a list, cut there or not
 distinct-front : (k n : ℕ) (xs l : List ℕ) → take k l ≡ xs → Distinct k n (vector xs) → Distinct k n (vector l)

@@ -14,10 +14,10 @@ use Rattle.elimination.specs.Factoring.{rest}
 use Rattle.elimination.proofs.Completion.{completed-length}
 use Rattle.ordering.specs.Needs.{Completable}
 use Rattle.ordering.specs.Completion.{Completed}
-use Rattle.pivoting.specs.Passing.{pairsIn, pairsOf, PassReady, Passed}
+use Rattle.pivoting.specs.Passing.{pairsIn, pairsOf, PassReady, PassLeaves}
 use Rattle.pivoting.proofs.Schedules.{rows-are, pairs-many}
-use Rattle.factoring.specs.Needs.{Lists, FromReady}
-use Rattle.factoring.proofs.WorkingRow.{part-clear, whole-again, lists-lent, lists-same}
+use Rattle.passing.specs.Needs.{Lists, FromReady}
+use Rattle.passing.proofs.WorkingRow.{part-clear, whole-again, lists-lent, lists-same}
 
 module _ (p s : ℕ) (A : Compressed) (R C : List ℕ) (L U : Compressed) (w : List ℕ) (h : FromReady p s A R C L U w) where
   abbrev n : ℕ
@@ -85,7 +85,7 @@ module _ (p s : ℕ) (A : Compressed) (R C : List ℕ) (L U : Compressed) (w : L
         })
 
     pub one-passed : (roomL roomU : ℕ) (R′ C′ : List ℕ) (L′ U′ : Compressed) (over : Bool) (stop r at l total : ℕ)
-        → Passed p s A R₁ C (length (take m w₁)) roomL roomU R′ C′ L′ U′ over stop r at l total → Passed p s A R C m roomL roomU R′ C′ L′ U′ over stop r at l total
+        → PassLeaves p s A R₁ C (length (take m w₁)) roomL roomU R′ C′ L′ U′ over stop r at l total → PassLeaves p s A R C m roomL roomU R′ C′ L′ U′ over stop r at l total
     one-passed roomL roomU R′ C′ L′ U′ over stop r at l total q =
         record {
           stopped = rw (sym columns-part, R₁-long, same-pairs) at (q .stopped);

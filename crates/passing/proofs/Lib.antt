@@ -1,0 +1,3 @@
+pub mod WorkingRow
+pub mod PassOne
+pub mod PassTwo
