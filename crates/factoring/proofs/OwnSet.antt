@@ -77,12 +77,12 @@ module _ (p n m : ℕ) (A : Compressed) (prime : Prime p) (formed : form p m A �
   stored : StoredFactors p n m (matrix A) g
   stored = factor-stored p n m A prime formed many
 
-  outcome : factoring p n m A roomL roomU ≡ done (length (structural A n m)) g
+  pub own-outcome : factoring p n m A roomL roomU ≡ done (length (structural A n m)) g
   unfolding factoring factoringFrom factor
-  outcome = fitted (firstOver p m (matrix A) roomL roomU nothing (schedule n (structural A n m))) (done (length (structural A n m)) g) (h .number-is)
+  own-outcome = fitted (firstOver p m (matrix A) roomL roomU nothing (schedule n (structural A n m))) (done (length (structural A n m)) g) (h .number-is)
 
   leaves : Leaves (done (length (structural A n m)) g) 0 detail rank structured R C L U w
-  leaves = rw outcome at h
+  leaves = rw own-outcome at h
 
   -- it is the definition's
   pub own-set : ownSet n rank R C L U ≡ g

@@ -4,3 +4,4 @@ pub mod Report
 pub mod Needs
 pub mod Answer
 pub mod Digits
+pub mod Printed

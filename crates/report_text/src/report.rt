@@ -1,8 +1,10 @@
 // What the report program prints: a report, or the one line of a refusal.
-ghost use Prim.Native.Nat.{_≤_};
+ghost use Prim.Native.Nat.{_≤_, _<_};
+ghost use mathlib.Core.Path.{_≡_};
 ghost use lib.ListN.{length};
 ghost use Rattle.byte_buffer.specs.Stored.{Stored, Fills};
 ghost use Rattle.report_text.specs.Report.{reportText, refusalText};
+ghost use Rattle.report_text.specs.Printed.{detailFromOne};
 ghost use Rattle.report_text.specs.Needs.{Printable};
 use crate::lines::Summary;
 use crate::lines::put_open_lines;
@@ -47,4 +49,16 @@ pub fn write_refusal(number: u32, detail: u32, out: &mut [u8]) -> usize
 {
     clear_bytes(out);
     put_refusal(number, detail, out)
+}
+
+// The detail of a refusal as it is printed: where the number is `counted`, it is a row or an index, which counts from 1 in print.
+pub fn from_one(counted: u32, number: u32, detail: u32) -> u32
+    requires { ⌜ detail < 4294967295 ⌝ }
+    ensures { λ d. ⌜ d ≡ detailFromOne counted number detail ⌝ }
+{
+    if number == counted {
+        detail + 1
+    } else {
+        detail
+    }
 }

@@ -1,0 +1,114 @@
+-- What a factoring call gives, whatever its number: how many entries L and U have, and the set where the number is 0.
+use mathlib.Core.Path.{_≡_, refl, sym, ap, _∙_}
+use mathlib.Core.Bool.{Bool, true, false, _&&_}
+use mathlib.Core.List.{List}
+use mathlib.Core.Option.{Option, none, some}
+use Prim.Native.Nat.{ℕ, _+_, _≤_}
+use native.Mathlib.Omega.{arith}
+use lib.ListN.{length, getD}
+use Rattle.lists.specs.Refusals.{_▷_, unless, numberOf}
+use Rattle.lists.specs.declared.Outcome as tests
+use Rattle.lists.specs.declared.Outcome.the-variants.{Passed, Refused}
+use Rattle.residue.specs.Range.{isModulus}
+use Rattle.residue.proofs.Primes.{modulus-prime}
+use Rattle.sparse.specs.Matrix.{Compressed, matrix, form}
+use Rattle.sparse.specs.Set.{Set}
+use Rattle.sparse.proofs.DenseLaws.{Lengths, compress-lengths}
+use Rattle.elimination.specs.Structural.{structural}
+use Rattle.elimination.specs.Pivots.{Found, uppersOf, turns}
+use Rattle.elimination.specs.Factoring.{schedule, nothing, firstOver, factored, factorFrom, factor, lowersOf}
+use Rattle.elimination.proofs.Theorem.{StoredFactors, factor-stored}
+use Rattle.call_tests.specs.Tests.{planLengths, limitsOk, planOutcome}
+use Rattle.check_calls.proofs.Tested.{GoodPlan, good-plan}
+use Rattle.factoring.specs.Outcome.{Outcome, refusedAt, done, unlessOver, factoringFrom, factoring}
+use Rattle.factor_calls.specs.Lengths.{lentLengths, lentOutcome}
+use Rattle.factor_calls.specs.Calls.{refusal, unlessRefused, factorCallOf}
+use Rattle.factor_calls.specs.declared.Lent.{Lent}
+
+pub record Counted (n : ℕ) (o : Outcome) : Type 0 where
+  pub lower-last : getD (o .L .starts) n 0 ≡ length (o .L .vals)
+  pub lower-paired : length (o .L .cols) ≡ length (o .L .vals)
+  pub upper-last : getD (o .U .starts) (o .rank) 0 ≡ length (o .U .vals)
+  pub upper-paired : length (o .U .cols) ≡ length (o .U .vals)
+  pub rank-small : o .rank ≤ n
+
+counted-refusal : (n c d : ℕ) → Counted n (refusal c d)
+counted-refusal n c d = record { lower-last = refl; lower-paired = refl; upper-last = refl; upper-paired = refl; rank-small = omega arith }
+
+module _ (p n m : ℕ) (A : Compressed) (l : Lent) where
+  module _ (passed : lentOutcome p n m A l ≡ Passed) where
+    pub good : GoodPlan p n m A
+    unfolding lentOutcome
+    good = good-plan p n m A (lentLengths n m l) passed .0
+
+    abbrev g : Set
+    g = factor p n m A
+
+    stored : StoredFactors p n m (matrix A) g
+    stored = factor-stored p n m A (modulus-prime p (good .modulus)) (good .formed) (good .rows)
+
+    counted-done : Counted n (done (length (structural A n m)) g)
+    unfolding factor factorFrom factored
+    counted-done =
+        record {
+          lower-last = ap (λ (k : ℕ). getD (g .L .starts) k 0) (sym lower) ∙ compress-lengths (lowersOf end) .last-start;
+          lower-paired = compress-lengths (lowersOf end) .paired;
+          upper-last = ap (λ (k : ℕ). getD (g .U .starts) k 0) (sym upper) ∙ compress-lengths (uppersOf end) .last-start;
+          upper-paired = compress-lengths (uppersOf end) .paired;
+          rank-small = stored .factors .rank-rows;
+        }
+      where
+        end : Found
+        end = turns p m (matrix A) nothing (schedule n (structural A n m))
+
+        lower : length (lowersOf end) ≡ n
+        lower = omega (arith, stored .L-starts, compress-lengths (lowersOf end) .starts-are)
+
+        upper : length (uppersOf end) ≡ g .r
+        upper = omega (arith, stored .U-starts, compress-lengths (uppersOf end) .starts-are)
+
+    counted-over : (o : Option ℕ) → Counted n (unlessOver o (done (length (structural A n m)) g))
+    counted-over none = counted-done
+    counted-over (some i) = counted-refusal n 7 i
+
+    counted-factoring : (a b : ℕ) → Counted n (factoring p n m A a b)
+    unfolding factoring factoringFrom factor
+    counted-factoring a b = counted-over (firstOver p m (matrix A) a b nothing (schedule n (structural A n m)))
+
+  pub counted : Counted n (factorCallOf p n m A l)
+  unfolding factorCallOf
+  counted = go (lentOutcome p n m A l) refl
+    where
+      go : (o : tests.Outcome) → lentOutcome p n m A l ≡ o → Counted n (unlessRefused o (factoring p n m A (l .lcols) (l .ucols)))
+      go Passed e = counted-factoring e (l .lcols) (l .ucols)
+      go (Refused c d) e = counted-refusal n c d
+
+  -- ---- number 0: the tests passed
+
+  tests-number : (t : Bool) (k d : ℕ) (o : tests.Outcome) → (k ≡ 0 → ⊥) → (numberOf o ≡ 0 → o ≡ Passed) → numberOf (unless t k d ▷ o) ≡ 0 → (unless t k d ▷ o) ≡ Passed
+  tests-number true k d o h f e = f e
+  tests-number false k d o h f e = absurd (h e)
+
+  last-number : (t : Bool) (k d : ℕ) → (k ≡ 0 → ⊥) → numberOf (unless t k d) ≡ 0 → unless t k d ≡ Passed
+  last-number true k d h e = refl
+  last-number false k d h e = absurd (h e)
+
+  lent-number : numberOf (lentOutcome p n m A l) ≡ 0 → lentOutcome p n m A l ≡ Passed
+  unfolding lentOutcome planOutcome
+  lent-number =
+      tests-number (planLengths n A && lentLengths n m l) 9 0 (planOutcome p n m A) (λ e. omega arith)
+      (tests-number (isModulus p) 1 0 (unless (limitsOk n m A) 2 0 ▷ unless (form p m A) 8 0) (λ e. omega arith)
+      (tests-number (limitsOk n m A) 2 0 (unless (form p m A) 8 0) (λ e. omega arith)
+      (last-number (form p m A) 8 0 (λ e. omega arith))))
+
+  pub call-passed : factorCallOf p n m A l .number ≡ 0 → lentOutcome p n m A l ≡ Passed
+  unfolding factorCallOf
+  call-passed e = lent-number (go (lentOutcome p n m A l) e)
+    where
+      go : (o : tests.Outcome) → unlessRefused o (factoring p n m A (l .lcols) (l .ucols)) .number ≡ 0 → numberOf o ≡ 0
+      go Passed z = refl
+      go (Refused c d) z = z
+
+  pub call-factoring : lentOutcome p n m A l ≡ Passed → factorCallOf p n m A l ≡ factoring p n m A (l .lcols) (l .ucols)
+  unfolding factorCallOf
+  call-factoring e = ap (λ (o : tests.Outcome). unlessRefused o (factoring p n m A (l .lcols) (l .ucols))) e

@@ -1,0 +1,5 @@
+pub mod Lists
+pub mod Holding
+pub mod Lending
+pub mod Counts
+pub mod Factored

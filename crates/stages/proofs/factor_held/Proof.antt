@@ -1,0 +1,135 @@
+-- `factor_held` meets its contract. Assumes nothing.
+use mathlib.Core.Path.{sym}
+use lib.Seq.{length-take-le}
+use Rattle.sparse.specs.Matrix.{Compressed, compressed}
+use Rattle.stages.proofs.Lending.{R-part, C-part, L-part, U-part, lent-back}
+use borrow.Author.Needs.{needs}
+use Rattle.stages.proofs.factor_held.Statement.{statement}
+use Rattle.stages.proofs.factor_held.Tie as tie
+
+abbrev plan : tie.Start → Compressed
+plan s = compressed (s .args .starts .now) (s .args .columns .now) (s .args .values .now)
+
+abbrev lower : tie.Start → Compressed
+lower s = compressed (s .args .ls .now) (s .args .lc .now) (s .args .lv .now)
+
+abbrev upper : tie.Start → Compressed
+upper s = compressed (s .args .us .now) (s .args .uc .now) (s .args .uv .now)
+
+cast-n : tie.Need-cast-n
+cast-n c = search needs
+
+cast-m : tie.Need-cast-m
+cast-m c = search needs
+
+cast-count : tie.Need-cast-count
+cast-count c = search needs
+
+add-factor : tie.Need-add-factor
+add-factor c = search needs
+
+slice-aggregate-factor : tie.Need-slice-aggregate-factor
+slice-aggregate-factor c = sym (length-take-le _ _ (c .before .before .before .before .before .before .before .before .before .before .before .before .before .before .before .before .pre .plan .rows))
+
+slice-aggregate-factor-2 : tie.Need-slice-aggregate-factor-2
+slice-aggregate-factor-2 c = sym (length-take-le _ _ (c .before .before .before .before .before .before .before .before .before .before .before .before .before .before .before .before .before .pre .plan .columns-fit))
+
+slice-aggregate-factor-3 : tie.Need-slice-aggregate-factor-3
+slice-aggregate-factor-3 c = sym (length-take-le _ _ (c .before .before .before .before .before .before .before .before .before .before .before .before .before .before .before .before .before .before .pre .plan .values-fit))
+
+slice-relend-prefix-factor : tie.Need-slice-relend-prefix-factor
+slice-relend-prefix-factor c = search needs
+
+slice-aggregate-factor-4 : tie.Need-slice-aggregate-factor-4
+slice-aggregate-factor-4 c = let s = c .before .before .before .before .before .before .before .before .before .before .before .before .before .before .before .before .before .before .before in sym (R-part (s .args .r) (plan s) (s .args .rows .now) (s .args .cols .now) (lower s) (upper s) (s .args .work .now) (s .pre))
+
+slice-relend-prefix-factor-2 : tie.Need-slice-relend-prefix-factor-2
+slice-relend-prefix-factor-2 c = search needs
+
+slice-aggregate-factor-5 : tie.Need-slice-aggregate-factor-5
+slice-aggregate-factor-5 c = let s = c .before .before .before .before .before .before .before .before .before .before .before .before .before .before .before .before .before .before .before .before in sym (C-part (s .args .r) (plan s) (s .args .rows .now) (s .args .cols .now) (lower s) (upper s) (s .args .work .now) (s .pre))
+
+add-factor-2 : tie.Need-add-factor-2
+add-factor-2 c = search needs
+
+slice-relend-prefix-factor-3 : tie.Need-slice-relend-prefix-factor-3
+slice-relend-prefix-factor-3 c = search needs
+
+slice-aggregate-factor-6 : tie.Need-slice-aggregate-factor-6
+slice-aggregate-factor-6 c = let s = c .before .before .before .before .before .before .before .before .before .before .before .before .before .before .before .before .before .before .before .before .before in sym (L-part (s .args .r) (plan s) (s .args .rows .now) (s .args .cols .now) (lower s) (upper s) (s .args .work .now) (s .pre))
+
+add-factor-3 : tie.Need-add-factor-3
+add-factor-3 c = search needs
+
+slice-relend-prefix-factor-4 : tie.Need-slice-relend-prefix-factor-4
+slice-relend-prefix-factor-4 c = search needs
+
+slice-aggregate-factor-7 : tie.Need-slice-aggregate-factor-7
+slice-aggregate-factor-7 c = let s = c .before .before .before .before .before .before .before .before .before .before .before .before .before .before .before .before .before .before .before .before .before .before .before .before in sym (U-part (s .args .r) (plan s) (s .args .rows .now) (s .args .cols .now) (lower s) (upper s) (s .args .work .now) (s .pre))
+
+factor-requires : tie.Need-factor-requires
+factor-requires c κs = search needs
+
+same-length : tie.Need-same-length
+same-length c = search needs
+
+same-length-2 : tie.Need-same-length-2
+same-length-2 c = search needs
+
+same-length-3 : tie.Need-same-length-3
+same-length-3 c = search needs
+
+same-length-4 : tie.Need-same-length-4
+same-length-4 c = search needs
+
+same-length-5 : tie.Need-same-length-5
+same-length-5 c = search needs
+
+same-length-6 : tie.Need-same-length-6
+same-length-6 c = search needs
+
+same-length-7 : tie.Need-same-length-7
+same-length-7 c = search needs
+
+same-length-8 : tie.Need-same-length-8
+same-length-8 c = search needs
+
+same-length-9 : tie.Need-same-length-9
+same-length-9 c = search needs
+
+returns : tie.Need-returns
+returns c = let s = c .before .before .before .before .before .before .before .before .before .before .before .before .before .before .before .before .before .before .before .before .before .before .before .before .before .before .before .before .before .before .before .before .before .before .before .before .before .before .before .before .before .before .before .before .before .before in let x = c .before .before .before .before .before .before .before .before .before .before .before .before .before .before .before .before .before .before .factor in
+    lent-back (s .args .r) (plan s) (s .args .rows .now) (s .args .cols .now) (lower s) (upper s) (s .args .work .now) (s .pre) _ _ _ _ _ _ (compressed _ _ _) (compressed _ _ _) _ (x .kept .1 .1 .1 .1 .1 .1 .0) (x .kept .1 .1 .1 .1 .1 .1 .1 .0) (x .kept .1 .1 .1 .1 .1 .1 .1 .1 .0) (x .kept .1 .1 .1 .1 .1 .1 .1 .1 .1 .1 .1 .0) (x .ensures)
+
+pub factor-held-spec : {M : Type 1} → statement M
+factor-held-spec =
+    tie.close
+    (tie.spec
+    cast-n
+    cast-m
+    cast-count
+    add-factor
+    slice-aggregate-factor
+    slice-aggregate-factor-2
+    slice-aggregate-factor-3
+    slice-relend-prefix-factor
+    slice-aggregate-factor-4
+    slice-relend-prefix-factor-2
+    slice-aggregate-factor-5
+    add-factor-2
+    slice-relend-prefix-factor-3
+    slice-aggregate-factor-6
+    add-factor-3
+    slice-relend-prefix-factor-4
+    slice-aggregate-factor-7
+    factor-requires
+    same-length
+    same-length-2
+    same-length-3
+    same-length-4
+    same-length-5
+    same-length-6
+    same-length-7
+    same-length-8
+    same-length-9
+    returns)

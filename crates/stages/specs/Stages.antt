@@ -1,0 +1,62 @@
+-- A plan's text, read and then factored: the stages that the calls on a text begin with.
+--   reading text             the reading of a text into lists of the largest lengths
+--   heldPlan r .., planOf x  the plan that a reading left in its lists
+--   readOutcome r            a reading's number and detail
+--   lentFor n m              the lists that are lent to factoring: R, C and the starts of their lengths, and room for 16,384 entries of L and of U each
+--   factoredOf x             the factoring of the plan that was read
+--   factorOutcome f          factoring's number and detail
+--   setIn f                  the set that factoring gives
+use Prim.Native.Nat.{ℕ, _+_}
+use mathlib.Core.List.{List}
+use lib.Dec.{eqb}
+use lib.ListN.{take}
+use Rattle.lists.specs.Refusals.{unless}
+use Rattle.lists.specs.declared.Outcome as tests
+use Rattle.sparse.specs.Matrix.{Compressed, compressed}
+use Rattle.sparse.specs.Set.{Set, setOf}
+use Rattle.plan_text.specs.Limits.{startsLength}
+use Rattle.plan_text.specs.Call.{ReadAnswer, callOf}
+use Rattle.plan_text.specs.declared.Reading.{Reading}
+use Rattle.call_tests.specs.Limits.{largestEntries, workLength}
+use Rattle.factoring.specs.Outcome.{Outcome}
+use Rattle.factor_calls.specs.Calls.{factorCallOf}
+use Rattle.factor_calls.specs.declared.Lent.{Lent}
+
+-- ---- reading
+
+unfoldable pub reading : List ℕ → ReadAnswer
+reading text = callOf text startsLength largestEntries largestEntries
+
+abbrev pub heldPlan : Reading → (starts columns values : List ℕ) → Compressed
+heldPlan r starts columns values = compressed (take (r .n + 1) starts) (take (r .count) columns) (take (r .count) values)
+
+abbrev pub planOf : ReadAnswer → Compressed
+planOf x = heldPlan (x .result) (x .starts) (x .columns) (x .values)
+
+abbrev pub readOutcome : Reading → tests.Outcome
+readOutcome r = unless (eqb (r .number) 0) (r .number) (r .detail)
+
+-- ---- factoring
+
+abbrev pub lentFor : ℕ → ℕ → Lent
+lentFor n m =
+    record {
+      rows = n;
+      columns = m;
+      lstarts = n + 1;
+      lcols = largestEntries;
+      lvals = largestEntries;
+      ustarts = n + 1;
+      ucols = largestEntries;
+      uvals = largestEntries;
+      work = workLength;
+    }
+
+unfoldable pub factoredOf : ReadAnswer → Outcome
+factoredOf x = let r = x .result in factorCallOf (r .p) (r .n) (r .m) (planOf x) (lentFor (r .n) (r .m))
+
+abbrev pub factorOutcome : Outcome → tests.Outcome
+factorOutcome f = unless (eqb (f .number) 0) (f .number) (f .detail)
+
+abbrev pub setIn : Outcome → Set
+setIn f = setOf (f .rank) (f .R) (f .C) (f .L) (f .U)

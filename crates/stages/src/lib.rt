@@ -1,0 +1,122 @@
+// A plan's text, read and then factored: the stages that the calls on a text begin with. They work in lists of the largest lengths.
+ghost use Rattle.sparse.specs.Matrix.{compressed};
+ghost use Rattle.factoring.specs.Outcome.{Leaves};
+ghost use Rattle.factor_calls.specs.Calls.{factorCallOf};
+ghost use Prim.Native.Nat.{_+_};
+ghost use lib.ListN.{take};
+ghost use Rattle.stages.specs.Stages.{heldPlan, lentFor};
+ghost use Rattle.stages.specs.Lists.{StageLists, Lendable};
+ghost use Rattle.stages.specs.Staged.{Staged};
+use factor_calls::factor;
+use factoring::factor::Factored;
+use lists::clear_row;
+use plan_text::Reading;
+
+// What the stages return: what reading returned, what factoring returned after it, and the entry counts of L and U.
+pub struct Stages {
+    pub reading: Reading,
+    pub factored: Factored,
+    pub lower: u32,
+    pub upper: u32,
+}
+
+// Factors the plan that a reading left in lists.
+fn factor_held(
+    r: Reading,
+    starts: &[u32],
+    columns: &[u32],
+    values: &[u32],
+    rows: &mut [u32],
+    cols: &mut [u32],
+    ls: &mut [u32],
+    lc: &mut [u32],
+    lv: &mut [u32],
+    us: &mut [u32],
+    uc: &mut [u32],
+    uv: &mut [u32],
+    work: &mut [u64],
+) -> Factored
+    requires { ⌜ Lendable r (compressed (now starts) (now columns) (now values)) (now rows) (now cols) (compressed (now ls) (now lc) (now lv)) (compressed (now us) (now uc) (now uv)) (now work) ⌝ }
+    ensures { λ f. ⌜ Leaves (factorCallOf (r .p) (r .n) (r .m) (heldPlan r (now (starts .entry)) (now (columns .entry)) (now (values .entry))) (lentFor (r .n) (r .m))) (f .number) (f .detail) (f .rank) (f .structural) (take (r .n) (now (rows .exit))) (take (r .m) (now (cols .exit))) (compressed (take (r .n + 1) (now (ls .exit))) (now (lc .exit)) (now (lv .exit))) (compressed (take (r .n + 1) (now (us .exit))) (now (uc .exit)) (now (uv .exit))) (now (work .exit)) ⌝ }
+{
+    let n = r.n as usize;
+    let m = r.m as usize;
+    let count = r.count as usize;
+    factor(
+        r.p,
+        r.n,
+        r.m,
+        &starts[..n + 1],
+        &columns[..count],
+        &values[..count],
+        &mut rows[..n],
+        &mut cols[..m],
+        &mut ls[..n + 1],
+        lc,
+        lv,
+        &mut us[..n + 1],
+        uc,
+        uv,
+        work,
+    )
+}
+
+// Reads a plan's text and factors the plan.
+pub fn factor_text(
+    text: &[u8],
+    starts: &mut [u32],
+    columns: &mut [u32],
+    values: &mut [u32],
+    rows: &mut [u32],
+    cols: &mut [u32],
+    ls: &mut [u32],
+    lc: &mut [u32],
+    lv: &mut [u32],
+    us: &mut [u32],
+    uc: &mut [u32],
+    uv: &mut [u32],
+    work: &mut [u64],
+) -> Stages
+    requires { ⌜ StageLists (compressed (now starts) (now columns) (now values)) (now rows) (now cols) (compressed (now ls) (now lc) (now lv)) (compressed (now us) (now uc) (now uv)) (now work) ⌝ }
+    ensures { λ s. ⌜ Staged (now (text .entry)) s (compressed (now (starts .exit)) (now (columns .exit)) (now (values .exit))) (now (rows .exit)) (now (cols .exit)) (compressed (now (ls .exit)) (now (lc .exit)) (now (lv .exit))) (compressed (now (us .exit)) (now (uc .exit)) (now (uv .exit))) (now (work .entry)) (now (work .exit)) ⌝ }
+{
+    let reading = plan_text::read(text, starts, columns, values);
+    if reading.number != 0 {
+        clear_row(work);
+        let factored = Factored {
+            number: 0,
+            detail: 0,
+            rank: 0,
+            structural: 0,
+        };
+        return Stages {
+            reading,
+            factored,
+            lower: 0,
+            upper: 0,
+        };
+    }
+    let factored = factor_held(
+        reading,
+        starts,
+        columns,
+        values,
+        rows,
+        cols,
+        ls,
+        lc,
+        lv,
+        us,
+        uc,
+        uv,
+        work,
+    );
+    let lower = ls[reading.n as usize];
+    let upper = us[factored.rank as usize];
+    Stages {
+        reading,
+        factored,
+        lower,
+        upper,
+    }
+}
