@@ -6,7 +6,7 @@ use mathlib.Core.Option.{Option, none, some}
 use Prim.Native.Nat.{ℕ, _+_, _≤_}
 use native.Mathlib.Omega.{arith}
 use lib.ListN.{length, getD}
-use Rattle.lists.specs.Refusals.{_▷_, unless, numberOf}
+use Rattle.lists.specs.Refusals.{_▷_, unless, numberOf, detailOf}
 use Rattle.lists.specs.declared.Outcome as tests
 use Rattle.lists.specs.declared.Outcome.the-variants.{Passed, Refused}
 use Rattle.residue.specs.Range.{isModulus}
@@ -17,6 +17,7 @@ use Rattle.sparse.proofs.DenseLaws.{Lengths, compress-lengths}
 use Rattle.elimination.specs.Structural.{structural}
 use Rattle.elimination.specs.Pivots.{Found, uppersOf, turns}
 use Rattle.elimination.specs.Factoring.{schedule, nothing, firstOver, factored, factorFrom, factor, lowersOf}
+use Rattle.elimination.proofs.Pairs.{structural-pairs}
 use Rattle.elimination.proofs.Theorem.{StoredFactors, factor-stored}
 use Rattle.call_tests.specs.Tests.{planLengths, limitsOk, planOutcome}
 use Rattle.check_calls.proofs.Tested.{GoodPlan, good-plan}
@@ -24,6 +25,7 @@ use Rattle.factoring.specs.Outcome.{Outcome, refusedAt, done, unlessOver, facto
 use Rattle.factor_calls.specs.Lengths.{lentLengths, lentOutcome}
 use Rattle.factor_calls.specs.Calls.{refusal, unlessRefused, factorCallOf}
 use Rattle.factor_calls.specs.declared.Lent.{Lent}
+use Rattle.stages.proofs.Rows.{row-inside}
 
 pub record Counted (n : ℕ) (o : Outcome) : Type 0 where
   pub lower-last : getD (o .L .starts) n 0 ≡ length (o .L .vals)
@@ -31,9 +33,19 @@ pub record Counted (n : ℕ) (o : Outcome) : Type 0 where
   pub upper-last : getD (o .U .starts) (o .rank) 0 ≡ length (o .U .vals)
   pub upper-paired : length (o .U .cols) ≡ length (o .U .vals)
   pub rank-small : o .rank ≤ n
+  pub detail-small : o .detail ≤ n
 
-counted-refusal : (n c d : ℕ) → Counted n (refusal c d)
-counted-refusal n c d = record { lower-last = refl; lower-paired = refl; upper-last = refl; upper-paired = refl; rank-small = omega arith }
+counted-refusal : (n c d : ℕ) → d ≤ n → Counted n (refusal c d)
+counted-refusal n c d h = record { lower-last = refl; lower-paired = refl; upper-last = refl; upper-paired = refl; rank-small = omega arith; detail-small = h }
+
+-- the tests before factoring have no detail
+no-detail : (t : Bool) (k : ℕ) (o : tests.Outcome) → detailOf o ≡ 0 → detailOf (unless t k 0 ▷ o) ≡ 0
+no-detail true k o h = h
+no-detail false k o h = refl
+
+last-detail : (t : Bool) (k : ℕ) → detailOf (unless t k 0) ≡ 0
+last-detail true k = refl
+last-detail false k = refl
 
 module _ (p n m : ℕ) (A : Compressed) (l : Lent) where
   module _ (passed : lentOutcome p n m A l ≡ Passed) where
@@ -56,6 +68,7 @@ module _ (p n m : ℕ) (A : Compressed) (l : Lent) where
           upper-last = ap (λ (k : ℕ). getD (g .U .starts) k 0) (sym upper) ∙ compress-lengths (uppersOf end) .last-start;
           upper-paired = compress-lengths (uppersOf end) .paired;
           rank-small = stored .factors .rank-rows;
+          detail-small = omega arith;
         }
       where
         end : Found
@@ -67,13 +80,21 @@ module _ (p n m : ℕ) (A : Compressed) (l : Lent) where
         upper : length (uppersOf end) ≡ g .r
         upper = omega (arith, stored .U-starts, compress-lengths (uppersOf end) .starts-are)
 
-    counted-over : (o : Option ℕ) → Counted n (unlessOver o (done (length (structural A n m)) g))
-    counted-over none = counted-done
-    counted-over (some i) = counted-refusal n 7 i
+    counted-over : (a b : ℕ) (o : Option ℕ) → firstOver p m (matrix A) a b nothing (schedule n (structural A n m)) ≡ o → Counted n (unlessOver o (done (length (structural A n m)) g))
+    counted-over a b none e = counted-done
+    counted-over a b (some i) e =
+        counted-refusal n 7 i (omega (arith, row-inside p n m (matrix A) (structural A n m) (structural-pairs p n m A (good .formed) (good .rows)) a b i e))
 
     counted-factoring : (a b : ℕ) → Counted n (factoring p n m A a b)
     unfolding factoring factoringFrom factor
-    counted-factoring a b = counted-over (firstOver p m (matrix A) a b nothing (schedule n (structural A n m)))
+    counted-factoring a b = counted-over a b (firstOver p m (matrix A) a b nothing (schedule n (structural A n m))) refl
+
+  lent-detail : detailOf (lentOutcome p n m A l) ≡ 0
+  unfolding lentOutcome planOutcome
+  lent-detail =
+      no-detail (planLengths n A && lentLengths n m l) 9 (planOutcome p n m A)
+      (no-detail (isModulus p) 1 (unless (limitsOk n m A) 2 0 ▷ unless (form p m A) 8 0)
+      (no-detail (limitsOk n m A) 2 (unless (form p m A) 8 0) (last-detail (form p m A) 8)))
 
   pub counted : Counted n (factorCallOf p n m A l)
   unfolding factorCallOf
@@ -81,7 +102,7 @@ module _ (p n m : ℕ) (A : Compressed) (l : Lent) where
     where
       go : (o : tests.Outcome) → lentOutcome p n m A l ≡ o → Counted n (unlessRefused o (factoring p n m A (l .lcols) (l .ucols)))
       go Passed e = counted-factoring e (l .lcols) (l .ucols)
-      go (Refused c d) e = counted-refusal n c d
+      go (Refused c d) e = counted-refusal n c d (omega (arith, ap detailOf (sym e) ∙ lent-detail))
 
   -- ---- number 0: the tests passed
 

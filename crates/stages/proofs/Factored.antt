@@ -142,6 +142,7 @@ module _ (r : Reading) (A : Compressed) (f : Factored) (R C : List ℕ) (L U : C
         plan-is = refl;
         number-is = h .number-is;
         detail-is = h .detail-is;
+        detail-small = omega (arith, h .detail-is, c .detail-small, few .rows);
         rank-is = h .rank-is;
         structural-is = h .structural-is;
         lower-is = lower-count;

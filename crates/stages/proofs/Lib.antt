@@ -1,5 +1,6 @@
 pub mod Lists
 pub mod Holding
 pub mod Lending
+pub mod Rows
 pub mod Counts
 pub mod Factored

@@ -11,7 +11,7 @@ use Rattle.lists.specs.Filled.{zeros}
 use Rattle.sparse.specs.Matrix.{Compressed, compressed}
 use Rattle.sparse.specs.Set.{Set, setOf}
 use Rattle.plan_text.specs.Call.{ReadAnswer}
-use Rattle.factoring.specs.Outcome.{Outcome}
+use Rattle.call_tests.specs.Limits.{largestSize}
 use Rattle.stages.specs.declared.Stages.{Stages}
 use Rattle.stages.specs.Stages.{reading, heldPlan, planOf, factoredOf, setIn}
 use Rattle.stages.specs.Lists.{Held}
@@ -38,6 +38,7 @@ pub record Factors (x : ReadAnswer) (s : Stages) (A : Compressed) (R C : List �
   pub plan-is : heldPlan (s .reading) (A .starts) (A .cols) (A .vals) ≡ planOf x
   pub number-is : s .factored .number ≡ factoredOf x .number
   pub detail-is : s .factored .detail ≡ factoredOf x .detail
+  pub detail-small : s .factored .detail ≤ largestSize
   pub rank-is : s .factored .rank ≡ factoredOf x .rank
   pub structural-is : s .factored .structural ≡ factoredOf x .structural
   pub lower-is : s .lower ≡ length (factoredOf x .L .vals)
