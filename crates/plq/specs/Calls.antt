@@ -1,37 +1,27 @@
 -- The calls that take a plan as its text, as planning programs in C see them.
---   reading text             the reading of a text into lists of the largest lengths
---   heldPlan r .., planOf x  the plan that a reading left in its lists
---   readOutcome r            a reading's number and detail
 --   checkReadOf x cert       checking a certificate against the plan of a reading that was done
 --   checkTextOf text cert    reading the text, then checking the certificate against its plan
+--   makeReadOf x room        factoring the plan of a reading that was done, then writing its certificate into a buffer with so much room
+--   makeTextOf text room     reading the text, then factoring its plan and writing its certificate
+--   certificateFor x         the certificate of the set that factoring gives for the plan of a reading
 --   packed o                 an outcome as one number: the table's number plus 256 times its detail
---   Held r ..                the lists have the plan that a reading says they have
---   Lengths ..               lists of the largest lengths
-use Prim.Native.Nat.{ℕ, _+_, _*_, _≤_}
+--   Puts o cert r b₀ b       the outcome r is o, and the buffer holds the certificate, zero past its end; all zero where o is a refusal
+--   Makes text z b₀ b        the contract of making: the number, and every byte of the buffer
+use Prim.Native.Nat.{ℕ, _+_, _*_}
 use mathlib.Core.Path.{_≡_}
 use mathlib.Core.List.{List}
-use lib.Dec.{eqb}
-use lib.ListN.{length, take}
-use Rattle.lists.specs.Refusals.{_▷_, unless, numberOf, detailOf}
+use lib.ListN.{length}
+use Rattle.lists.specs.Filled.{filled}
+use Rattle.lists.specs.Refusals.{_▷_, numberOf, detailOf}
 use Rattle.lists.specs.declared.Outcome.{Outcome}
-use Rattle.sparse.specs.Matrix.{Compressed, compressed}
-use Rattle.plan_text.specs.Limits.{startsLength}
-use Rattle.plan_text.specs.Call.{ReadAnswer, callOf}
-use Rattle.plan_text.specs.declared.Reading.{Reading}
-use Rattle.call_tests.specs.Limits.{largestEntries, workLength}
+use Rattle.plan_text.specs.Call.{ReadAnswer}
+use Rattle.call_tests.specs.Limits.{workLength}
+use Rattle.certificate.specs.Layout.{certificateOf}
 use Rattle.check_calls.specs.Calls.{checkCertificateOf}
+use Rattle.write_calls.specs.Call.{writeOutcome, kept}
+use Rattle.stages.specs.Stages.{reading, planOf, readOutcome, factoredOf, factorOutcome, setIn}
 
-unfoldable pub reading : List ℕ → ReadAnswer
-reading text = callOf text startsLength largestEntries largestEntries
-
-abbrev pub heldPlan : Reading → (starts columns values : List ℕ) → Compressed
-heldPlan r starts columns values = compressed (take (r .n + 1) starts) (take (r .count) columns) (take (r .count) values)
-
-abbrev pub planOf : ReadAnswer → Compressed
-planOf x = heldPlan (x .result) (x .starts) (x .columns) (x .values)
-
-abbrev pub readOutcome : Reading → Outcome
-readOutcome r = unless (eqb (r .number) 0) (r .number) (r .detail)
+-- ---- checking
 
 unfoldable pub checkReadOf : ReadAnswer → List ℕ → Outcome
 checkReadOf x cert = let r = x .result in readOutcome r ▷ checkCertificateOf (r .p) (r .n) (r .m) (planOf x) cert workLength
@@ -39,16 +29,29 @@ checkReadOf x cert = let r = x .result in readOutcome r ▷ checkCertificateOf (
 unfoldable pub checkTextOf : List ℕ → List ℕ → Outcome
 checkTextOf text cert = checkReadOf (reading text) cert
 
+-- ---- making
+
+unfoldable pub makeReadOf : ReadAnswer → ℕ → Outcome
+makeReadOf x room =
+    let r = x .result in
+    let f = factoredOf x in
+    readOutcome r ▷ factorOutcome f ▷ writeOutcome (r .p) (r .n) (r .m) (planOf x) (setIn f) workLength room
+
+unfoldable pub makeTextOf : List ℕ → ℕ → Outcome
+makeTextOf text room = makeReadOf (reading text) room
+
+unfoldable pub certificateFor : ReadAnswer → List ℕ
+certificateFor x = certificateOf (x .result .p) (x .result .n) (x .result .m) (setIn (factoredOf x))
+
+-- ---- one number
+
 abbrev pub packed : Outcome → ℕ
 packed o = numberOf o + 256 * detailOf o
 
-pub record Held (r : Reading) (starts columns values : List ℕ) : Type 0 where
-  pub rows : r .n + 1 ≤ length starts
-  pub columns-fit : r .count ≤ length columns
-  pub values-fit : r .count ≤ length values
+pub record Puts (o : Outcome) (cert : List ℕ) (r : Outcome) (b₀ b : List ℕ) : Type 0 where
+  pub outcome : r ≡ o
+  pub buffer : b ≡ filled (length b₀) (kept o cert)
 
-pub record Lengths (starts columns values work : List ℕ) : Type 0 where
-  pub starts-length : length starts ≡ startsLength
-  pub columns-length : length columns ≡ largestEntries
-  pub values-length : length values ≡ largestEntries
-  pub work-length : length work ≡ workLength
+pub record Makes (text : List ℕ) (z : ℕ) (b₀ b : List ℕ) : Type 0 where
+  pub number : z ≡ packed (makeTextOf text (length b₀))
+  pub buffer : b ≡ filled (length b₀) (kept (makeTextOf text (length b₀)) (certificateFor (reading text)))

@@ -1,12 +1,12 @@
 // The library for planning programs in C (include/plq.h): calls that take a plan as its text and need no storage of the caller's.
 ghost use mathlib.Core.Path.{_≡_};
-ghost use lib.ListN.{length};
-ghost use Rattle.check_calls.specs.Calls.{checkCertificateOf, Checks};
-ghost use Rattle.plan_text.specs.Call.{callOf};
-ghost use Rattle.plq.specs.Calls.{heldPlan, Held, Lengths, checkReadOf, checkTextOf, packed};
-use check_calls::check_certificate;
+ghost use Rattle.plq.specs.Calls.{checkTextOf, packed, Makes};
+use check::check_text;
 use lists::Outcome;
-use plan_text::Reading;
+use make::make_text;
+
+pub mod check;
+pub mod make;
 
 // An outcome as one number: the table's number plus 256 times its detail.
 fn pack(o: Outcome) -> u64
@@ -18,49 +18,43 @@ fn pack(o: Outcome) -> u64
     }
 }
 
-// Checks a certificate against the plan that a reading left in lists.
-fn check_held(
-    r: Reading,
-    starts: &[u32],
-    columns: &[u32],
-    values: &[u32],
-    certificate: &[u8],
-    work: &mut [u64],
-) -> Outcome
-    requires { ⌜ Held r (now starts) (now columns) (now values) ⌝ }
-    ensures { λ o. ⌜ Checks (checkCertificateOf (r .p) (r .n) (r .m) (heldPlan r (now (starts .entry)) (now (columns .entry)) (now (values .entry))) (now (certificate .entry)) (length (now (work .entry)))) o (now (work .entry)) (now (work .exit)) ⌝ }
+// Makes the certificate of a plan.
+//   takes    a plan text, and a buffer of any length and content
+//   gives    0, and the certificate in the buffer, zero past its end
+//   refuses  reading: 2, then the first line at fault; then factoring: 7 at a row; then writing: 9 for a buffer that is too short
+//   leaves   after a refusal the buffer all zero; the text is only read
+#[no_mangle]
+pub extern "C" fn plq_make_certificate(text: &[u8], buffer: &mut [u8]) -> u64
+    ensures { λ z. ⌜ Makes (now (text .entry)) z (now (buffer .entry)) (now (buffer .exit)) ⌝ }
 {
-    let rows = r.n as usize + 1;
-    let count = r.count as usize;
-    check_certificate(
-        r.p,
-        r.n,
-        r.m,
-        &starts[..rows],
-        &columns[..count],
-        &values[..count],
-        certificate,
-        work,
-    )
-}
-
-// Reads a plan's text into lists of the largest lengths, and checks a certificate against it.
-fn check_text(
-    text: &[u8],
-    certificate: &[u8],
-    starts: &mut [u32],
-    columns: &mut [u32],
-    values: &mut [u32],
-    work: &mut [u64],
-) -> Outcome
-    requires { ⌜ Lengths (now starts) (now columns) (now values) (now work) ⌝ }
-    ensures { λ o. ⌜ o ≡ checkTextOf (now (text .entry)) (now (certificate .entry)) ⌝ }
-{
-    let r = plan_text::read(text, starts, columns, values);
-    if r.number != 0 {
-        return Outcome::Refused(r.number, r.detail);
-    }
-    check_held(r, starts, columns, values, certificate, work)
+    let mut starts = [0u32; 2049];
+    let mut columns = [0u32; 16384];
+    let mut values = [0u32; 16384];
+    let mut rows = [0u32; 2048];
+    let mut cols = [0u32; 2048];
+    let mut ls = [0u32; 2049];
+    let mut lc = [0u32; 16384];
+    let mut lv = [0u32; 16384];
+    let mut us = [0u32; 2049];
+    let mut uc = [0u32; 16384];
+    let mut uv = [0u32; 16384];
+    let mut work = [0u64; 2048];
+    pack(make_text(
+        text,
+        &mut starts,
+        &mut columns,
+        &mut values,
+        &mut rows,
+        &mut cols,
+        &mut ls,
+        &mut lc,
+        &mut lv,
+        &mut us,
+        &mut uc,
+        &mut uv,
+        buffer,
+        &mut work,
+    ))
 }
 
 // Checks a certificate, anybody's.

@@ -2,8 +2,8 @@
 use mathlib.Core.Path.{sym}
 use lib.Seq.{length-take-le}
 use borrow.Author.Needs.{needs}
-use Rattle.plq.proofs.check_held.Statement.{statement}
-use Rattle.plq.proofs.check_held.Tie as tie
+use Rattle.plq.proofs.check.check_held.Statement.{statement}
+use Rattle.plq.proofs.check.check_held.Tie as tie
 
 cast-rows : tie.Need-cast-rows
 cast-rows c = search needs

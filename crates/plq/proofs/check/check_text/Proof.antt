@@ -1,0 +1,55 @@
+-- `check_text` meets its contract. Assumes nothing.
+use Rattle.sparse.specs.Matrix.{compressed}
+use Rattle.plq.proofs.Checking.{plan-held, text-refused, text-checked}
+use borrow.Author.Needs.{needs}
+use Rattle.plq.proofs.check.check_text.Statement.{statement}
+use Rattle.plq.proofs.check.check_text.Tie as tie
+
+read-requires : tie.Need-read-requires
+read-requires c κs = search needs
+
+same-length : tie.Need-same-length
+same-length c = search needs
+
+same-length-2 : tie.Need-same-length-2
+same-length-2 c = search needs
+
+same-length-3 : tie.Need-same-length-3
+same-length-3 c = search needs
+
+returns : tie.Need-returns
+returns c = text-refused _ (compressed _ _ _) (compressed _ _ _) _ (c .before .before .before .before .before .before .before .before .before .before .before .before .before .before .before .before .before .before .pre) _ (c .before .before .before .before .before .before .before .before .read .ensures) _ (c .if1 .taken)
+
+check-held-requires : tie.Need-check-held-requires
+check-held-requires c κs = let x = c .before .before .before .before .before .before .before .before .before .before .before .before .read in plan-held _ (compressed _ _ _) (compressed _ _ _) _ (c .before .before .before .before .before .before .before .before .before .before .before .before .before .before .before .before .before .before .before .before .before .before .pre) _ (x .ensures) (x .kept .1 .0) (x .kept .1 .1 .0) (x .kept .1 .1 .1 .0)
+
+same-length-4 : tie.Need-same-length-4
+same-length-4 c = search needs
+
+same-length-5 : tie.Need-same-length-5
+same-length-5 c = search needs
+
+same-length-6 : tie.Need-same-length-6
+same-length-6 c = search needs
+
+same-length-7 : tie.Need-same-length-7
+same-length-7 c = search needs
+
+returns-2 : tie.Need-returns-2
+returns-2 c = text-checked _ (compressed _ _ _) (compressed _ _ _) _ (c .before .before .before .before .before .before .before .before .before .before .before .before .before .before .before .before .before .before .before .before .before .before .before .before .before .pre) _ (c .before .before .before .before .before .before .before .before .before .before .before .before .before .before .before .read .ensures) _ _ (c .before .before .before .before .before .before .before .if1 .left) (c .before .before .check-held .ensures .outcome)
+
+pub check-text-spec : {M : Type 1} → statement M
+check-text-spec =
+    tie.close
+    (tie.spec
+    read-requires
+    same-length
+    same-length-2
+    same-length-3
+    returns
+    check-held-requires
+    same-length-4
+    same-length-5
+    same-length-6
+    same-length-7
+    returns-2)

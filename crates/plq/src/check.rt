@@ -1,0 +1,57 @@
+// Checking a certificate against a plan's text.
+ghost use mathlib.Core.Path.{_≡_};
+ghost use lib.ListN.{length};
+ghost use Rattle.sparse.specs.Matrix.{compressed};
+ghost use Rattle.check_calls.specs.Calls.{checkCertificateOf, Checks};
+ghost use Rattle.stages.specs.Stages.{heldPlan};
+ghost use Rattle.stages.specs.Lists.{Held};
+ghost use Rattle.plq.specs.Calls.{checkTextOf};
+ghost use Rattle.plq.specs.Lists.{CheckLists};
+use check_calls::check_certificate;
+use lists::Outcome;
+use plan_text::Reading;
+
+// Checks a certificate against the plan that a reading left in lists.
+fn check_held(
+    r: Reading,
+    starts: &[u32],
+    columns: &[u32],
+    values: &[u32],
+    certificate: &[u8],
+    work: &mut [u64],
+) -> Outcome
+    requires { ⌜ Held r (compressed (now starts) (now columns) (now values)) ⌝ }
+    ensures { λ o. ⌜ Checks (checkCertificateOf (r .p) (r .n) (r .m) (heldPlan r (now (starts .entry)) (now (columns .entry)) (now (values .entry))) (now (certificate .entry)) (length (now (work .entry)))) o (now (work .entry)) (now (work .exit)) ⌝ }
+{
+    let rows = r.n as usize + 1;
+    let count = r.count as usize;
+    check_certificate(
+        r.p,
+        r.n,
+        r.m,
+        &starts[..rows],
+        &columns[..count],
+        &values[..count],
+        certificate,
+        work,
+    )
+}
+
+// Reads a plan's text into lists of the largest lengths, and checks a certificate against it.
+pub fn check_text(
+    text: &[u8],
+    certificate: &[u8],
+    starts: &mut [u32],
+    columns: &mut [u32],
+    values: &mut [u32],
+    work: &mut [u64],
+) -> Outcome
+    requires { ⌜ CheckLists (compressed (now starts) (now columns) (now values)) (now work) ⌝ }
+    ensures { λ o. ⌜ o ≡ checkTextOf (now (text .entry)) (now (certificate .entry)) ⌝ }
+{
+    let r = plan_text::read(text, starts, columns, values);
+    if r.number != 0 {
+        return Outcome::Refused(r.number, r.detail);
+    }
+    check_held(r, starts, columns, values, certificate, work)
+}

@@ -1,0 +1,127 @@
+// Making the certificate of a plan's text.
+ghost use lib.ListN.{length};
+ghost use Rattle.sparse.specs.Matrix.{compressed};
+ghost use Rattle.certificate.specs.Layout.{certificateOf};
+ghost use Rattle.write_calls.specs.Call.{writeOutcome};
+ghost use Rattle.stages.specs.Stages.{reading, heldPlan};
+ghost use Rattle.stages.specs.Lists.{StageLists};
+ghost use Rattle.stages.specs.Staged.{Fits, heldSet};
+ghost use Rattle.plq.specs.Calls.{makeTextOf, certificateFor, Puts};
+use lists::Outcome;
+use lists::clear_bytes;
+use stages::Stages;
+use stages::factor_text;
+use write_calls::write_certificate;
+
+// Writes the certificate of the set that the stages left in lists.
+fn write_held(
+    s: Stages,
+    starts: &[u32],
+    columns: &[u32],
+    values: &[u32],
+    rows: &[u32],
+    cols: &[u32],
+    ls: &[u32],
+    lc: &[u32],
+    lv: &[u32],
+    us: &[u32],
+    uc: &[u32],
+    uv: &[u32],
+    buffer: &mut [u8],
+    work: &mut [u64],
+) -> Outcome
+    requires { ⌜ Fits s (compressed (now starts) (now columns) (now values)) (now rows) (now cols) (compressed (now ls) (now lc) (now lv)) (compressed (now us) (now uc) (now uv)) ⌝ }
+    ensures { λ o. ⌜ Puts (writeOutcome (s .reading .p) (s .reading .n) (s .reading .m) (heldPlan (s .reading) (now (starts .entry)) (now (columns .entry)) (now (values .entry))) (heldSet s (now (rows .entry)) (now (cols .entry)) (compressed (now (ls .entry)) (now (lc .entry)) (now (lv .entry))) (compressed (now (us .entry)) (now (uc .entry)) (now (uv .entry)))) (length (now (work .entry))) (length (now (buffer .entry)))) (certificateOf (s .reading .p) (s .reading .n) (s .reading .m) (heldSet s (now (rows .entry)) (now (cols .entry)) (compressed (now (ls .entry)) (now (lc .entry)) (now (lv .entry))) (compressed (now (us .entry)) (now (uc .entry)) (now (uv .entry))))) o (now (buffer .entry)) (now (buffer .exit)) ⌝ }
+{
+    let r = s.reading;
+    let n = r.n as usize;
+    let m = r.m as usize;
+    let count = r.count as usize;
+    let factored = s.factored;
+    let rank = factored.rank as usize;
+    let lower = s.lower as usize;
+    let upper = s.upper as usize;
+    let written = write_certificate(
+        r.p,
+        r.n,
+        r.m,
+        &starts[..n + 1],
+        &columns[..count],
+        &values[..count],
+        factored.rank,
+        &rows[..n],
+        &cols[..m],
+        &ls[..n + 1],
+        &lc[..lower],
+        &lv[..lower],
+        &us[..rank + 1],
+        &uc[..upper],
+        &uv[..upper],
+        buffer,
+        work,
+    );
+    written.outcome
+}
+
+// Reads a plan's text, factors the plan, and writes its certificate.
+pub fn make_text(
+    text: &[u8],
+    starts: &mut [u32],
+    columns: &mut [u32],
+    values: &mut [u32],
+    rows: &mut [u32],
+    cols: &mut [u32],
+    ls: &mut [u32],
+    lc: &mut [u32],
+    lv: &mut [u32],
+    us: &mut [u32],
+    uc: &mut [u32],
+    uv: &mut [u32],
+    buffer: &mut [u8],
+    work: &mut [u64],
+) -> Outcome
+    requires { ⌜ StageLists (compressed (now starts) (now columns) (now values)) (now rows) (now cols) (compressed (now ls) (now lc) (now lv)) (compressed (now us) (now uc) (now uv)) (now work) ⌝ }
+    ensures { λ o. ⌜ Puts (makeTextOf (now (text .entry)) (length (now (buffer .entry)))) (certificateFor (reading (now (text .entry)))) o (now (buffer .entry)) (now (buffer .exit)) ⌝ }
+{
+    let s = factor_text(
+        text,
+        starts,
+        columns,
+        values,
+        rows,
+        cols,
+        ls,
+        lc,
+        lv,
+        us,
+        uc,
+        uv,
+        work,
+    );
+    let read = s.reading;
+    if read.number != 0 {
+        clear_bytes(buffer);
+        return Outcome::Refused(read.number, read.detail);
+    }
+    let factored = s.factored;
+    if factored.number != 0 {
+        clear_bytes(buffer);
+        return Outcome::Refused(factored.number, factored.detail);
+    }
+    write_held(
+        s,
+        starts,
+        columns,
+        values,
+        rows,
+        cols,
+        ls,
+        lc,
+        lv,
+        us,
+        uc,
+        uv,
+        buffer,
+        work,
+    )
+}
