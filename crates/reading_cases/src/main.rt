@@ -14,9 +14,9 @@ fn show(name: &[u8], text: &[u8], starts: &mut [u32], columns: &mut [u32], value
     let r = plan_text::read(text, starts, columns, values);
     print::line(name, r);
     io::write_all(1, b" cells");
-    print::number(print::nonzero(starts) as u64);
-    print::number(print::nonzero(columns) as u64);
-    print::number(print::nonzero(values) as u64);
+    case_text::number(case_text::nonzero(starts) as u64);
+    case_text::number(case_text::nonzero(columns) as u64);
+    case_text::number(case_text::nonzero(values) as u64);
     io::write_all(1, b"\n");
 }
 
@@ -71,9 +71,9 @@ fn cells_case(case: &[u8]) {
     let mut columns = [9u32; 12];
     let mut values = [9u32; 12];
     show_case(case, &mut starts, &mut columns, &mut values);
-    print::list(b"  starts", lists::part(&starts, 0, 7));
-    print::list(b"  columns", &columns);
-    print::list(b"  values", &values);
+    print::list_line(b"  starts", lists::part(&starts, 0, 7));
+    print::list_line(b"  columns", &columns);
+    print::list_line(b"  values", &values);
 }
 
 fn moduli() {

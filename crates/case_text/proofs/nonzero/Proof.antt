@@ -1,22 +1,19 @@
--- `list` is safe and ends. Assumes nothing.
+-- `nonzero` is safe and ends. The invariant: it counted no more numbers than it passed. Assumes nothing.
 use Prim.Native.Nat.{_-_, _≤_}
 use native.Mathlib.Omega.{arith}
 use lib.ListN.{length}
 use borrow.Author.Needs.{needs}
-use Rattle.reading_cases.proofs.print.list.Statement.{statement}
-use Rattle.reading_cases.proofs.print.list.Tie as tie
+use Rattle.case_text.proofs.nonzero.Statement.{statement}
+use Rattle.case_text.proofs.nonzero.Tie as tie
 
 abbrev Inv-loop : tie.InvT-loop
-Inv-loop label numbers i₀ t4 i = i ≤ length numbers
+Inv-loop numbers count₀ i₀ count i = (i ≤ length numbers) × (count ≤ i)
 
 abbrev μ-loop : tie.MeasureT-loop
-μ-loop label numbers i₀ t4 i = length numbers - i
-
-write-all-requires : tie.Need-write-all-requires Inv-loop μ-loop
-write-all-requires c κs = search needs
+μ-loop numbers count₀ i₀ count i = length numbers - i
 
 loop-holds : tie.Need-loop-holds Inv-loop μ-loop
-loop-holds c = omega arith
+loop-holds c = (omega arith, omega arith)
 
 mul-wide : tie.Need-mul-wide Inv-loop μ-loop
 mul-wide c = omega arith
@@ -27,8 +24,8 @@ shared-slice-read-wide c = omega arith
 wide-requires : tie.Need-wide-requires Inv-loop μ-loop
 wide-requires c κs = search needs
 
-number-requires : tie.Need-number-requires Inv-loop μ-loop
-number-requires c κs = search needs
+counted-requires : tie.Need-counted-requires Inv-loop μ-loop
+counted-requires c κs = omega arith
 
 add-i : tie.Need-add-i Inv-loop μ-loop
 add-i c = omega arith
@@ -37,32 +34,23 @@ loop-less : tie.Need-loop-less Inv-loop μ-loop
 loop-less c = omega arith
 
 loop-again : tie.Need-loop-again Inv-loop μ-loop
-loop-again c = omega arith
-
-slice-aggregate-write-all : tie.Need-slice-aggregate-write-all Inv-loop μ-loop
-slice-aggregate-write-all c = search needs
-
-write-all-requires-2 : tie.Need-write-all-requires-2 Inv-loop μ-loop
-write-all-requires-2 c κs = search needs
+loop-again c = (omega arith, omega arith)
 
 returns : tie.Need-returns Inv-loop μ-loop
 returns c = tt
 
-pub list-spec : {M : Type 1} → statement M
-list-spec =
+pub nonzero-spec : {M : Type 1} → statement M
+nonzero-spec =
     tie.close
     (tie.spec
     Inv-loop
     μ-loop
-    write-all-requires
     loop-holds
     mul-wide
     shared-slice-read-wide
     wide-requires
-    number-requires
+    counted-requires
     add-i
     loop-less
     loop-again
-    slice-aggregate-write-all
-    write-all-requires-2
     returns)

@@ -1,15 +1,15 @@
--- `nonzero` is safe and ends. The invariant: it counted no more numbers than it passed. Assumes nothing.
+-- `nonzero_row` is safe and ends. The invariant: it counted no more cells than it passed. Assumes nothing.
 use Prim.Native.Nat.{_-_, _≤_}
 use native.Mathlib.Omega.{arith}
 use lib.ListN.{length}
-use Rattle.reading_cases.proofs.print.nonzero.Statement.{statement}
-use Rattle.reading_cases.proofs.print.nonzero.Tie as tie
+use Rattle.case_text.proofs.nonzero_row.Statement.{statement}
+use Rattle.case_text.proofs.nonzero_row.Tie as tie
 
 abbrev Inv-loop : tie.InvT-loop
-Inv-loop numbers count₀ i₀ count i = (i ≤ length numbers) × (count ≤ i)
+Inv-loop row count₀ i₀ count i = (i ≤ length row) × (count ≤ i)
 
 abbrev μ-loop : tie.MeasureT-loop
-μ-loop numbers count₀ i₀ count i = length numbers - i
+μ-loop row count₀ i₀ count i = length row - i
 
 loop-holds : tie.Need-loop-holds Inv-loop μ-loop
 loop-holds c = (omega arith, omega arith)
@@ -35,8 +35,8 @@ loop-again c = (omega arith, omega arith)
 returns : tie.Need-returns Inv-loop μ-loop
 returns c = tt
 
-pub nonzero-spec : {M : Type 1} → statement M
-nonzero-spec =
+pub nonzero-row-spec : {M : Type 1} → statement M
+nonzero-row-spec =
     tie.close
     (tie.spec
     Inv-loop

@@ -1,0 +1,52 @@
+// What the programs that run cases print of numbers and lists, on standard output.
+ghost use Prim.Native.Nat.{_+_, _^_, _≤_, _<_};
+
+// A space and a number.
+pub fn number(n: u64) {
+    io::write_all(1, b" ");
+    io::print_decimal(1, n);
+}
+
+fn wide(x: u32) -> u64 {
+    x as u64
+}
+
+// A label and the numbers of a list.
+pub fn list(label: &[u8], numbers: &[u32]) {
+    io::write_all(1, label);
+    let mut i = 0;
+    while i < numbers.len() {
+        number(wide(numbers[i]));
+        i += 1;
+    }
+}
+
+// One more where x is not 0.
+fn counted(count: usize, x: u64) -> usize
+    requires { ⌜ count < 2 ^ 63 ⌝ }
+    ensures { λ r. ⌜ r ≤ count + 1 ⌝ }
+{
+    if x != 0 { count + 1 } else { count }
+}
+
+// How many numbers of a list are not 0.
+pub fn nonzero(numbers: &[u32]) -> usize {
+    let mut count = 0;
+    let mut i = 0;
+    while i < numbers.len() {
+        count = counted(count, wide(numbers[i]));
+        i += 1;
+    }
+    count
+}
+
+// How many cells of a working row are not 0.
+pub fn nonzero_row(row: &[u64]) -> usize {
+    let mut count = 0;
+    let mut i = 0;
+    while i < row.len() {
+        count = counted(count, row[i]);
+        i += 1;
+    }
+    count
+}

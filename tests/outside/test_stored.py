@@ -1,0 +1,147 @@
+"""The stored output of the program that runs the cases of factoring, against the model.
+
+The program's source names its cases: a plan's text; plan D with rooms; plan D
+with one thing changed. The model says what each must come to.
+"""
+
+import re
+import unittest
+from ast import literal_eval
+from pathlib import Path
+from typing import NamedTuple
+
+from model.factors import factor
+from model.plan_text import read_plan
+from model.refusals import LENGTH, Refusal
+from model.storage import Plan, Rows, plan_refusal
+from sweeps import AMPLE
+from worked import PLAN_D
+
+PROGRAM = Path(__file__).resolve().parents[2] / "crates" / "factoring_cases"
+ARGUMENT = r'b"[^"]*"|[\w:]+'
+CALL = re.compile(rf'\b(show|room|changed)\(\s*(b"[^"]*"(?:,\s*(?:{ARGUMENT}))*),?\s*\);')
+
+PLAIN_ROOM = 16
+D_ROOM = 7
+WORKING_ROW = 2_048
+# Of reading's lists the program lends the first cells, and these past their ends.
+STARTS_READ = 2_049
+ENTRIES_READ = 16_385
+UNTOUCHED = 9
+
+
+class Case(NamedTuple):
+    """A text, the rooms for L and U, what is changed and to what."""
+
+    text: bytes
+    lower: int
+    upper: int
+    of: str = "NOTHING"
+    to: int = 0
+
+    def given(self, of, value):
+        return self.to if self.of == of else value
+
+
+def cases():
+    """Each case of the source with its name."""
+    for path in sorted(PROGRAM.glob("src/*.rt")):
+        for kind, arguments in CALL.findall(path.read_text()):
+            name, *rest = re.findall(ARGUMENT, arguments)
+            yield literal_eval(name).decode(), CASES[kind](*rest)
+
+
+CASES = {
+    "show": lambda text: Case(literal_eval(text), PLAIN_ROOM, PLAIN_ROOM),
+    "room": lambda lower, upper: Case(PLAN_D, int(lower), int(upper)),
+    "changed": lambda of, to: Case(PLAN_D, D_ROOM, D_ROOM, of.removeprefix("change::"), int(to)),
+}
+
+
+def handed(case):
+    """The plan as it is handed to factoring."""
+    read = read_plan(case.text, AMPLE)
+    n, m = case.given("N", read.n), case.given("M", read.m)
+    entries = case.given("ENTRIES", len(read.rows.columns))
+    starts = _changed(case, "FIRST_START", read.rows.starts, STARTS_READ)
+    columns = _changed(case, "FIRST_COLUMN", read.rows.columns, ENTRIES_READ)
+    values = _changed(case, "FIRST_VALUE", read.rows.values, ENTRIES_READ)
+    rows = Rows(
+        (*starts, UNTOUCHED)[: case.given("STARTS", n + 1)],
+        columns[: case.given("COLUMNS", entries)],
+        values[: case.given("VALUES", entries)],
+    )
+    return Plan(case.given("P", read.p), n, m, rows)
+
+
+def _changed(case, of, numbers, length):
+    """A list as reading leaves it, with its first number changed."""
+    cells = numbers + (0,) * (length - len(numbers))
+    return (case.given(of, cells[0]), *cells[1:])
+
+
+def lent(case, plan):
+    """The lengths that factoring takes of the lists for R, C, L, U and of the
+    working row, and those that are lent."""
+    starts = plan.n + 1
+    taken = {
+        "R": plan.n,
+        "C": plan.m,
+        "L_STARTS": starts,
+        "L_COLUMNS": case.lower,
+        "L_VALUES": case.lower,
+        "U_STARTS": starts,
+        "U_COLUMNS": case.upper,
+        "U_VALUES": case.upper,
+        "WORK": WORKING_ROW,
+    }
+    return taken, {name: case.given(name, length) for name, length in taken.items()}
+
+
+def wanted(case):
+    """The lines after the name: first what is returned and how many cells are
+    not 0, then the factors."""
+    plan = handed(case)
+    taken, given = lent(case, plan)
+    if taken != given:
+        return _refused(Refusal(LENGTH))
+    found = plan_refusal(plan) or factor(plan, case.lower, case.upper)
+    if isinstance(found, Refusal):
+        return _refused(found)
+    R, C, L, U, r = found.factors
+    cells = [sum(map(bool, numbers)) for numbers in (R, C, *L, *U, ())]
+    return [
+        _line("0 0 rank", [r], "structural", [found.structural], "cells", cells),
+        _line("  R", R, "C", C),
+        _line("  L starts", L.starts, "columns", L.columns, "values", L.values),
+        _line("  U starts", U.starts, "columns", U.columns, "values", U.values),
+    ]
+
+
+def _refused(refusal):
+    return [_line(f"{refusal.number} {refusal.detail} rank 0 structural 0 cells", [0] * 9)]
+
+
+def _line(*parts):
+    words = ([part] if isinstance(part, str) else map(str, part) for part in parts)
+    return " ".join(word for part in words for word in part)
+
+
+def stored():
+    """The name and the lines of each case in the stored output."""
+    blocks = re.split(r"\n(?! )", (PROGRAM / "stdout").read_text().rstrip("\n"))
+    for block in blocks:
+        name, lines = block.split(": ", 1)
+        yield name, lines.split("\n")
+
+
+class StoredCases(unittest.TestCase):
+    def test_every_case(self):
+        found = list(stored())
+        self.assertGreater(len(found), 50)
+        self.assertEqual(dict(found), {name: wanted(case) for name, case in cases()})
+        self.assertEqual(len(found), len(list(cases())))
+
+
+if __name__ == "__main__":
+    unittest.main()
