@@ -18,7 +18,7 @@ CPP_COMPILER = os.environ.get("CXX", "c++")
 
 # Name, source, Debian packages, libraries by hand or the name for pkg-config.
 PEERS = (
-    ("LinBox", "linbox_rank.cpp", "liblinbox-dev libntl-dev", "linbox"),
+    ("LinBox", "linbox_rank.cpp", "liblinbox-dev libiml-dev libntl-dev", "linbox"),
     ("FLINT", "flint_rank.c", "libflint-dev", ("-lflint", "-lgmp")),
     ("FFPACK", "ffpack_rank.cpp", "fflas-ffpack libopenblas-dev", "fflas-ffpack"),
     ("PARI", "pari_rank.c", "libpari-dev", ("-lpari",)),

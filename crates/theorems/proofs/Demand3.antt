@@ -13,7 +13,7 @@
 --   passed-agree             so two passed sets give y the same verdict
 --   open-one-value           open: two settings that give the same slots give y one value
 --   closed-every-value       closed: for every setting and every value some setting gives the same slots and gives y that value
-use Prim.Native.Nat.{ℕ, _+_, _^_, _<_}
+use Prim.Native.Nat.{ℕ, _+_, _<_}
 use mathlib.Core.Path.{_≡_, refl, sym, ap, _∙_}
 use mathlib.Core.Logic.{_↔_}
 use mathlib.Core.Bool.{Bool, true, false}
@@ -32,13 +32,12 @@ use Rattle.algebra.specs.Factors.{Factors}
 use Rattle.algebra.specs.Settings.{Determined, Undetermined}
 use Rattle.residue.proofs.Primes.{modulus-prime}
 use Rattle.sparse.specs.Matrix.{Compressed, matrix, form}
-use Rattle.sparse.specs.Row.{Below}
 use Rattle.sparse.specs.Set.{Set}
 use Rattle.sparse.proofs.Rows.{form-paired}
 use Rattle.pluq.specs.Judge.{judge, Passes}
 use Rattle.pluq.proofs.Judged.{judge-passes}
 use Rattle.elimination.specs.Factoring.{factor}
-use Rattle.certificate.specs.Layout.{numbersOf, certificateOf, Sized}
+use Rattle.certificate.specs.Layout.{certificateOf, Sized}
 use Rattle.certificate.specs.Reading.{headerOk, setOfCertificate}
 use Rattle.certificate.proofs.Passed.{passed-sized}
 use Rattle.certificate.proofs.ReadBack.{written-passes, written-reads-back}
@@ -49,6 +48,7 @@ use Rattle.check_calls.proofs.Tested.{GoodPlan, factors-good, good-plan, prime-
 use Rattle.row_space.specs.Solve.{solve}
 use Rattle.row_space.specs.declared.Verdict.the-variants.{Open, Closed}
 use Rattle.row_space.proofs.Theorems as answers
+use Rattle.theorems.proofs.Numbers.{numbers-small}
 use Rattle.theorems.proofs.Demand2.{factors-right, own-passes}
 
 -- what comes after a test that passed decides
@@ -104,10 +104,10 @@ certificate-exactly p n m A cert w h = (sound, complete)
 pub own-factors-pass : (p n m : ℕ) (A : Compressed) → Prime p → form p m A ≡ true → length (A .starts) ≡ n + 1 → judge p n m A (factor p n m A) ≡ Passed
 own-factors-pass p n m A prime formed rows = own-passes p n m A prime formed rows
 
--- the certificate of a set whose numbers are 32-bit numbers, as those of stored lists are
 pub certificate-of-passed : (p n m : ℕ) (A : Compressed) (s : Set) (w : ℕ) → callOutcome (eqb w workLength) p n m A ≡ Passed
-    → Sized n m s → Below (2 ^ 32) (numbersOf p n m s) → Passes p n m A s → checkCertificateOf p n m A (certificateOf p n m s) w ≡ Passed
-certificate-of-passed p n m A s w h z small q =
+    → Sized n m s → Passes p n m A s → checkCertificateOf p n m A (certificateOf p n m s) w ≡ Passed
+certificate-of-passed p n m A s w h z q =
+    let small = numbers-small p n m A s (good-plan p n m A (eqb w workLength) h .0) z q in
     certificate-exactly p n m A (certificateOf p n m s) w h .1
     (written-passes p n m s z small, rw (written-reads-back p n m s z small) q)
 
@@ -125,12 +125,12 @@ own-sized p n m A prime formed rows =
     }
 
 pub own-certificate-passes : (p n m : ℕ) (A : Compressed) (w : ℕ) → callOutcome (eqb w workLength) p n m A ≡ Passed
-    → Below (2 ^ 32) (numbersOf p n m (factor p n m A)) → checkCertificateOf p n m A (certificateOf p n m (factor p n m A)) w ≡ Passed
-own-certificate-passes p n m A w h small =
+    → checkCertificateOf p n m A (certificateOf p n m (factor p n m A)) w ≡ Passed
+own-certificate-passes p n m A w h =
     let g = good-plan p n m A (eqb w workLength) h .0 in
     let prime = modulus-prime p (g .modulus) in
     let f = factors-right p n m A prime (g .formed) (g .rows) in
-    certificate-of-passed p n m A (factor p n m A) w h (own-sized p n m A prime (g .formed) (g .rows)) small
+    certificate-of-passed p n m A (factor p n m A) w h (own-sized p n m A prime (g .formed) (g .rows))
     (record { L-form = f .L-form; U-form = f .U-form; factors = f .factors })
 
 -- ---- every set that passes
