@@ -26,7 +26,8 @@ use Rattle.plan_text.specs.declared.header.Header.the-variants.{Given, N
 use Rattle.plan_text.specs.declared.judge.Sizes.{Sizes}
 use Rattle.plan_text.specs.declared.judge.Verdict.{Verdict}
 use Rattle.plan_text.specs.declared.judge.Verdict.the-variants.{Refused, Last, Entry as AnEntry}
-use Rattle.plan_text.specs.Limits.{largestSize, largestText}
+use Rattle.call_tests.specs.Limits.{largestSize}
+use Rattle.plan_text.specs.Limits.{largestText}
 use Rattle.plan_text.specs.Line.{fieldsOf, lineOf, lineIn, lineWith, headerOf, headerIn, headerWith, isM}
 use Rattle.plan_text.specs.Judge.{mayStand}
 use Rattle.plan_text.specs.Reading.{Entry, refused, accepted, kept, lastRow, lastColumn, verdictOn, ending, onward, triples, withSizes, fromSecond, withModulus, fromFirst, readOf}

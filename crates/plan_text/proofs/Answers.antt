@@ -11,7 +11,8 @@ use Rattle.plan_text.specs.declared.judge.Sizes.{Sizes}
 use Rattle.plan_text.specs.declared.Reading.{Reading}
 use Rattle.plan_text.specs.declared.triples.TripleLines.{TripleLines}
 use Rattle.plan_text.specs.declared.triples.TripleLines.the-variants.{Refused, Read}
-use Rattle.plan_text.specs.Limits.{largestSize, startsLength}
+use Rattle.call_tests.specs.Limits.{largestSize}
+use Rattle.plan_text.specs.Limits.{startsLength}
 use Rattle.plan_text.specs.Reading.{Entry, ReadResult, refused, accepted, kept, triples, readOf}
 use Rattle.plan_text.specs.Stored.{RowsWithin, startsOf}
 use Rattle.plan_text.specs.Call.{Shows, Gives, answerOf, callOf, refusalOf}

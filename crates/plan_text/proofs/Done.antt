@@ -21,7 +21,8 @@ use Rattle.plan_text.specs.declared.line.Line.the-variants.{Triple, NotT
 use Rattle.plan_text.specs.declared.judge.Sizes.{Sizes}
 use Rattle.plan_text.specs.declared.judge.Verdict.{Verdict}
 use Rattle.plan_text.specs.declared.judge.Verdict.the-variants.{Refused, Last, Entry as AnEntry}
-use Rattle.plan_text.specs.Limits.{largestSize, largestText, startsLength}
+use Rattle.call_tests.specs.Limits.{largestSize}
+use Rattle.plan_text.specs.Limits.{largestText, startsLength}
 use Rattle.plan_text.specs.Line.{headerOf}
 use Rattle.plan_text.specs.Judge.{judge, inRange, isLast, within, residueAt}
 use Rattle.plan_text.specs.Reading.{Entry, ReadResult, refused, accepted, ending, onward, triples, verdictOn, withSizes, fromSecond, withModulus, fromFirst, readOf}

@@ -14,7 +14,8 @@ use Rattle.fields.proofs.Cuts.{piece-end, piece-last, piece-more}
 use Rattle.residue.specs.Range.{isModulus}
 use Rattle.plan_text.specs.declared.header.Header.{Header}
 use Rattle.plan_text.specs.declared.header.Header.the-variants.{Given, NotHeader}
-use Rattle.plan_text.specs.Limits.{largestSize, largestText}
+use Rattle.call_tests.specs.Limits.{largestSize}
+use Rattle.plan_text.specs.Limits.{largestText}
 use Rattle.plan_text.specs.Line.{headerOf}
 use Rattle.plan_text.specs.Reading.{refused, triples, withSizes, fromSecond, withModulus, fromFirst, readOf}
 

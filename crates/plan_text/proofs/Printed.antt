@@ -22,7 +22,8 @@ use Rattle.plan_text.specs.declared.line.Line.the-variants.{Triple}
 use Rattle.plan_text.specs.declared.header.Header.the-variants.{Given}
 use Rattle.plan_text.specs.declared.judge.Sizes.{Sizes}
 use Rattle.plan_text.specs.declared.judge.Verdict.the-variants.{Last, Entry as AnEntry}
-use Rattle.plan_text.specs.Limits.{largestSize, largestText}
+use Rattle.call_tests.specs.Limits.{largestSize}
+use Rattle.plan_text.specs.Limits.{largestText}
 use Rattle.plan_text.specs.Line.{fieldsOf, lineOf, withSigned, headerOf}
 use Rattle.plan_text.specs.Judge.{judge, inRange, isLast, residueAt}
 use Rattle.plan_text.specs.Reading.{Entry, accepted, kept, lastRow, lastColumn, verdictOn, triples, readOf}

@@ -18,7 +18,8 @@ use Rattle.lists.specs.Table.{wrongLength}
 use Rattle.lists.specs.Filled.{zeros}
 use Rattle.residue.specs.Range.{isModulus}
 use Rattle.fields.specs.Pieces.{pieces}
-use Rattle.plan_text.specs.Limits.{largestSize, largestText, startsLength}
+use Rattle.call_tests.specs.Limits.{largestSize}
+use Rattle.plan_text.specs.Limits.{largestText, startsLength}
 use Rattle.plan_text.specs.Reading.{Entry, kept, ReadResult, refused, accepted, lastRow, triples, readOf}
 use Rattle.plan_text.specs.Stored.{startsOf, columnsOf, valuesOf, EntriesStored}
 use Rattle.plan_text.specs.declared.Reading.{Reading}

@@ -16,7 +16,8 @@ use Rattle.fields.specs.Number.{numberOf}
 use Rattle.fields.specs.declared.numbers.Number.{Number}
 use Rattle.fields.specs.declared.numbers.Number.the-variants.{Value, NotNumber}
 use Rattle.residue.specs.Range.{isModulus}
-use Rattle.plan_text.specs.Limits.{largestSize, largestText}
+use Rattle.call_tests.specs.Limits.{largestSize}
+use Rattle.plan_text.specs.Limits.{largestText}
 use Rattle.plan_text.specs.Line.{lineOf, headerOf}
 use Rattle.plan_text.specs.Judge.{judge, mayStand}
 use Rattle.plan_text.specs.declared.header.Header.{Header}

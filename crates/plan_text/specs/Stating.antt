@@ -23,7 +23,8 @@ use Rattle.fields.specs.Decimal.{decimal, signedText, Proper}
 use Rattle.fields.specs.declared.numbers.Signed.{Signed}
 use Rattle.fields.specs.declared.numbers.Signed.the-variants.{Plus}
 use Rattle.plan_text.specs.declared.judge.Sizes.{Sizes}
-use Rattle.plan_text.specs.Limits.{largestSize, largestText}
+use Rattle.call_tests.specs.Limits.{largestSize}
+use Rattle.plan_text.specs.Limits.{largestText}
 use Rattle.plan_text.specs.Judge.{inRange, within, before}
 use Rattle.plan_text.specs.Reading.{Entry, kept}
 
