@@ -11,6 +11,7 @@ use native.Mathlib.Omega.{arith}
 use Rattle.lists.specs.Refusals.{_▷_}
 use Rattle.lists.specs.declared.Outcome.{Outcome}
 use Rattle.lists.specs.declared.Outcome.the-variants.{Passed, Refused}
+use Rattle.lists.proofs.Refusals.{both-passed}
 use Rattle.algebra.specs.Prime.{Prime}
 use Rattle.residue.proofs.Primes.{modulus-prime}
 use Rattle.sparse.specs.Matrix.{Compressed}
@@ -31,10 +32,6 @@ pub record Checked (p n m : ℕ) (A : Compressed) (s : Set) (w : ℕ) : Type 0 w
   pub room : m ≤ w
 
 -- both of two tests, one after the other, passed
-pub both-passed : (a b : Outcome) → (a ▷ b) ≡ Passed → (a ≡ Passed) × (b ≡ Passed)
-both-passed Passed b e = (refl, e)
-both-passed (Refused k d) b e = absurd (let z : _≡_ {A = ℕ} 0 1 = cc in omega arith)
-
 module _ (p n m : ℕ) (A : Compressed) (w : ℕ) where
   pub factors-checked : (s : Set) → checkFactorsOf p n m A s w ≡ Passed → Checked p n m A s w
   unfolding checkFactorsOf

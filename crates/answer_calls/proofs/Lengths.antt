@@ -50,14 +50,3 @@ lengths-are n m y a b h =
       columns = eqb-true b m (and-right (eqb a n) (eqb b m) cells);
     }
 
--- a question that is not refused has residues
-pub residues : (p : ℕ) (y : List ℕ) → questionOutcome p y ≡ Passed → Below p y
-unfolding questionOutcome
-residues p y h i lt = go (leb (length y) (first (length y) (λ j. ltb (getD y j 0) p))) refl h
-  where
-    go : (t : Bool) → leb (length y) (first (length y) (λ j. ltb (getD y j 0) p)) ≡ t → unless t 15 (first (length y) (λ j. ltb (getD y j 0) p)) ≡ Passed
-        → getD y i 0 < p
-    go true e q =
-        let le : length y ≤ first (length y) (λ j. ltb (getD y j 0) p) = leb-true (length y) _ e in
-        ltb-true (getD y i 0) p (first-before (length y) (λ j. ltb (getD y j 0) p) i (omega arith))
-    go false e q = absurd (let z : _≡_ {A = ℕ} 0 1 = cc in omega arith)

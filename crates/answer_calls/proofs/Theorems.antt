@@ -9,6 +9,7 @@ use mathlib.Core.List.{List}
 use Prim.Native.Nat.{ℕ}
 use native.Mathlib.Omega.{arith}
 use Rattle.lists.specs.declared.Outcome.{Outcome}
+use Rattle.answers.proofs.Passed.{question-passed}
 use Rattle.algebra.specs.Matrix.{vector}
 use Rattle.algebra.specs.RowSpace.{InRowSpace}
 use Rattle.sparse.specs.Matrix.{Compressed, matrix}
@@ -21,7 +22,6 @@ use Rattle.check_calls.specs.Calls.{checkFactorsOf, checkCertificateOf}
 use Rattle.answer_calls.specs.Calls.{NotRefused, answerOf, questionAfter, Given, given, answerFactorsOf, answerCertificateOf}
 use Rattle.answer_calls.specs.declared.Answer.{Answer}
 use Rattle.answer_calls.proofs.Checked.{Checked, factors-checked, certificate-checked}
-use Rattle.answer_calls.proofs.Lengths.{residues}
 use Rattle.answer_calls.proofs.Ways.{asked-parts}
 
 -- an answer that is not refused is the one from the set
@@ -62,14 +62,14 @@ module _ (check : Outcome) (p n m : ℕ) (A : Compressed) (s : Set) (y : List �
     open-says =
         let (long, judged, small) = asked-parts check p n m y a b passed in
         let c = checked judged in
-        let (there, back) = open-exactly (c .prime) n m A s (c .sized .row-order) (c .sized .column-order) (c .judged) y (λ j h. residues p y small j (omega (arith, long .values))) in
+        let (there, back) = open-exactly (c .prime) n m A s (c .sized .row-order) (c .sized .column-order) (c .judged) y (λ j h. question-passed p y small j (omega (arith, long .values))) in
         (λ e. there (open-verdict (solved .verdict) .0 (sym answer-is ∙ e)), λ x. answer-is ∙ ap answerOf (back x))
 
     closed-says : (result .answer ≡ Answer.Closed) ↔ (¬ InRowSpace p n m (matrix A) (vector y))
     closed-says =
         let (long, judged, small) = asked-parts check p n m y a b passed in
         let c = checked judged in
-        let (there, back) = closed-exactly (c .prime) n m A s (c .sized .row-order) (c .sized .column-order) (c .judged) y (λ j h. residues p y small j (omega (arith, long .values))) in
+        let (there, back) = closed-exactly (c .prime) n m A s (c .sized .row-order) (c .sized .column-order) (c .judged) y (λ j h. question-passed p y small j (omega (arith, long .values))) in
         (λ e. there (closed-verdict (solved .verdict) .0 (sym answer-is ∙ e)), λ x. answer-is ∙ ap answerOf (back x))
 
 module _ (p n m : ℕ) (A : Compressed) (s : Set) (y : List ℕ) (a b w : ℕ) (done : NotRefused (answerFactorsOf p n m A s y a b w .answer)) where

@@ -9,7 +9,8 @@ use Rattle.lists.specs.Filled.{zeros, filled}
 use Rattle.lists.specs.Refusals.{_▷_, numberOf, detailOf}
 use Rattle.lists.specs.declared.Outcome.{Outcome}
 use Rattle.lists.proofs.Filled.{length-zeros, filled-none, filled-whole}
-use Rattle.lists.proofs.Refusals.{fails, holds, refused, passed}
+use Rattle.lists.proofs.Refusals.{fails, holds, refused, passed, both-passed}
+use Rattle.answers.proofs.Passed.{question-passed}
 use Rattle.pluq.proofs.Judged.{unless-passed}
 use Rattle.algebra.specs.Matrix.{vector}
 use Rattle.sparse.specs.Matrix.{Compressed}
@@ -21,8 +22,8 @@ use Rattle.answers.specs.Answering.{SetReady, AnswerReady, Answered}
 use Rattle.check_calls.specs.Calls.{Checks}
 use Rattle.answer_calls.specs.Calls.{answerNumber, answerDetail, answerOf, questionLengths, questionAfter, given, Answers}
 use Rattle.answer_calls.specs.declared.Answer.{Answer}
-use Rattle.answer_calls.proofs.Checked.{both-passed, Checked, checked-ready}
-use Rattle.answer_calls.proofs.Lengths.{Long, lengths-are, residues}
+use Rattle.answer_calls.proofs.Checked.{Checked, checked-ready}
+use Rattle.answer_calls.proofs.Lengths.{Long, lengths-are}
 
 -- ---- the tests
 
@@ -58,7 +59,7 @@ answer-ready p n m A s y x z w width l c small clear =
     record {
       set = subst (λ (k : ℕ). SetReady p k (length z) s) (sym (l .rows)) (subst (λ (k : ℕ). SetReady p n k s) (sym (l .columns)) (checked-ready p n m A s width c));
       long = l .values ∙ sym (l .columns);
-      small = residues p y small;
+      small = question-passed p y small;
       room = omega (arith, l .columns, c .room);
       clear = clear ∙ ap zeros (sym wide);
     }

@@ -59,12 +59,6 @@ pub searching-ends : (n : ℕ) (t : ℕ → Bool) (j : ℕ) → n ≤ j → Sear
 searching-ends n t j h s = let q : j ≡ n = omega (arith, s .inside) in q ∙ sym (first-all n t (λ i b. s .before i (omega arith)))
 
 -- two tests that agree below n fail at the same place
-pub first-ext : (n : ℕ) (t t′ : ℕ → Bool) → ((i : ℕ) → i < n → t i ≡ t′ i) → first n t ≡ first n t′
-unfolding first
-first-ext zero t t′ h = refl
-first-ext (suc n) t t′ h =
-    λ k. cond (h 0 (omega arith) k) (suc (first-ext n (λ i. t (suc i)) (λ i. t′ (suc i)) (λ i b. h (suc i) (omega arith)) k)) 0
-
 -- the outcome of a search: refused at j, or passed
 pub unless-at : (n k j f : ℕ) → j ≡ f → j < n → Refused k j ≡ unless (leb n f) k f
 unless-at n k j f e h = ap (λ (b : Bool). unless b k j) (sym (lt-leb n j h)) ∙ ap (λ (i : ℕ). unless (leb n i) k i) e

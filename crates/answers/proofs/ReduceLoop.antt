@@ -9,6 +9,7 @@ use lib.Dec.{eqb}
 use lib.ListN.{length, getD, set, length-set}
 use lib.Seq.{getD-set-same, getD-set-other}
 use borrow.Author.Count.{below-more}
+use Rattle.lists.proofs.Tests.{first-ext}
 use Rattle.algebra.specs.Matrix.{Vector, Matrix, vector}
 use Rattle.algebra.specs.Reduction.{reduced}
 use Rattle.sparse.specs.Row.{Below}
@@ -18,7 +19,6 @@ use Rattle.sparse.proofs.Subtraction.{subtracted-none, subtracted-ext}
 use Rattle.row_space.specs.Ready.{residues}
 use Rattle.row_space.proofs.LowerLoop.{subtracted-less}
 use Rattle.answers.specs.Reducing.{Eliminated, Remains, Multiples, Reduced, lowestOf}
-use Rattle.answers.proofs.Loops.{first-ext}
 
 -- a residue is a cell
 pub residue-cell : (p x : ℕ) → x < p → x < p * p

@@ -7,8 +7,9 @@ use native.Mathlib.Omega.{arith}
 use native.Mathlib.Nat.{add-zero}
 use lib.ListN.{length, set, length-append}
 use lib.Seq.{sets}
+use Rattle.lists.proofs.Steps.{sets-append}
 use Rattle.byte_buffer.specs.Stored.{Stored}
-use Rattle.byte_buffer.proofs.Storing.{stored-length, sets-append}
+use Rattle.byte_buffer.proofs.Storing.{stored-length}
 
 pub record Remains (b₀ : List ℕ) (from : ℕ) (text b : List ℕ) (at : ℕ) (runs : List (List ℕ)) : Type 0 where
   pub long : length b ≡ length b₀

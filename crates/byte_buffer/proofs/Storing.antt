@@ -8,6 +8,7 @@ use lib.ListN.{length, drop, set, length-append}
 use lib.Seq.{sets, sets-eq, length-sets}
 use Rattle.lists.specs.Filled.{zeros, filled}
 use Rattle.lists.proofs.Filled.{length-zeros}
+use Rattle.lists.proofs.Steps.{sets-append}
 use Rattle.byte_buffer.specs.Stored.{Stored, Fills}
 
 pub stored-length : {b₀ b : List ℕ} {at next : ℕ} {ys : List ℕ} → Stored b₀ b at next ys → length b ≡ length b₀
@@ -23,10 +24,6 @@ stored-none {b} {at} = record { now-is = refl; next-is = sym (add-zero at) }
 -- the same bytes, written in another way
 pub stored-as : {b₀ b : List ℕ} {at next : ℕ} {ys zs : List ℕ} → ys ≡ zs → Stored b₀ b at next ys → Stored b₀ b at next zs
 stored-as {b₀} {b} {at} {next} e s = subst (Stored b₀ b at next) e s
-
-pub sets-append : (l : List ℕ) (i : ℕ) (xs ys : List ℕ) → sets l i (xs ++ ys) ≡ sets (sets l i xs) (i + length xs) ys
-sets-append l i [] ys = ap (λ (k : ℕ). sets l k ys) (sym (add-zero i))
-sets-append l i (x ∷ xs) ys = sets-append (set l i x) (suc i) xs ys ∙ ap (λ (k : ℕ). sets (sets (set l i x) (suc i) xs) k ys) (let q : suc i + length xs ≡ i + suc (length xs) = omega arith in q)
 
 -- one run after another
 pub stored-then : {b₀ b₁ b₂ : List ℕ} {at mid next : ℕ} {xs ys : List ℕ} → Stored b₀ b₁ at mid xs → Stored b₁ b₂ mid next ys → Stored b₀ b₂ at next (xs ++ ys)

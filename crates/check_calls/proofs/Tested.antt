@@ -11,7 +11,7 @@ use Rattle.lists.specs.Filled.{zeros}
 use Rattle.lists.specs.Refusals.{_▷_, unless}
 use Rattle.lists.specs.declared.Outcome.{Outcome}
 use Rattle.lists.specs.declared.Outcome.the-variants.{Passed, Refused}
-use Rattle.lists.proofs.Bools.{and-left, and-right, chain-false, chain-true}
+use Rattle.lists.proofs.Bools.{and-left, and-right, chain-false, chain-true, and-both}
 use Rattle.lists.proofs.Refusals.{fails, holds, passed}
 use Rattle.algebra.specs.Prime.{Prime}
 use Rattle.residue.specs.Range.{isModulus}
@@ -42,9 +42,6 @@ module _ (p n m : ℕ) (A : Compressed) (lengths : Bool) where
 both-false : (a b : Bool) → a ≡ true → b ≡ false → (a && b) ≡ false
 both-false a b e f = ap (λ (t : Bool). t && b) e ∙ f
 
-both-true : (a b : Bool) → a ≡ true → b ≡ true → (a && b) ≡ true
-both-true a b e f = ap (λ (t : Bool). t && b) e ∙ f
-
 module _ (p n m : ℕ) (A : Compressed) (s : Set) (w : ℕ) where
   abbrev lengths : Bool
   lengths = setLengths n m s && eqb w workLength
@@ -63,7 +60,7 @@ module _ (p n m : ℕ) (A : Compressed) (s : Set) (w : ℕ) where
 
   pub factors-next : planLengths n A ≡ true → setLengths n m s ≡ true → w ≡ workLength → (o : Outcome) → o ≡ planOutcome p n m A → o ≡ factorsOutcome p n m A s w
   unfolding factorsOutcome
-  factors-next e f h = plan-next p n m A lengths e (both-true (setLengths n m s) (eqb w workLength) f (eq-eqb w workLength h))
+  factors-next e f h = plan-next p n m A lengths e (and-both (setLengths n m s) (eqb w workLength) f (eq-eqb w workLength h))
 
 -- ---- the header
 

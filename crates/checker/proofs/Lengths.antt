@@ -8,6 +8,7 @@ use lib.ListN.{length, take, drop, take-append-drop}
 use lib.Seq.{length-take-le}
 use Rattle.lists.specs.Filled.{zeros}
 use Rattle.lists.proofs.Bools.{and-left}
+use Rattle.lists.proofs.Filled.{take-zeros}
 use Rattle.sparse.specs.Matrix.{Compressed, form}
 use Rattle.sparse.specs.Set.{Set}
 use Rattle.pluq.specs.Order.{permutation, below, distinct}
@@ -30,12 +31,6 @@ comparable p n m A s w w′ q e f h =
       U-rows = h .U-rows;
       cleared = h .cleared;
     })
-
-take-zeros : (m k : ℕ) → m ≤ k → take m (zeros k) ≡ zeros m
-unfolding zeros
-take-zeros zero k h = refl
-take-zeros (suc m) zero h = absurd (omega arith)
-take-zeros (suc m) (suc k) h = ap (λ (l : List ℕ). 0 ∷ l) (take-zeros m k (omega arith))
 
 -- the first m cells of the working row are what the factors are judged with
 pub judgeable : (p n m : ℕ) (A : Compressed) (s : Set) (w w′ : List ℕ) → w′ ≡ w → permutation (s .R) ≡ true → permutation (s .C) ≡ true → s .r ≤ n → s .r ≤ m

@@ -26,7 +26,7 @@ unfolding entries compress allColumns
 entries-stored [] = refl
 entries-stored (row ∷ rows) = omega (arith, entries-stored rows, columns-length 0 row, length-append (columnsFrom 0 row) (allColumns rows))
 
-entries-append : (rows more : List (List ℕ)) → entries (rows ++ more) ≡ entries rows + entries more
+pub entries-append : (rows more : List (List ℕ)) → entries (rows ++ more) ≡ entries rows + entries more
 unfolding entries
 entries-append [] more = omega arith
 entries-append (row ∷ rows) more = omega (arith, entries-append rows more)

@@ -7,7 +7,7 @@ use native.Mathlib.Nat.{mul-le-mul-left, mul-le-mul-right}
 use native.Mathlib.Omega.{arith}
 use lib.ListN.{length}
 use Rattle.lists.specs.Filled.{zeros, filled}
-use Rattle.lists.proofs.Filled.{filled-none}
+use Rattle.lists.proofs.Filled.{filled-none, cleared-filled}
 use Rattle.lists.specs.declared.Outcome as tests
 use Rattle.lists.specs.declared.Outcome.the-variants.{Passed, Refused}
 use Rattle.residue.proofs.Primes.{modulus-prime}
@@ -48,7 +48,7 @@ kept-same l l′ h t =
       work = h .work t;
     }
 
-small-product : (a b : ℕ) → a ≤ largestSize → b ≤ largestSize → a * b < 2 ^ 32
+pub small-product : (a b : ℕ) → a ≤ largestSize → b ≤ largestSize → a * b < 2 ^ 32
 small-product a b h k = omega (arith, mul-le-mul-left {m = b} {n = 2048} a k, h)
 
 module _ (p n m : ℕ) (A : Compressed) (R C : List ℕ) (L U : Compressed) (w : List ℕ) where
@@ -80,9 +80,6 @@ module _ (p n m : ℕ) (A : Compressed) (R C : List ℕ) (L U : Compressed) (w :
         m-columns = l .columns;
         clear = clear;
       }
-
-  cleared-filled : (l : List ℕ) → l ≡ zeros (length l) → l ≡ filled (length l) []
-  cleared-filled l e = e ∙ sym (filled-none (length l))
 
   leaves-refusal : (c d : ℕ) → AllClear R C L U w → Leaves (refusal c d) c d 0 0 R C L U w
   leaves-refusal c d h =

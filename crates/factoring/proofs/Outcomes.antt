@@ -6,7 +6,7 @@ use Prim.Native.Nat.{ℕ, _≤_, _<_}
 use native.Mathlib.Omega.{arith}
 use lib.ListN.{length}
 use Rattle.lists.specs.Filled.{zeros, filled}
-use Rattle.lists.proofs.Filled.{filled-none, filled-whole, length-zeros}
+use Rattle.lists.proofs.Filled.{filled-none, filled-whole, length-zeros, cleared-filled}
 use Rattle.sparse.specs.Matrix.{Compressed, matrix}
 use Rattle.sparse.specs.Dense.{compress}
 use Rattle.sparse.proofs.Rows.{form-below}
@@ -27,9 +27,6 @@ use Rattle.factoring.specs.Outcome.{Outcome, refusedAt, done, factoringF
 use Rattle.passing.specs.Needs.{FromReady, FoundFrom, CompleteReady, CompletedFor}
 use Rattle.factoring.specs.Needs.{AllClear}
 use Rattle.passing.proofs.WorkingRow.{lists-same, zeros-self}
-
-cleared-filled : (l : List ℕ) → l ≡ zeros (length l) → l ≡ filled (length l) []
-cleared-filled l e = e ∙ sym (filled-none (length l))
 
 whole-filled : (l xs : List ℕ) → l ≡ xs → l ≡ filled (length l) xs
 whole-filled l xs e = e ∙ sym (filled-whole (length l) xs (ap length (sym e)))

@@ -20,6 +20,10 @@ pub or-cases : (a b : Bool) → (a || b) ≡ true → (a ≡ true) ⊎ (b ≡ tr
 or-cases true b e = inl refl
 or-cases false b e = inr e
 
+pub or-right : (a : Bool) {b : Bool} → b ≡ true → (a || b) ≡ true
+or-right true e = refl
+or-right false e = e
+
 -- a Bool that is not false is true
 pub decide : (b : Bool) → ((b ≡ false) → ⊥) → b ≡ true
 decide true h = refl

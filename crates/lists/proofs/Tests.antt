@@ -1,5 +1,5 @@
 -- Laws of tests below a bound.
-use mathlib.Core.Path.{_≡_, refl, sym, ap, _∙_}
+use mathlib.Core.Path.{_≡_, refl, sym, ap, ap₂, _∙_}
 use mathlib.Core.Bool.{Bool, true, false, cond, _&&_, true≢false}
 use Prim.Native.Nat.{ℕ, zero, suc, _≤_, _<_}
 use native.Mathlib.Omega.{arith}
@@ -25,6 +25,12 @@ all-fail n t i g e = go (all n t) refl
     go : (b : Bool) → all n t ≡ b → b ≡ false
     go true q = absurd (true≢false (sym (all-at n t q i g) ∙ e))
     go false q = refl
+
+-- the same tests have the same first failure
+pub first-ext : (n : ℕ) (t u : ℕ → Bool) → ((i : ℕ) → i < n → t i ≡ u i) → first n t ≡ first n u
+unfolding first
+first-ext zero t u h = refl
+first-ext (suc n) t u h = ap₂ (λ (b : Bool) (k : ℕ). cond b (suc k) 0) (h 0 (omega arith)) (first-ext n (λ i. t (suc i)) (λ i. u (suc i)) (λ i g. h (suc i) (omega arith)))
 
 -- the first that fails
 pub first-all : (n : ℕ) (t : ℕ → Bool) → ((i : ℕ) → i < n → t i ≡ true) → first n t ≡ n

@@ -8,7 +8,7 @@ use native.Mathlib.Numerals.{add-one}
 use native.Mathlib.Omega.{arith}
 use lib.ListN.{length, getD, set, length-append, length-map}
 use Rattle.lists.specs.Filled.{zeros}
-use Rattle.lists.proofs.Filled.{Clearing, length-zeros, clearing-starts, clearing-turn, clearing-ends}
+use Rattle.lists.proofs.Filled.{Clearing, length-zeros, clearing-starts, clearing-turn, clearing-ends, clearing-cell}
 use Rattle.algebra.specs.Matrix.{Distinct, vector}
 use Rattle.algebra.proofs.Finite.{pigeons}
 use Rattle.sparse.specs.Matrix.{Compressed}
@@ -18,7 +18,7 @@ use Rattle.elimination.proofs.Listed.{map-append}
 use Rattle.elimination.proofs.Pairs.{structural-pairs}
 use Rattle.ordering.specs.Needs.{Searchable}
 use Rattle.ordering.specs.Search.{rowIn, Chosen, ChooseReady, pairsOf, PairsWritten, PutReady, CollectReady, Collected, PairsFound}
-use Rattle.ordering.proofs.Writing.{written-none, written-one, written-then, written-length, written-filled, clearing-cell, rising}
+use Rattle.ordering.proofs.Writing.{written-none, written-one, written-then, written-length, written-filled, rising}
 use Rattle.ordering.proofs.Choosing.{row-named}
 
 -- ---- pairs written one after another

@@ -12,7 +12,7 @@ use lib.Seq.{take-suc, length-take-le, getD-take, getD-set-same, getD-set-other}
 use borrow.Author.Tests.{eq-eqb, ne-eqb}
 use Rattle.lists.specs.Filled.{zeros}
 use Rattle.lists.specs.Tabulate.{tabulate}
-use Rattle.lists.proofs.Filled.{Clearing, zeros-at, clearing-starts, clearing-turn, clearing-ends}
+use Rattle.lists.proofs.Filled.{Clearing, zeros-at, clearing-starts, clearing-turn, clearing-ends, clearing-cell}
 use Rattle.lists.proofs.Tabulate.{length-tabulate, tabulate-at, tabulated}
 use Rattle.algebra.specs.Matrix.{Distinct, vector}
 use Rattle.elimination.specs.Factoring.{isIn, rest}
@@ -21,7 +21,7 @@ use Rattle.elimination.proofs.Completion.{completed-length}
 use Rattle.ordering.specs.Needs.{Completable}
 use Rattle.ordering.specs.Written.{Written}
 use Rattle.ordering.specs.Completion.{marked, unmarked, AppendReady, Completed}
-use Rattle.ordering.proofs.Writing.{written-none, written-one, written-then, written-length, written-end, clearing-cell, rising}
+use Rattle.ordering.proofs.Writing.{written-none, written-one, written-then, written-length, written-end, rising}
 
 -- ---- marking: the marks are those of the numbers passed
 

@@ -9,11 +9,8 @@ use lib.ListN.{length, getD, take, drop, set, replicate, length-append, length-r
 use lib.Seq.{sets, length-sets, sets-eq, drop-cons, getD-at}
 use Rattle.lists.specs.Filled.{zeros, filled}
 use Rattle.lists.proofs.Filled.{Clearing, length-zeros}
+use Rattle.lists.proofs.Steps.{sets-append}
 use Rattle.ordering.specs.Written.{Written}
-
-sets-append : (l : List ℕ) (i : ℕ) (xs ys : List ℕ) → sets l i (xs ++ ys) ≡ sets (sets l i xs) (i + length xs) ys
-sets-append l i [] ys = ap (λ (k : ℕ). sets l k ys) (sym (add-zero i))
-sets-append l i (x ∷ xs) ys = sets-append (set l i x) (suc i) xs ys ∙ ap (λ (k : ℕ). sets (sets (set l i x) (suc i) xs) k ys) (omega arith)
 
 pub written-none : (at : ℕ) (l : List ℕ) → Written [] at l l at
 written-none at l = record { place = omega arith; cells = refl }
@@ -49,11 +46,6 @@ written-filled {xs} {n} h a =
     a .cells ∙ sets-eq xs (zeros n) 0 (omega (arith, length-zeros n)) ∙ ap (λ (k : ℕ). xs ++ drop k (zeros n)) (zero-add (length xs)) ∙ ap (λ (r : List ℕ). xs ++ r) (drop-zeros (length xs) n)
 
 -- the next cell that is to be cleared is as it was
-pub clearing-cell : (w₀ w : List ℕ) (j : ℕ) → j < length w₀ → Clearing w₀ w j → getD w j 0 ≡ getD w₀ j 0
-clearing-cell w₀ w j h s =
-    ap (λ (l : List ℕ). getD l j 0) (s .cells ∙ ap (λ (l : List ℕ). replicate j 0 ++ l) (drop-cons w₀ j 0 h))
-    ∙ getD-at (replicate j 0) (getD w₀ j 0) (drop (suc j) w₀) 0 j (length-replicate j 0)
-
 -- what never falls from one number to the next never falls
 pub rising : (f : ℕ → ℕ) → ((k : ℕ) → f k ≤ f (suc k)) → (a b : ℕ) → a ≤ b → f a ≤ f b
 rising f h a zero l = omega (arith, ap f (let e : a ≡ 0 = omega arith in e))

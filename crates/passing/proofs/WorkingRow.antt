@@ -6,16 +6,10 @@ use native.Mathlib.Omega.{arith}
 use lib.ListN.{length, take, drop, take-append-drop}
 use lib.Seq.{length-take-le}
 use Rattle.lists.specs.Filled.{zeros}
-use Rattle.lists.proofs.Filled.{length-zeros}
+use Rattle.lists.proofs.Filled.{length-zeros, take-zeros}
 use Rattle.sparse.specs.Matrix.{Compressed}
 use Rattle.pivoting.specs.Turning.{Lent}
 use Rattle.passing.specs.Needs.{Lists}
-
-take-zeros : (m k : ℕ) → m ≤ k → take m (zeros k) ≡ zeros m
-unfolding zeros
-take-zeros zero k h = refl
-take-zeros (suc m) zero h = absurd (omega arith)
-take-zeros (suc m) (suc k) h = ap (λ (l : List ℕ). 0 ∷ l) (take-zeros m k (omega arith))
 
 module _ (w : List ℕ) (clear : w ≡ zeros (length w)) (m : ℕ) (h : m ≤ length w) where
   pub part-clear : take m w ≡ zeros m

@@ -9,6 +9,7 @@ use lib.ListN.{length, getD, take, drop, set, length-set, length-map, take-appen
 use lib.Seq.{sets, length-take-le, take-all, take-suc, take-at}
 use borrow.Author.Tests.{le-leb}
 use Rattle.lists.specs.Filled.{zeros}
+use Rattle.elimination.proofs.Room.{entries-append}
 use Rattle.sparse.specs.Matrix.{Compressed, compressed, matrix}
 use Rattle.sparse.specs.Dense.{columnsFrom, nonzeros, compress}
 use Rattle.sparse.specs.Storing.{Stored}
@@ -26,7 +27,7 @@ use Rattle.turning.proofs.Storage.{begins-long, holds-more, holds-filled}
 use Rattle.pivoting.specs.State.{pivotLowers}
 use Rattle.pivoting.specs.Turning.{Lent}
 use Rattle.pivoting.specs.Filling.{LowerReady, LowerStored, FillFrom, FillReady, FillDone}
-use Rattle.pivoting.proofs.Steps.{entries-append, entries-values, lowers-split}
+use Rattle.pivoting.proofs.Steps.{entries-values, lowers-split}
 use Rattle.pivoting.proofs.Sizes.{rank-most, entries-most}
 use Rattle.pivoting.proofs.Readiness.{gather-ready}
 use Rattle.pivoting.proofs.TurnedRows.{multiples-found}

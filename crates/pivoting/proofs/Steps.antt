@@ -18,18 +18,13 @@ use Rattle.elimination.specs.Pivots.{Found, columnsOf, uppersOf, rankOf, withPi
 use Rattle.elimination.specs.Factoring.{lowersOf, entries, fits}
 use Rattle.elimination.proofs.Listed.{snoc-length, map-append}
 use Rattle.elimination.proofs.Invariant.{uppers-many}
-use Rattle.elimination.proofs.Room.{entries-stored}
+use Rattle.elimination.proofs.Room.{entries-stored, entries-append}
 use Rattle.turning.specs.Storage.{Holds}
 use Rattle.turning.specs.Taking.{upperRow, PivotFound, DependentFound}
 use Rattle.turning.proofs.Storage.{holds-more, holds-same}
 use Rattle.pivoting.specs.State.{pivotRows, pivotLowers, State}
 
 -- ---- how many entries
-
-pub entries-append : (rows more : List (List ℕ)) → entries (rows ++ more) ≡ entries rows + entries more
-unfolding entries
-entries-append [] more = omega arith
-entries-append (row ∷ rows) more = omega (arith, entries-append rows more)
 
 entries-one : (row : List ℕ) → entries (row ∷ []) ≡ length (nonzeros row)
 unfolding entries

@@ -11,7 +11,7 @@ use lib.Dec.{leb, ltb, eqb}
 use lib.ListN.{length, getD}
 use borrow.Author.Tests.{leb-true, leb-false, le-leb, lt-leb, eqb-true, eqb-false, eq-eqb, ne-eqb, not-true}
 use Rattle.lists.specs.Tests.{all, first}
-use Rattle.lists.proofs.Bools.{and-both, and-left, and-right, or-cases}
+use Rattle.lists.proofs.Bools.{and-both, and-left, and-right, or-cases, or-right}
 use Rattle.lists.proofs.Tests.{all-at, all-pass, first-all, first-before, first-here}
 use Rattle.algebra.specs.Congruence.{_≈⟨_⟩_}
 use Rattle.algebra.specs.Sum.{dot}
@@ -46,10 +46,6 @@ lower-holds r L s =
     (ap not (ne-eqb (L k k) 0 (s .diagonal k h)))
     (all-pass r (λ l. leb l k || eqb (L k l) 0) (λ l g. cell k l g (decLt k l))))
   where
-    or-right : (a : Bool) {b : Bool} → b ≡ true → (a || b) ≡ true
-    or-right true e = refl
-    or-right false e = e
-
     cell : (k l : ℕ) → l < r → Dec (k < l) → (leb l k || eqb (L k l) 0) ≡ true
     cell k l g (yes b) = or-right (leb l k) (eq-eqb (L k l) 0 (s .above k l b g))
     cell k l g (no b) = ap (λ (t : Bool). t || eqb (L k l) 0) (le-leb l k (omega arith))

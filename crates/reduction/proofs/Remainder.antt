@@ -11,6 +11,7 @@ use lib.ListN.{length, getD}
 use Rattle.lists.specs.Tabulate.{tabulate}
 use Rattle.lists.specs.Tests.{first}
 use Rattle.lists.proofs.Tabulate.{tabulate-ext}
+use Rattle.lists.proofs.Tests.{first-ext}
 use Rattle.algebra.specs.Matrix.{Vector, Matrix, vector}
 use Rattle.algebra.specs.Reduction.{reduced}
 use Rattle.algebra.proofs.Reduction.{reduced-small, reduced-pivot}
@@ -88,11 +89,6 @@ module _ (p r : ℕ) (C : List ℕ) (U : Compressed) (w₀ w₁ : List ℕ) (rea
   cleared-remainder = remainder-left p r (vector C) (matrix U) (λ j. getD w₀ j 0 % p) w₁ (ready .positive) inside (λ j h. mod-lt (getD w₀ j 0) (ready .positive)) (s .row) (ready .left) (ready .unit)
 
 -- ---- what is read of a remainder
-
-first-ext : (n : ℕ) (t u : ℕ → Bool) → ((i : ℕ) → i < n → t i ≡ u i) → first n t ≡ first n u
-unfolding first
-first-ext zero t u h = refl
-first-ext (suc n) t u h = ap₂ (λ (b : Bool) (k : ℕ). cond b (suc k) 0) (h 0 (omega arith)) (first-ext n (λ i. t (suc i)) (λ i. u (suc i)) (λ i g. h (suc i) (omega arith)))
 
 module _ (p r : ℕ) (C : Vector) (U : Matrix) (y : Vector) (w : List ℕ) (s : RemainderRow p r C U y w) where
   -- the first column at which it is not 0

@@ -9,22 +9,14 @@ use lib.Dec.{leb, ltb}
 use lib.ListN.{length, getD, take}
 use lib.Seq.{slice, length-slice, getD-take, getD-drop}
 use Rattle.lists.proofs.Bools.{and-right}
+use Rattle.lists.proofs.Steps.{getD-slice}
 use Rattle.sparse.specs.Form.{risesFrom}
 use Rattle.sparse.specs.Row.{entry, Row}
 use Rattle.sparse.specs.Matrix.{Compressed, rowOf, matrix, form}
-use Rattle.sparse.proofs.Entries.{rises-at, values-at, entry-at, entry-absent}
+use Rattle.sparse.proofs.Entries.{rises-at, values-at, entry-at, entry-absent, rises-apart}
 use Rattle.sparse.proofs.Rows.{form-starts, form-row}
 use Rattle.pluq.specs.Shape.{lower}
 use Rattle.pluq.proofs.Shapes.{lower-means}
-
-pub rises-apart : (width low : ℕ) (cols : List ℕ) (t u : ℕ) → risesFrom width low cols ≡ true → t < u → u < length cols → getD cols t 0 < getD cols u 0
-unfolding risesFrom
-rises-apart width low [] t u h b g = absurd (omega arith)
-rises-apart width low (c ∷ cs) t zero h b g = absurd (omega arith)
-rises-apart width low (c ∷ cs) zero (suc u) h b g =
-    omega (arith, rises-at width (c + 1) cs (and-right (leb low c && ltb c width) (risesFrom width (c + 1) cs) h) u (omega arith) .0)
-rises-apart width low (c ∷ cs) (suc t) (suc u) h b g =
-    rises-apart width (c + 1) cs t u (and-right (leb low c && ltb c width) (risesFrom width (c + 1) cs) h) (omega arith) (omega arith)
 
 -- a sparse row whose entry at k is not 0, and 0 right of k: its last entry is the one at k
 module _ (p width : ℕ) (cols vals : List ℕ) (k : ℕ) (row : Row p width cols vals)
@@ -54,9 +46,6 @@ module _ (p width : ℕ) (cols vals : List ℕ) (k : ℕ) (row : Row p width col
       go : Dec (0 < length cols) → (0 < length cols) × (getD vals last 0 ≡ entry cols vals k)
       go (yes h) = (h, sym (at-last h) ∙ ap (entry cols vals) (column h (decLt (getD cols last 0) k) (decLt k (getD cols last 0))))
       go (no h) = absurd (here (entry-absent cols vals k (λ t g. absurd (omega arith))))
-
-pub getD-slice : (a e : ℕ) (l : List ℕ) (t : ℕ) → a + t < e → getD (slice a e l) t 0 ≡ getD l (a + t) 0
-getD-slice a e l t h = getD-drop a (take e l) t 0 ∙ getD-take e l (a + t) 0 h
 
 -- where it stands: before the place e at which the next row begins
 pub diagonal-last : (p r : ℕ) (L : Compressed) (k e : ℕ) → form p r L ≡ true → lower r (matrix L) ≡ true → k < r → k + 1 < length (L .starts) → e ≡ getD (L .starts) (k + 1) 0

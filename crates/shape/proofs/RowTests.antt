@@ -12,27 +12,18 @@ use lib.Seq.{slice, getD-set-same, getD-set-other, getD-take, getD-drop, length-
 use borrow.Author.Tests.{lt-leb, le-leb, eqb-true, eqb-false, eq-eqb, ne-eqb, lt-ltb, le-ltb, not-false}
 use Rattle.lists.specs.Filled.{zeros}
 use Rattle.lists.specs.Tests.{all}
-use Rattle.lists.proofs.Bools.{and-both, and-left, and-right}
+use Rattle.lists.proofs.Bools.{and-both, and-left, and-right, or-right}
 use Rattle.lists.proofs.Filled.{zeros-at}
-use Rattle.lists.proofs.Steps.{slice-step}
+use Rattle.lists.proofs.Steps.{slice-step, getD-slice}
 use Rattle.lists.proofs.Tests.{all-pass, all-fail}
 use Rattle.algebra.specs.Matrix.{Vector, Matrix}
 use Rattle.sparse.specs.Form.{risesFrom, wellFormed}
 use Rattle.sparse.specs.Matrix.{rowOf}
 use Rattle.sparse.specs.Row.{Row, entry}
-use Rattle.sparse.proofs.Entries.{entry-at, entry-absent, rises-at, values-at}
+use Rattle.sparse.proofs.Entries.{entry-at, entry-absent, rises-at, values-at, rises-apart}
 use Rattle.sparse.proofs.Rows.{form-starts, form-row}
 use Rattle.pluq.specs.Shape.{lowerRow, upperRow}
 use Rattle.shape.specs.Needs.{clean}
-
-pub rises-apart : (width low : ℕ) (cols : List ℕ) (t u : ℕ) → risesFrom width low cols ≡ true → t < u → u < length cols → getD cols t 0 < getD cols u 0
-unfolding risesFrom
-rises-apart width low [] t u h b g = absurd (omega arith)
-rises-apart width low (c ∷ cs) t zero h b g = absurd (omega arith)
-rises-apart width low (c ∷ cs) zero (suc u) h b g =
-    omega (arith, rises-at width (c + 1) cs (and-right (leb low c && ltb c width) (risesFrom width (c + 1) cs) h) u (omega arith) .0)
-rises-apart width low (c ∷ cs) (suc t) (suc u) h b g =
-    rises-apart width (c + 1) cs t u (and-right (leb low c && ltb c width) (risesFrom width (c + 1) cs) h) (omega arith) (omega arith)
 
 -- ---- a row of L
 
@@ -42,10 +33,6 @@ lower-yes r row k h g =
     and-both (not (eqb (row k) 0)) (all r (λ l. leb l k || eqb (row l) 0)) (ap not (ne-eqb (row k) 0 h))
     (all-pass r (λ l. leb l k || eqb (row l) 0) (λ l b. cell l b (decLt k l)))
   where
-    or-right : (a : Bool) {b : Bool} → b ≡ true → (a || b) ≡ true
-    or-right true e = refl
-    or-right false e = e
-
     cell : (l : ℕ) → l < r → Dec (k < l) → (leb l k || eqb (row l) 0) ≡ true
     cell l b (yes d) = or-right (leb l k) (eq-eqb (row l) 0 (g l b d))
     cell l b (no d) = ap (λ (t : Bool). t || eqb (row l) 0) (le-leb l k (omega arith))
@@ -174,9 +161,6 @@ upper-marked p width cols vals C k j w row s e =
         omega (arith, v, f))))
 
 -- ---- rows as parts
-
-pub getD-slice : (a e : ℕ) (l : List ℕ) (t : ℕ) → a + t < e → getD (slice a e l) t 0 ≡ getD l (a + t) 0
-getD-slice a e l t h = getD-drop a (take e l) t 0 ∙ getD-take e l (a + t) 0 h
 
 pub last-part : (a e : ℕ) (l : List ℕ) (k : ℕ) → a ≤ e → e ≤ length l
     → (ltb a e && eqb (getD l (e - 1) 0) k) ≡ (ltb 0 (length (slice a e l)) && eqb (getD (slice a e l) (length (slice a e l) - 1) 0) k)

@@ -10,7 +10,7 @@ use lib.Seq.{length-take-le, take-all, drop-cons, getD-at, getD-set-same, getD-s
 use Rattle.lists.specs.Filled.{zeros}
 use Rattle.lists.specs.Tabulate.{tabulate}
 use Rattle.lists.specs.Tests.{first}
-use Rattle.lists.proofs.Filled.{Clearing, clearing-starts, clearing-turn, clearing-ends, zeros-at}
+use Rattle.lists.proofs.Filled.{Clearing, clearing-starts, clearing-turn, clearing-ends, zeros-at, clearing-cell}
 use Rattle.lists.proofs.Tabulate.{length-tabulate, tabulate-at, tabulated}
 use Rattle.algebra.specs.Sum.{δ}
 use Rattle.algebra.specs.Congruence.{_≈⟨_⟩_}
@@ -140,11 +140,6 @@ module _ (p : ℕ) (w : List ℕ) where
 -- ---- storing: the cells passed are stored and cleared
 
 -- the next cell that is to be cleared is as it was
-clearing-cell : (w₀ w : List ℕ) (j : ℕ) → j < length w₀ → Clearing w₀ w j → getD w j 0 ≡ getD w₀ j 0
-clearing-cell w₀ w j h s =
-    ap (λ (l : List ℕ). getD l j 0) (s .cells ∙ ap (λ (l : List ℕ). replicate j 0 ++ l) (drop-cons w₀ j 0 h))
-    ∙ getD-at (replicate j 0) (getD w₀ j 0) (drop (suc j) w₀) 0 j (length-replicate j 0)
-
 module _ (p c start : ℕ) (w₀ cols₀ vals₀ : List ℕ) where
   pub record Storing (w cols vals : List ℕ) (at j : ℕ) : Type 0 where
     pub clearing : Clearing w₀ w j

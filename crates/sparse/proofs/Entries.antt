@@ -71,6 +71,15 @@ values-at p (v ∷ vs) h zero g =
     (ltb-true 0 v (and-left (ltb 0 v) (ltb v p) b), ltb-true v p (and-right (ltb 0 v) (ltb v p) b))
 values-at p (v ∷ vs) h (suc t) g = values-at p vs (and-right (ltb 0 v && ltb v p) (values p vs) h) t (omega arith)
 
+pub rises-apart : (width low : ℕ) (cols : List ℕ) (t u : ℕ) → risesFrom width low cols ≡ true → t < u → u < length cols → getD cols t 0 < getD cols u 0
+unfolding risesFrom
+rises-apart width low [] t u h b g = absurd (omega arith)
+rises-apart width low (c ∷ cs) t zero h b g = absurd (omega arith)
+rises-apart width low (c ∷ cs) zero (suc u) h b g =
+    omega (arith, rises-at width (c + 1) cs (and-right (leb low c && ltb c width) (risesFrom width (c + 1) cs) h) u (omega arith) .0)
+rises-apart width low (c ∷ cs) (suc t) (suc u) h b g =
+    rises-apart width (c + 1) cs t u (and-right (leb low c && ltb c width) (risesFrom width (c + 1) cs) h) (omega arith) (omega arith)
+
 pub row-columns : (p width : ℕ) (cols vals : List ℕ) → Row p width cols vals → Below width cols
 row-columns p width cols vals r t h = rises-at width 0 cols (r .rising) t h .1
 

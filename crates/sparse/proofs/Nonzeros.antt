@@ -8,7 +8,7 @@ use native.Mathlib.Numerals.{add-one}
 use lib.ListN.{length, getD, take, drop, set, length-append, length-map, take-append-drop}
 use lib.Seq.{sets, length-sets, take-suc}
 use Rattle.lists.specs.Tabulate.{tabulate}
-use Rattle.lists.proofs.Steps.{drop-step}
+use Rattle.lists.proofs.Steps.{drop-step, sets-append}
 use Rattle.algebra.proofs.Inverse.{no-divisors}
 use Rattle.residue.specs.Inverse.{Invertible}
 use Rattle.sparse.specs.Dense.{columnsFrom, nonzeros, scaled}
@@ -37,10 +37,6 @@ unfolding columnsFrom nonzeros
 length-columns j [] = refl
 length-columns j (zero ∷ row) = length-columns (suc j) row
 length-columns j (suc v ∷ row) = ap suc (length-columns (suc j) row)
-
-sets-append : (l : List ℕ) (i : ℕ) (xs ys : List ℕ) → sets l i (xs ++ ys) ≡ sets (sets l i xs) (i + length xs) ys
-sets-append l i [] ys = ap (λ (k : ℕ). sets l k ys) (sym (add-zero i))
-sets-append l i (x ∷ xs) ys = sets-append (set l i x) (suc i) xs ys ∙ ap (λ (k : ℕ). sets (sets (set l i x) (suc i) xs) k ys) (omega arith)
 
 -- ---- stored in parts
 

@@ -14,6 +14,7 @@ use Rattle.lists.specs.Refusals.{_▷_, unless}
 use Rattle.lists.specs.declared.Outcome.{Outcome}
 use Rattle.lists.specs.declared.Outcome.the-variants.{Passed, Refused}
 use Rattle.lists.proofs.Bools.{and-left, and-both}
+use Rattle.lists.proofs.Refusals.{both-passed}
 use Rattle.residue.proofs.Primes.{modulus-prime}
 use Rattle.sparse.specs.Matrix.{Compressed, matrix}
 use Rattle.sparse.specs.Set.{Set}
@@ -38,10 +39,6 @@ use Rattle.stages.proofs.Counts.{good, call-passed, call-factoring}
 use Rattle.plq.specs.Calls.{checkReadOf, checkTextOf, makeReadOf, makeTextOf, certificateFor}
 use Rattle.theorems.proofs.Demand3.{own-factors-pass, certificate-of-passed, own-sized}
 
-both : (a b : Outcome) → (a ▷ b) ≡ Passed → (a ≡ Passed) × (b ≡ Passed)
-both Passed b e = (refl, e)
-both (Refused k d) b e = absurd (let z : _≡_ {A = ℕ} 0 1 = cc in omega arith)
-
 -- a plan that passed the tests before a set passes those before a certificate
 plan-tested : (p n m : ℕ) (A : Compressed) (s : Set) → factorsOutcome p n m A s workLength ≡ Passed → callOutcome (eqb workLength workLength) p n m A ≡ Passed
 unfolding factorsOutcome
@@ -53,8 +50,8 @@ plan-tested p n m A s h =
 written-passes : (p n m : ℕ) (A : Compressed) (s : Set) (room : ℕ) → writeOutcome p n m A s workLength room ≡ Passed → checkCertificateOf p n m A (certificateOf p n m s) workLength ≡ Passed
 unfolding writeOutcome checkFactorsOf
 written-passes p n m A s room h =
-    let (checked, fits) = both (checkFactorsOf p n m A s workLength) (roomFor room (certificateOf p n m s)) h in
-    let (tested, judged) = both (factorsOutcome p n m A s workLength) (judge p n m A s) checked in
+    let (checked, fits) = both-passed (checkFactorsOf p n m A s workLength) (roomFor room (certificateOf p n m s)) h in
+    let (tested, judged) = both-passed (factorsOutcome p n m A s workLength) (judge p n m A s) checked in
     certificate-of-passed p n m A s workLength (plan-tested p n m A s tested) (checked-sized p n m A s workLength checked) (checked-passes p n m A s workLength checked)
 
 pub made-passes : (text : List ℕ) (room : ℕ) → makeTextOf text room ≡ Passed → checkTextOf text (certificateFor (reading text)) ≡ Passed
@@ -63,8 +60,8 @@ made-passes text room h =
     let x = reading text in
     let r = x .result in
     let f = factoredOf x in
-    let (read, h₁) = both (readOutcome r) (factorOutcome f ▷ writeOutcome (r .p) (r .n) (r .m) (planOf x) (setIn f) workLength room) h in
-    let (factored, written) = both (factorOutcome f) (writeOutcome (r .p) (r .n) (r .m) (planOf x) (setIn f) workLength room) h₁ in
+    let (read, h₁) = both-passed (readOutcome r) (factorOutcome f ▷ writeOutcome (r .p) (r .n) (r .m) (planOf x) (setIn f) workLength room) h in
+    let (factored, written) = both-passed (factorOutcome f) (writeOutcome (r .p) (r .n) (r .m) (planOf x) (setIn f) workLength room) h₁ in
     ap (λ (o : Outcome). o ▷ checkCertificateOf (r .p) (r .n) (r .m) (planOf x) (certificateFor x) workLength) read
     ∙ written-passes (r .p) (r .n) (r .m) (planOf x) (setIn f) room written
 

@@ -11,6 +11,7 @@ use lib.Seq.{slice, drop-drop, length-take-le}
 use borrow.Author.Tests.{eqb-true, leb-true, ltb-true}
 use Rattle.lists.proofs.Bools.{and-left, and-right}
 use Rattle.lists.proofs.Steps.{drop-take, drop-end}
+use Rattle.factor_calls.proofs.Ready.{small-product}
 use Rattle.residue.specs.Range.{isModulus, largestModulus}
 use Rattle.sparse.specs.Form.{startsFrom, starts, risesFrom, rowsFrom, values, wellFormed}
 use Rattle.sparse.specs.Matrix.{Compressed, form}
@@ -122,9 +123,6 @@ module _ (p width : ℕ) (h : Compressed) (formed : form p width h ≡ true) whe
       (below-wider p b (h .vals) hp (values-below p (h .vals) (later .1)))
 
 -- ---- all numbers of a set
-
-small-product : (a b : ℕ) → a ≤ largestSize → b ≤ largestSize → a * b < 2 ^ 32
-small-product a b h k = omega (arith, mul-le-mul-left {m = b} {n = 2048} a k, h)
 
 modulus-small : (p : ℕ) → isModulus p ≡ true → p < 2 ^ 32
 unfolding isModulus

@@ -13,7 +13,7 @@ use Rattle.lists.specs.Filled.{zeros}
 use Rattle.lists.specs.Tabulate.{tabulate}
 use Rattle.lists.specs.Tests.{first}
 use Rattle.lists.proofs.Filled.{length-zeros}
-use Rattle.lists.proofs.Tests.{first-here}
+use Rattle.lists.proofs.Tests.{first-here, first-ext}
 use Rattle.lists.proofs.Tabulate.{length-tabulate, tabulate-at, tabulate-ext}
 use Rattle.algebra.specs.Prime.{Prime}
 use Rattle.algebra.specs.Matrix.{Vector}
@@ -30,11 +30,6 @@ use Rattle.turning.specs.Taking.{upperRow, PivotFound, RowFound, PairRea
 use Rattle.turning.proofs.PivotRows.{inverse-invertible}
 
 -- ---- the first that fails a test
-
-first-ext : (n : ℕ) (t u : ℕ → Bool) → ((i : ℕ) → i < n → t i ≡ u i) → first n t ≡ first n u
-unfolding first
-first-ext zero t u h = refl
-first-ext (suc n) t u h = λ j. cond (h 0 (omega arith) j) (suc (first-ext n (λ i. t (suc i)) (λ i. u (suc i)) (λ i g. h (suc i) (omega arith)) j)) 0
 
 pub first-most : (n : ℕ) (t : ℕ → Bool) → first n t ≤ n
 unfolding first

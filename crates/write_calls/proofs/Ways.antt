@@ -11,7 +11,7 @@ use Rattle.lists.specs.Refusals.{_▷_, unless}
 use Rattle.lists.specs.declared.Outcome.{Outcome}
 use Rattle.lists.specs.declared.Outcome.the-variants.{Passed, Refused}
 use Rattle.lists.proofs.Filled.{filled-none}
-use Rattle.lists.proofs.Refusals.{refused, passed}
+use Rattle.lists.proofs.Refusals.{refused, passed, both-passed}
 use Rattle.residue.proofs.Primes.{modulus-prime}
 use Rattle.sparse.specs.Matrix.{Compressed}
 use Rattle.sparse.specs.Set.{Set}
@@ -27,15 +27,10 @@ use Rattle.check_calls.proofs.Tested.{GoodPlan, factors-good, prime-positive}
 use Rattle.write_calls.specs.Call.{writeOutcome, kept, WritesCertificate}
 use Rattle.write_calls.specs.declared.Written.{Written}
 
--- a check that passed, taken apart
-passed-both : (a b : Outcome) → (a ▷ b) ≡ Passed → (a ≡ Passed) × (b ≡ Passed)
-passed-both Passed b e = (refl, e)
-passed-both (Refused k d) b e = absurd (let z : _≡_ {A = ℕ} 0 1 = cc in omega arith)
-
 module _ (p n m : ℕ) (A : Compressed) (s : Set) (w : ℕ) (h : checkFactorsOf p n m A s w ≡ Passed) where
   parts : (factorsOutcome p n m A s w ≡ Passed) × (judge p n m A s ≡ Passed)
   unfolding checkFactorsOf
-  parts = passed-both (factorsOutcome p n m A s w) (judge p n m A s) h
+  parts = both-passed (factorsOutcome p n m A s w) (judge p n m A s) h
 
   pub checked-sized : Sized n m s
   checked-sized = factors-good p n m A s w (parts .0) .1
