@@ -1,0 +1,4 @@
+pub mod Kept
+pub mod Cutting
+pub mod Ends
+pub mod Printing

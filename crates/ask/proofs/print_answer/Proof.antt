@@ -1,0 +1,40 @@
+-- `print_answer` meets its contract. Assumes nothing.
+use mathlib.Core.Path.{sym}
+use lib.Seq.{length-take-le}
+use Rattle.ask.proofs.Printing.{line-inside}
+use borrow.Author.Needs.{needs}
+use Rattle.ask.proofs.print_answer.Statement.{statement}
+use Rattle.ask.proofs.print_answer.Tie as tie
+
+slice-aggregate-ask : tie.Need-slice-aggregate-ask
+slice-aggregate-ask c = search needs
+
+slice-aggregate-ask-2 : tie.Need-slice-aggregate-ask-2
+slice-aggregate-ask-2 c = search needs
+
+ask-requires : tie.Need-ask-requires
+ask-requires c κs = search needs
+
+array-share-prefix-out : tie.Need-array-share-prefix-out
+array-share-prefix-out c = let a = c .before .before .ask in line-inside _ _ _ _ (a .kept .1 .1 .0) (a .ensures .answer)
+
+slice-aggregate-write-all : tie.Need-slice-aggregate-write-all
+slice-aggregate-write-all c = let a = c .before .before .before .ask in sym (length-take-le _ _ (line-inside _ _ _ _ (a .kept .1 .1 .0) (a .ensures .answer)))
+
+write-all-requires : tie.Need-write-all-requires
+write-all-requires c κs = search needs
+
+returns : tie.Need-returns
+returns c = search needs
+
+pub print-answer-spec : {M : Type 1} → statement M
+print-answer-spec =
+    tie.close
+    (tie.spec
+    slice-aggregate-ask
+    slice-aggregate-ask-2
+    ask-requires
+    array-share-prefix-out
+    slice-aggregate-write-all
+    write-all-requires
+    returns)

@@ -1,0 +1,59 @@
+-- A question as text.
+--   noResidue            stands for what is no 32-bit number; no modulus has it as a residue
+--   valueOf n            the value that is read
+--   isSeparator b        a space or a line feed
+--   valuesFrom f l       the values of a text l, of whose first field f was read already
+--   endedAt l s i        the value of the field from place s on where a separator at place i ends it; none where there is no separator
+--   nextStart b s i      where the field of place i + 1 begins, b being the byte at place i
+--   FieldReady ..        what adding such a value needs
+--   valuesEnd l          where the values of a text end: before a line feed at its end
+--   questionIn l         the question that a text says: none where nothing stands before its end
+--   Added y₀ k y r vs    the contract of adding values to the first k of a question: as many are kept as its list has room for
+use Prim.Native.Nat.{ℕ, _+_, _-_, _≤_, _<_}
+use mathlib.Core.Path.{_≡_}
+use mathlib.Core.Bool.{Bool, cond, _||_}
+use mathlib.Core.List.{List, [], _∷_, _++_}
+use lib.Dec.{eqb, ltb}
+use lib.ListN.{length, getD, take}
+use lib.Seq.{slice}
+use Rattle.fields.specs.Number.{numberOf}
+use Rattle.fields.specs.declared.numbers.Number.{Number}
+use Rattle.fields.specs.declared.numbers.Number.the-variants.{Value, NotNumber}
+
+abbrev pub noResidue : ℕ
+noResidue = 4294967295
+
+abbrev pub valueOf : Number → ℕ
+valueOf (Value v) = cond (ltb v 4294967296) v noResidue
+valueOf NotNumber = noResidue
+
+unfoldable pub isSeparator : ℕ → Bool
+isSeparator b = eqb b 32 || eqb b 10
+
+unfoldable pub valuesFrom : List ℕ → List ℕ → List ℕ
+valuesFrom f [] = valueOf (numberOf f) ∷ []
+valuesFrom f (b ∷ bs) =
+    let next = valuesFrom [] bs in
+    let longer = valuesFrom (f ++ b ∷ []) bs in
+    cond (isSeparator b) (valueOf (numberOf f) ∷ next) longer
+
+unfoldable pub endedAt : List ℕ → ℕ → ℕ → List ℕ
+endedAt l start i = cond (isSeparator (getD l i 0)) (valueOf (numberOf (slice start i l)) ∷ []) []
+
+abbrev pub nextStart : ℕ → ℕ → ℕ → ℕ
+nextStart b start i = cond (isSeparator b) (i + 1) start
+
+pub record FieldReady (l : List ℕ) (start i : ℕ) (y : List ℕ) (k : ℕ) : Type 0 where
+  pub begun : start ≤ i
+  pub place : i < length l
+  pub count-fits : k ≤ length y
+
+unfoldable pub valuesEnd : List ℕ → ℕ
+valuesEnd l = cond (eqb (getD l (length l - 1) 0) 10) (length l - 1) (length l)
+
+unfoldable pub questionIn : List ℕ → List ℕ
+questionIn l = cond (eqb (valuesEnd l) 0) [] (valuesFrom [] (take (valuesEnd l) l))
+
+pub record Added (y₀ : List ℕ) (k : ℕ) (y : List ℕ) (r : ℕ) (vs : List ℕ) : Type 0 where
+  pub inside : r ≤ length y
+  pub values : take r y ≡ take (length y₀) (take k y₀ ++ vs)

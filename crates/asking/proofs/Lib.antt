@@ -1,0 +1,4 @@
+pub mod Details
+pub mod Lines
+pub mod Answered
+pub mod Asked
