@@ -1,12 +1,14 @@
 """The stored output of the program that runs the cases of factoring, against the model.
 
-The program's source names its cases: a plan's text; plan D with rooms; plan D
-with one thing changed. The model says what each must come to.
+The program's source names its cases: a plan's text; plan D with rooms, and with
+every room of L and U up to one more than it takes; plan D with one thing
+changed. The model says what each must come to.
 """
 
 import re
 import unittest
 from ast import literal_eval
+from itertools import product
 from pathlib import Path
 from typing import NamedTuple
 
@@ -48,7 +50,10 @@ def cases():
     for path in sorted(PROGRAM.glob("src/*.rt")):
         for kind, arguments in CALL.findall(path.read_text()):
             name, *rest = re.findall(ARGUMENT, arguments)
-            yield literal_eval(name).decode(), CASES[kind](*rest)
+            if name != 'b""':
+                yield literal_eval(name).decode(), CASES[kind](*rest)
+    for lower, upper in product(range(D_ROOM + 2), repeat=2):
+        yield f"D, rooms {lower} {upper}", Case(PLAN_D, lower, upper)
 
 
 CASES = {

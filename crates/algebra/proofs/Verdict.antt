@@ -1,7 +1,7 @@
 -- A set of factors answers each question, and its verdict is right.
 use mathlib.Core.Path.{_≡_, sym, ap, _∙_}
 use mathlib.Core.Logic.{_≢_, _⊎_, inl, inr, _↔_}
-use Prim.Native.Nat.{ℕ, zero, _+_, _-_, _*_, _%_, _≤_, _<_}
+use Prim.Native.Nat.{ℕ, _+_, _-_, _*_, _%_, _≤_, _<_}
 use native.Mathlib.Nat.{mod-lt, mod-eq-of-lt}
 use native.Mathlib.Omega.{arith}
 use Rattle.algebra.specs.Congruence.{_≈⟨_⟩_}

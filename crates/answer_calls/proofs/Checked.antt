@@ -3,14 +3,12 @@
 --   factors-checked        stored factors that passed
 --   certificate-checked    the set of a certificate that passed
 --   checked-ready          such a set is ready to answer
-use mathlib.Core.Path.{_≡_, refl}
+use mathlib.Core.Path.{_≡_}
 use mathlib.Core.Bool.{true}
 use mathlib.Core.List.{List}
 use Prim.Native.Nat.{ℕ, _≤_}
 use native.Mathlib.Omega.{arith}
-use Rattle.lists.specs.Refusals.{_▷_}
-use Rattle.lists.specs.declared.Outcome.{Outcome}
-use Rattle.lists.specs.declared.Outcome.the-variants.{Passed, Refused}
+use Rattle.lists.specs.declared.Outcome.the-variants.{Passed}
 use Rattle.lists.proofs.Refusals.{both-passed}
 use Rattle.algebra.specs.Prime.{Prime}
 use Rattle.residue.proofs.Primes.{modulus-prime}

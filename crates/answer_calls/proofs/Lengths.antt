@@ -1,19 +1,12 @@
 -- The lengths of a question's lists, as they are tested, and what a question that passed is.
 use mathlib.Core.Path.{_≡_, refl}
-use mathlib.Core.Bool.{Bool, true, false, _&&_}
+use mathlib.Core.Bool.{true, false, _&&_}
 use mathlib.Core.List.{List}
-use Prim.Native.Nat.{ℕ, _≤_, _<_}
-use native.Mathlib.Omega.{arith}
-use lib.Dec.{eqb, leb, ltb}
-use lib.ListN.{length, getD}
-use borrow.Author.Tests.{eqb-true, leb-true, ltb-true, eq-eqb, ne-eqb}
-use Rattle.lists.specs.Tests.{first}
-use Rattle.lists.specs.Refusals.{unless}
-use Rattle.lists.specs.declared.Outcome.the-variants.{Passed}
+use Prim.Native.Nat.{ℕ}
+use lib.Dec.{eqb}
+use lib.ListN.{length}
+use borrow.Author.Tests.{eqb-true, eq-eqb, ne-eqb}
 use Rattle.lists.proofs.Bools.{and-left, and-right, chain-false, chain-true}
-use Rattle.lists.proofs.Tests.{first-before}
-use Rattle.sparse.specs.Row.{Below}
-use Rattle.row_space.specs.Question.{questionOutcome}
 use Rattle.answer_calls.specs.Calls.{questionLengths}
 
 -- ---- one law for each way out of the test
@@ -49,4 +42,3 @@ lengths-are n m y a b h =
       rows = eqb-true a n (and-left (eqb a n) (eqb b m) cells);
       columns = eqb-true b m (and-right (eqb a n) (eqb b m) cells);
     }
-

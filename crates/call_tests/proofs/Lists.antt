@@ -1,9 +1,9 @@
 -- A stored list with no bytes beside it is the list itself.
-use mathlib.Core.Path.{_≡_, refl, ap, _∙_}
-use mathlib.Core.List.{List, [], _++_, append-nil}
+use mathlib.Core.Path.{_≡_}
+use mathlib.Core.List.{List, [], append-nil}
 use Prim.Native.Nat.{ℕ}
 use Rattle.sparse.specs.Words.{words, view}
-use Rattle.sparse.specs.Matrix.{Compressed, compressed, viewed}
+use Rattle.sparse.specs.Matrix.{compressed, viewed}
 
 pub view-list : (l : List ℕ) → view l [] ≡ l
 unfolding view words

@@ -1,7 +1,6 @@
 -- One law for each way out of the tests.
 use mathlib.Core.Path.{_≡_, refl, sym, ap, _∙_}
 use mathlib.Core.Bool.{Bool, true, false, _&&_}
-use mathlib.Core.List.{List}
 use Prim.Native.Nat.{ℕ, _+_}
 use native.Mathlib.Omega.{arith}
 use lib.Dec.{eqb}
@@ -13,7 +12,7 @@ use Rattle.lists.specs.declared.Outcome.the-variants.{Passed, Refused}
 use Rattle.lists.proofs.Bools.{chain-false, chain-true}
 use Rattle.lists.proofs.Refusals.{fails, holds}
 use Rattle.residue.specs.Range.{isModulus}
-use Rattle.sparse.specs.Matrix.{Compressed, compressed, form}
+use Rattle.sparse.specs.Matrix.{Compressed, form}
 use Rattle.sparse.specs.Set.{Set}
 use Rattle.call_tests.specs.Tests.{pairedLengths, planLengths, setLengths, limitsOk, planOutcome}
 

@@ -28,7 +28,6 @@ use Rattle.pluq.specs.Shape.{lowerRow, lower, upperRow, upper}
 use Rattle.pluq.specs.Judge.{agrees, productOutcome, judgeFactors, judge}
 use Rattle.row_space.specs.Substitution.{backL, backU}
 use Rattle.row_space.specs.Solve.{lowest, solve}
-use Rattle.row_space.specs.declared.Verdict.{Verdict}
 use Rattle.row_space.specs.declared.Verdict.the-variants.{Open, Closed}
 use Rattle.elimination.specs.Structural.{leads, prefer, chosen, structural}
 use Rattle.elimination.specs.Pivots.{columnsOf, uppersOf, coefficients, withPivot, withDependent, placed, turn, turns}

@@ -5,7 +5,7 @@
 --   D           document 01's plan D, modulo 7
 --   setD l u    D's set, with l for L[3][3] and u for U[0][0]: 5 and 1 in the engine's own
 use Prim.Native.Nat.{ℕ}
-use mathlib.Core.List.{List, [], _∷_}
+use mathlib.Core.List.{[], _∷_}
 use Rattle.sparse.specs.Matrix.{Compressed, compressed}
 use Rattle.sparse.specs.Set.{Set, setOf}
 

@@ -1,5 +1,5 @@
 -- A set of stored lists, each with no bytes beside it, is the set of the lists themselves.
-use mathlib.Core.Path.{_≡_, ap, ap₂}
+use mathlib.Core.Path.{_≡_}
 use mathlib.Core.List.{List, []}
 use Prim.Native.Nat.{ℕ}
 use Rattle.lists.specs.declared.Outcome.{Outcome}

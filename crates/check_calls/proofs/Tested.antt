@@ -20,9 +20,8 @@ use Rattle.sparse.specs.Matrix.{Compressed, form}
 use Rattle.sparse.specs.Set.{Set}
 use Rattle.pluq.proofs.Judged.{unless-passed}
 use Rattle.checker.specs.Needs.{Checkable}
-use Rattle.certificate.specs.Reading.{headerOk, setOfCertificate}
+use Rattle.certificate.specs.Reading.{headerOk}
 use Rattle.certificate.specs.Layout.{Sized}
-use Rattle.certificate.proofs.Passed.{passed-sized}
 use Rattle.call_tests.specs.Limits.{workLength, largestSize, largestEntries}
 use Rattle.call_tests.specs.Tests.{pairedLengths, planLengths, setLengths, limitsOk, planOutcome, callOutcome}
 use Rattle.check_calls.specs.Calls.{factorsOutcome, certificateOutcome}

@@ -1,21 +1,19 @@
 -- What follows from the tests before factoring: the lists that passed are ready, and both ways out leave what the call says.
-use mathlib.Core.Path.{_≡_, refl, sym, ap, _∙_, subst}
+use mathlib.Core.Path.{_≡_, refl, sym, subst}
 use mathlib.Core.Bool.{true}
-use mathlib.Core.List.{List, []}
-use Prim.Native.Nat.{ℕ, _+_, _*_, _^_, _≤_, _<_}
-use native.Mathlib.Nat.{mul-le-mul-left, mul-le-mul-right}
+use mathlib.Core.List.{List}
+use Prim.Native.Nat.{ℕ, _*_, _^_, _≤_, _<_}
+use native.Mathlib.Nat.{mul-le-mul-left}
 use native.Mathlib.Omega.{arith}
 use lib.ListN.{length}
-use Rattle.lists.specs.Filled.{zeros, filled}
-use Rattle.lists.proofs.Filled.{filled-none, cleared-filled}
+use Rattle.lists.proofs.Filled.{cleared-filled}
 use Rattle.lists.specs.declared.Outcome as tests
 use Rattle.lists.specs.declared.Outcome.the-variants.{Passed, Refused}
 use Rattle.residue.proofs.Primes.{modulus-prime}
 use Rattle.sparse.specs.Matrix.{Compressed, form}
-use Rattle.call_tests.specs.Limits.{largestSize, workLength}
-use Rattle.check_calls.proofs.Tested.{GoodPlan, good-plan}
+use Rattle.call_tests.specs.Limits.{largestSize}
+use Rattle.check_calls.proofs.Tested.{good-plan}
 use Rattle.factoring.specs.Outcome.{Outcome, factoring, Leaves}
-use Rattle.passing.specs.Needs.{Lists}
 use Rattle.factoring.specs.Needs.{AllClear, FactorReady}
 use Rattle.factor_calls.specs.Lengths.{lentOf, lentLengths, lentOutcome}
 use Rattle.factor_calls.specs.Calls.{refusal, unlessRefused, factorCallOf}

@@ -3,7 +3,7 @@
 --   unlessRefused o f      the refusal that o is, else f
 --   factorCallOf ..        9, 1, 2, 8, then what factoring gives: 7 at a row, or the factors
 use Prim.Native.Nat.{ℕ}
-use mathlib.Core.List.{List, []}
+use mathlib.Core.List.{[]}
 use Rattle.lists.specs.declared.Outcome as tests
 use Rattle.lists.specs.declared.Outcome.the-variants.{Passed, Refused}
 use Rattle.sparse.specs.Matrix.{Compressed, compressed}

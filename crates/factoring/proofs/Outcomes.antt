@@ -1,12 +1,12 @@
 -- Factoring from given pairs: what the first pass leaves serves the second, and both ways out leave the outcome.
 use mathlib.Core.Path.{_≡_, refl, sym, ap, _∙_}
 use mathlib.Core.Bool.{Bool, true, false}
-use mathlib.Core.List.{List, [], _++_}
+use mathlib.Core.List.{List, _++_}
 use Prim.Native.Nat.{ℕ, _≤_, _<_}
 use native.Mathlib.Omega.{arith}
 use lib.ListN.{length}
 use Rattle.lists.specs.Filled.{zeros, filled}
-use Rattle.lists.proofs.Filled.{filled-none, filled-whole, length-zeros, cleared-filled}
+use Rattle.lists.proofs.Filled.{filled-whole, length-zeros, cleared-filled}
 use Rattle.sparse.specs.Matrix.{Compressed, matrix}
 use Rattle.sparse.specs.Dense.{compress}
 use Rattle.sparse.proofs.Rows.{form-below}

@@ -15,6 +15,7 @@ fn main() {
     plans::elimination();
     plans::moduli();
     plan_d::rooms();
+    plan_d::sweep();
     plan_d::moduli();
     plan_d::sizes();
     plan_d::forms();

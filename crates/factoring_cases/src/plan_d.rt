@@ -2,6 +2,7 @@
 use crate::change;
 use crate::change::Change;
 use crate::run::run;
+use case_text::number;
 
 fn plan_d(name: &[u8], l: u32, u: u32, change: Change) {
     run(
@@ -32,6 +33,40 @@ pub fn rooms() {
     room(b"D, room 4 and 6", 4, 6);
     room(b"D, no room for L", 0, 7);
     room(b"D, no room for U", 7, 0);
+}
+
+// The same, named by its rooms.
+fn rooms_of(l: u32, u: u32) {
+    io::write_all(1, b"D, rooms");
+    number(l as u64);
+    number(u as u64);
+    room(b"", l, u);
+}
+
+// Every room of U up to one more than D takes.
+fn upper_rooms(l: u32) {
+    rooms_of(l, 0);
+    rooms_of(l, 1);
+    rooms_of(l, 2);
+    rooms_of(l, 3);
+    rooms_of(l, 4);
+    rooms_of(l, 5);
+    rooms_of(l, 6);
+    rooms_of(l, 7);
+    rooms_of(l, 8);
+}
+
+// Every room of L and U up to one more than D takes.
+pub fn sweep() {
+    upper_rooms(0);
+    upper_rooms(1);
+    upper_rooms(2);
+    upper_rooms(3);
+    upper_rooms(4);
+    upper_rooms(5);
+    upper_rooms(6);
+    upper_rooms(7);
+    upper_rooms(8);
 }
 
 // 1; and 8 for 5, which is a value of D

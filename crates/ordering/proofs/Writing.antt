@@ -3,12 +3,12 @@ use mathlib.Core.Path.{_≡_, refl, sym, ap, _∙_}
 use mathlib.Core.Logic.{_⊎_, inl, inr}
 use mathlib.Core.List.{List, [], _∷_, _++_, append-nil}
 use Prim.Native.Nat.{ℕ, zero, suc, _+_, _-_, _≤_, _<_}
-use native.Mathlib.Nat.{add-zero, zero-add, eq-or-lt-of-le}
+use native.Mathlib.Nat.{zero-add, eq-or-lt-of-le}
 use native.Mathlib.Omega.{arith}
-use lib.ListN.{length, getD, take, drop, set, replicate, length-append, length-replicate, drop-of-length-le}
-use lib.Seq.{sets, length-sets, sets-eq, drop-cons, getD-at}
+use lib.ListN.{length, take, drop, set, length-append, drop-of-length-le}
+use lib.Seq.{sets, length-sets, sets-eq}
 use Rattle.lists.specs.Filled.{zeros, filled}
-use Rattle.lists.proofs.Filled.{Clearing, length-zeros}
+use Rattle.lists.proofs.Filled.{length-zeros}
 use Rattle.lists.proofs.Steps.{sets-append}
 use Rattle.ordering.specs.Written.{Written}
 

@@ -5,7 +5,6 @@
 --   makeTextOf text room     reading the text, then factoring its plan and writing its certificate
 --   certificateFor x         the certificate of the set that factoring gives for the plan of a reading
 --   packed o                 an outcome as one number: the table's number plus 256 times its detail
---   Puts o cert r b₀ b       the outcome r is o, and the buffer holds the certificate, zero past its end; all zero where o is a refusal
 --   Makes text z b₀ b        the contract of making: the number, and every byte of the buffer
 use Prim.Native.Nat.{ℕ, _+_, _*_}
 use mathlib.Core.Path.{_≡_}
@@ -47,10 +46,6 @@ certificateFor x = certificateOf (x .result .p) (x .result .n) (x .result .m) (s
 
 abbrev pub packed : Outcome → ℕ
 packed o = numberOf o + 256 * detailOf o
-
-pub record Puts (o : Outcome) (cert : List ℕ) (r : Outcome) (b₀ b : List ℕ) : Type 0 where
-  pub outcome : r ≡ o
-  pub buffer : b ≡ filled (length b₀) (kept o cert)
 
 pub record Makes (text : List ℕ) (z : ℕ) (b₀ b : List ℕ) : Type 0 where
   pub number : z ≡ packed (makeTextOf text (length b₀))

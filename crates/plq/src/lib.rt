@@ -3,7 +3,8 @@ ghost use mathlib.Core.Path.{_≡_};
 ghost use Rattle.plq.specs.Calls.{checkTextOf, packed, Makes};
 use check::check_text;
 use lists::Outcome;
-use make::make_text;
+use make::make_staged;
+use stages::factor_text;
 
 pub mod check;
 pub mod make;
@@ -39,7 +40,7 @@ pub extern "C" fn plq_make_certificate(text: &[u8], buffer: &mut [u8]) -> u64
     let mut uc = [0u32; 16384];
     let mut uv = [0u32; 16384];
     let mut work = [0u64; 2048];
-    pack(make_text(
+    let s = factor_text(
         text,
         &mut starts,
         &mut columns,
@@ -52,6 +53,21 @@ pub extern "C" fn plq_make_certificate(text: &[u8], buffer: &mut [u8]) -> u64
         &mut us,
         &mut uc,
         &mut uv,
+        &mut work,
+    );
+    pack(make_staged(
+        s,
+        &starts,
+        &columns,
+        &values,
+        &rows,
+        &cols,
+        &ls,
+        &lc,
+        &lv,
+        &us,
+        &uc,
+        &uv,
         buffer,
         &mut work,
     ))

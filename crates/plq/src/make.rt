@@ -1,16 +1,11 @@
-// Making the certificate of a plan's text.
+// Making a certificate of what the stages left in lists.
 ghost use lib.ListN.{length};
 ghost use Rattle.sparse.specs.Matrix.{compressed};
-ghost use Rattle.certificate.specs.Layout.{certificateOf};
-ghost use Rattle.write_calls.specs.Call.{writeOutcome};
-ghost use Rattle.stages.specs.Stages.{reading, heldPlan};
-ghost use Rattle.stages.specs.Lists.{StageLists};
-ghost use Rattle.stages.specs.Staged.{Fits, heldSet};
-ghost use Rattle.plq.specs.Calls.{makeTextOf, certificateFor, Puts};
+ghost use Rattle.stages.specs.Staged.{Fits};
+ghost use Rattle.plq.specs.Held.{heldCertificate, writtenOf, stagedOutcome, Puts, StagedFits};
 use lists::Outcome;
 use lists::clear_bytes;
 use stages::Stages;
-use stages::factor_text;
 use write_calls::write_certificate;
 
 // Writes the certificate of the set that the stages left in lists.
@@ -31,7 +26,7 @@ fn write_held(
     work: &mut [u64],
 ) -> Outcome
     requires { ⌜ Fits s (compressed (now starts) (now columns) (now values)) (now rows) (now cols) (compressed (now ls) (now lc) (now lv)) (compressed (now us) (now uc) (now uv)) ⌝ }
-    ensures { λ o. ⌜ Puts (writeOutcome (s .reading .p) (s .reading .n) (s .reading .m) (heldPlan (s .reading) (now (starts .entry)) (now (columns .entry)) (now (values .entry))) (heldSet s (now (rows .entry)) (now (cols .entry)) (compressed (now (ls .entry)) (now (lc .entry)) (now (lv .entry))) (compressed (now (us .entry)) (now (uc .entry)) (now (uv .entry)))) (length (now (work .entry))) (length (now (buffer .entry)))) (certificateOf (s .reading .p) (s .reading .n) (s .reading .m) (heldSet s (now (rows .entry)) (now (cols .entry)) (compressed (now (ls .entry)) (now (lc .entry)) (now (lv .entry))) (compressed (now (us .entry)) (now (uc .entry)) (now (uv .entry))))) o (now (buffer .entry)) (now (buffer .exit)) ⌝ }
+    ensures { λ o. ⌜ Puts (writtenOf s (compressed (now (starts .entry)) (now (columns .entry)) (now (values .entry))) (now (rows .entry)) (now (cols .entry)) (compressed (now (ls .entry)) (now (lc .entry)) (now (lv .entry))) (compressed (now (us .entry)) (now (uc .entry)) (now (uv .entry))) (length (now (work .entry))) (length (now (buffer .entry)))) (heldCertificate s (now (rows .entry)) (now (cols .entry)) (compressed (now (ls .entry)) (now (lc .entry)) (now (lv .entry))) (compressed (now (us .entry)) (now (uc .entry)) (now (uv .entry)))) o (now (buffer .entry)) (now (buffer .exit)) ⌝ }
 {
     let r = s.reading;
     let n = r.n as usize;
@@ -63,41 +58,26 @@ fn write_held(
     written.outcome
 }
 
-// Reads a plan's text, factors the plan, and writes its certificate.
-pub fn make_text(
-    text: &[u8],
-    starts: &mut [u32],
-    columns: &mut [u32],
-    values: &mut [u32],
-    rows: &mut [u32],
-    cols: &mut [u32],
-    ls: &mut [u32],
-    lc: &mut [u32],
-    lv: &mut [u32],
-    us: &mut [u32],
-    uc: &mut [u32],
-    uv: &mut [u32],
+// What comes of the stages: a refusal, which leaves the buffer all zero, or the certificate.
+pub fn make_staged(
+    s: Stages,
+    starts: &[u32],
+    columns: &[u32],
+    values: &[u32],
+    rows: &[u32],
+    cols: &[u32],
+    ls: &[u32],
+    lc: &[u32],
+    lv: &[u32],
+    us: &[u32],
+    uc: &[u32],
+    uv: &[u32],
     buffer: &mut [u8],
     work: &mut [u64],
 ) -> Outcome
-    requires { ⌜ StageLists (compressed (now starts) (now columns) (now values)) (now rows) (now cols) (compressed (now ls) (now lc) (now lv)) (compressed (now us) (now uc) (now uv)) (now work) ⌝ }
-    ensures { λ o. ⌜ Puts (makeTextOf (now (text .entry)) (length (now (buffer .entry)))) (certificateFor (reading (now (text .entry)))) o (now (buffer .entry)) (now (buffer .exit)) ⌝ }
+    requires { ⌜ StagedFits s (compressed (now starts) (now columns) (now values)) (now rows) (now cols) (compressed (now ls) (now lc) (now lv)) (compressed (now us) (now uc) (now uv)) ⌝ }
+    ensures { λ o. ⌜ Puts (stagedOutcome s (compressed (now (starts .entry)) (now (columns .entry)) (now (values .entry))) (now (rows .entry)) (now (cols .entry)) (compressed (now (ls .entry)) (now (lc .entry)) (now (lv .entry))) (compressed (now (us .entry)) (now (uc .entry)) (now (uv .entry))) (length (now (work .entry))) (length (now (buffer .entry)))) (heldCertificate s (now (rows .entry)) (now (cols .entry)) (compressed (now (ls .entry)) (now (lc .entry)) (now (lv .entry))) (compressed (now (us .entry)) (now (uc .entry)) (now (uv .entry)))) o (now (buffer .entry)) (now (buffer .exit)) ⌝ }
 {
-    let s = factor_text(
-        text,
-        starts,
-        columns,
-        values,
-        rows,
-        cols,
-        ls,
-        lc,
-        lv,
-        us,
-        uc,
-        uv,
-        work,
-    );
     let read = s.reading;
     if read.number != 0 {
         clear_bytes(buffer);

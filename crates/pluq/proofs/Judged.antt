@@ -1,21 +1,18 @@
 -- The judge passes a set exactly if it has the published shape and its product is A; 14 is at the first position that differs.
 use mathlib.Core.Path.{_≡_, refl, sym, ap, _∙_}
-use mathlib.Core.Logic.{_⊎_, inl, inr, _↔_}
-use mathlib.Core.Bool.{Bool, true, false, not, _&&_, _||_, false≢true, true≢false}
-use mathlib.Core.List.{List}
-use Prim.Native.Nat.{ℕ, zero, suc, _+_, _%_, _≤_, _<_}
+use mathlib.Core.Logic.{_↔_}
+use mathlib.Core.Bool.{Bool, true, false, true≢false}
+use Prim.Native.Nat.{ℕ, _%_, _≤_, _<_}
 use native.Mathlib.Omega.{arith}
 use native.Mathlib.Nat.{mod-eq-of-lt, zero-mod}
-use native.Mathlib.Decide.{decLt}
-use lib.Dec.{leb, ltb, eqb}
-use lib.ListN.{length, getD}
-use borrow.Author.Tests.{leb-true, leb-false, le-leb, lt-leb, eqb-true, eqb-false, eq-eqb, ne-eqb, not-true}
+use lib.Dec.{leb, eqb}
+use lib.ListN.{length}
+use borrow.Author.Tests.{leb-true, leb-false, le-leb, eqb-false}
 use Rattle.lists.specs.Tests.{all, first}
-use Rattle.lists.proofs.Bools.{and-both, and-left, and-right, or-cases}
-use Rattle.lists.proofs.Tests.{all-at, all-pass, first-all, first-before, first-here}
+use Rattle.lists.proofs.Tests.{first-all, first-before, first-here}
 use Rattle.algebra.specs.Congruence.{_≈⟨_⟩_}
 use Rattle.algebra.specs.Sum.{dot}
-use Rattle.algebra.specs.Matrix.{Vector, Matrix, vector}
+use Rattle.algebra.specs.Matrix.{vector}
 use Rattle.lists.specs.Refusals.{_▷_, unless, numberOf, detailOf}
 use Rattle.lists.specs.declared.Outcome.{Outcome}
 use Rattle.lists.specs.declared.Outcome.the-variants.{Passed, Refused}
@@ -24,7 +21,7 @@ use Rattle.sparse.specs.Set.{Set}
 use Rattle.sparse.proofs.Rows.{form-below}
 use Rattle.pluq.specs.Order.{permutation}
 use Rattle.pluq.specs.Shape.{lower, upper}
-use Rattle.pluq.specs.Judge.{agrees, productOutcome, judgeFactors, judge, Passes}
+use Rattle.pluq.specs.Judge.{productOutcome, judgeFactors, judge, Passes}
 use Rattle.pluq.proofs.Orders.{permutation-means, permutation-holds}
 use Rattle.pluq.proofs.Shapes.{lower-means, lower-holds, upper-means, upper-holds, agrees-means, agrees-holds}
 

@@ -1,21 +1,18 @@
 -- What the tests of shape and of one row's product mean.
-use mathlib.Core.Path.{_≡_, refl, sym, ap, _∙_}
-use mathlib.Core.Logic.{_⊎_, inl, inr, _↔_}
-use mathlib.Core.Bool.{Bool, true, false, not, _&&_, _||_, false≢true, true≢false}
-use mathlib.Core.List.{List}
-use Prim.Native.Nat.{ℕ, zero, suc, _+_, _%_, _≤_, _<_}
+use mathlib.Core.Path.{_≡_, ap}
+use mathlib.Core.Logic.{_⊎_, inl, inr}
+use mathlib.Core.Bool.{Bool, true, not, _||_}
+use Prim.Native.Nat.{ℕ, _%_, _≤_, _<_}
 use native.Mathlib.Omega.{arith}
-use native.Mathlib.Nat.{mod-eq-of-lt, zero-mod}
 use native.Mathlib.Decide.{decLt}
-use lib.Dec.{leb, ltb, eqb}
-use lib.ListN.{length, getD}
-use borrow.Author.Tests.{leb-true, leb-false, le-leb, lt-leb, eqb-true, eqb-false, eq-eqb, ne-eqb, not-true}
-use Rattle.lists.specs.Tests.{all, first}
+use lib.Dec.{leb, eqb}
+use borrow.Author.Tests.{leb-true, le-leb, eqb-true, eqb-false, eq-eqb, ne-eqb, not-true}
+use Rattle.lists.specs.Tests.{all}
 use Rattle.lists.proofs.Bools.{and-both, and-left, and-right, or-cases, or-right}
-use Rattle.lists.proofs.Tests.{all-at, all-pass, first-all, first-before, first-here}
+use Rattle.lists.proofs.Tests.{all-at, all-pass}
 use Rattle.algebra.specs.Congruence.{_≈⟨_⟩_}
 use Rattle.algebra.specs.Sum.{dot}
-use Rattle.algebra.specs.Matrix.{Vector, Matrix, vector}
+use Rattle.algebra.specs.Matrix.{Vector, Matrix}
 use Rattle.pluq.specs.Shape.{lowerRow, lower, upperRow, upper}
 use Rattle.pluq.specs.Judge.{agrees}
 

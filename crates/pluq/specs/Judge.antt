@@ -7,7 +7,6 @@
 use Prim.Native.Nat.{ℕ, _%_}
 use mathlib.Core.Path.{_≡_}
 use mathlib.Core.Bool.{Bool, true}
-use mathlib.Core.List.{List}
 use lib.Dec.{leb, eqb}
 use Rattle.lists.specs.Tests.{all, first}
 use Rattle.lists.specs.Table.{noPermutation, rankTooLarge, badFactors, productDiffers}

@@ -2,7 +2,7 @@
 --   CombinesRows ..    r rows of U, and a sparse row that says how often each is taken
 --   CombinesRow ..     the same for row i of L
 --   Comparable ..      a matrix A and a set whose orders and storage passed, and a working row that is all zero
-use Prim.Native.Nat.{ℕ, _+_, _*_, _≤_, _<_}
+use Prim.Native.Nat.{ℕ, _+_, _*_, _<_}
 use mathlib.Core.Path.{_≡_}
 use mathlib.Core.Bool.{true}
 use mathlib.Core.List.{List}

@@ -4,7 +4,7 @@
 --   ReducedRow p k C U y w       y was reduced by the first k rows: cell C[l] holds the multiple of row l, every other cell stands for the remainder
 --   takenRow k C w               the multiples, as a list: the cells at the first k pivot columns
 --   RemainderRow p k C U y w     the multiples are cleared: every cell stands for the remainder
-use Prim.Native.Nat.{ℕ, _+_, _*_, _%_, _≤_, _<_}
+use Prim.Native.Nat.{ℕ, _*_, _%_, _≤_, _<_}
 use mathlib.Core.Path.{_≡_}
 use mathlib.Core.Bool.{true}
 use mathlib.Core.List.{List}

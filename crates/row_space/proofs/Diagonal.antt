@@ -1,16 +1,13 @@
 -- The last entry of row k of L, a lower triangle, is its diagonal entry.
 use mathlib.Core.Path.{_≡_, sym, ap, _∙_}
-use mathlib.Core.Bool.{true, _&&_}
-use mathlib.Core.List.{List, [], _∷_}
-use Prim.Native.Nat.{ℕ, zero, suc, _+_, _-_, _≤_, _<_}
+use mathlib.Core.Bool.{true}
+use mathlib.Core.List.{List}
+use Prim.Native.Nat.{ℕ, _+_, _-_, _≤_, _<_}
 use native.Mathlib.Omega.{arith}
 use native.Mathlib.Decide.{ℕ-discrete, decLt}
-use lib.Dec.{leb, ltb}
-use lib.ListN.{length, getD, take}
-use lib.Seq.{slice, length-slice, getD-take, getD-drop}
-use Rattle.lists.proofs.Bools.{and-right}
+use lib.ListN.{length, getD}
+use lib.Seq.{slice, length-slice}
 use Rattle.lists.proofs.Steps.{getD-slice}
-use Rattle.sparse.specs.Form.{risesFrom}
 use Rattle.sparse.specs.Row.{entry, Row}
 use Rattle.sparse.specs.Matrix.{Compressed, rowOf, matrix, form}
 use Rattle.sparse.proofs.Entries.{rises-at, values-at, entry-at, entry-absent, rises-apart}

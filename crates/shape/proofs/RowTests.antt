@@ -7,8 +7,8 @@ use Prim.Native.Nat.{ℕ, zero, suc, _+_, _-_, _≤_, _<_}
 use native.Mathlib.Omega.{arith}
 use native.Mathlib.Decide.{ℕ-discrete, decLt}
 use lib.Dec.{leb, ltb, eqb}
-use lib.ListN.{length, getD, set, take, length-set}
-use lib.Seq.{slice, getD-set-same, getD-set-other, getD-take, getD-drop, length-slice, slice-empty}
+use lib.ListN.{length, getD, set, length-set}
+use lib.Seq.{slice, getD-set-same, getD-set-other, length-slice, slice-empty}
 use borrow.Author.Tests.{lt-leb, le-leb, eqb-true, eqb-false, eq-eqb, ne-eqb, lt-ltb, le-ltb, not-false}
 use Rattle.lists.specs.Filled.{zeros}
 use Rattle.lists.specs.Tests.{all}
@@ -17,7 +17,7 @@ use Rattle.lists.proofs.Filled.{zeros-at}
 use Rattle.lists.proofs.Steps.{slice-step, getD-slice}
 use Rattle.lists.proofs.Tests.{all-pass, all-fail}
 use Rattle.algebra.specs.Matrix.{Vector, Matrix}
-use Rattle.sparse.specs.Form.{risesFrom, wellFormed}
+use Rattle.sparse.specs.Form.{wellFormed}
 use Rattle.sparse.specs.Matrix.{rowOf}
 use Rattle.sparse.specs.Row.{Row, entry}
 use Rattle.sparse.proofs.Entries.{entry-at, entry-absent, rises-at, values-at, rises-apart}

@@ -1,15 +1,14 @@
 -- The loops between stored rows and the working row, one turn at a time.
 use mathlib.Core.Path.{_≡_, refl, sym, ap, _∙_}
 use mathlib.Core.List.{List, [], _∷_, _++_}
-use Prim.Native.Nat.{ℕ, suc, _+_, _-_, _*_, _%_, _≤_, _<_}
+use Prim.Native.Nat.{ℕ, _+_, _-_, _*_, _%_, _≤_, _<_}
 use native.Mathlib.Nat.{mul-le-mul-left}
 use native.Mathlib.Decide.{ℕ-discrete}
 use native.Mathlib.Omega.{arith}
-use lib.ListN.{length, getD, take, drop, set, replicate, length-set, length-replicate, drop-of-length-le}
-use lib.Seq.{length-take-le, take-all, drop-cons, getD-at, getD-set-same, getD-set-other}
+use lib.ListN.{length, getD, take, drop, set, length-set, drop-of-length-le}
+use lib.Seq.{length-take-le, take-all, getD-set-same, getD-set-other}
 use Rattle.lists.specs.Filled.{zeros}
 use Rattle.lists.specs.Tabulate.{tabulate}
-use Rattle.lists.specs.Tests.{first}
 use Rattle.lists.proofs.Filled.{Clearing, clearing-starts, clearing-turn, clearing-ends, zeros-at, clearing-cell}
 use Rattle.lists.proofs.Tabulate.{length-tabulate, tabulate-at, tabulated}
 use Rattle.algebra.specs.Sum.{δ}

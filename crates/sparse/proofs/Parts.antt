@@ -1,11 +1,11 @@
 -- A part of the list meant by a stored list and certificate bytes is the list meant by a part of each.
 use mathlib.Core.Path.{_≡_, refl, sym, ap, _∙_}
 use mathlib.Core.List.{List, [], _∷_, _++_}
-use Prim.Native.Nat.{ℕ, zero, suc, _+_, _-_, _*_, _≤_, _<_, min}
+use Prim.Native.Nat.{ℕ, zero, suc, _+_, _-_, _*_, min}
 use native.Mathlib.Omega.{arith}
 use native.Mathlib.Nat.{zero-min, min-zero, suc-min-suc, zero-sub}
 use lib.ListN.{length, take, drop}
-use lib.Seq.{slice, take-nil, drop-nil}
+use lib.Seq.{slice}
 use Rattle.lists.proofs.Steps.{drop-take}
 use Rattle.sparse.specs.Words.{view, words, le32}
 

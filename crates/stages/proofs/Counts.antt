@@ -1,9 +1,8 @@
 -- What a factoring call gives, whatever its number: how many entries L and U have, and the set where the number is 0.
 use mathlib.Core.Path.{_≡_, refl, sym, ap, _∙_}
 use mathlib.Core.Bool.{Bool, true, false, _&&_}
-use mathlib.Core.List.{List}
 use mathlib.Core.Option.{Option, none, some}
-use Prim.Native.Nat.{ℕ, _+_, _≤_}
+use Prim.Native.Nat.{ℕ, _≤_}
 use native.Mathlib.Omega.{arith}
 use lib.ListN.{length, getD}
 use Rattle.lists.specs.Refusals.{_▷_, unless, numberOf, detailOf}
@@ -13,7 +12,7 @@ use Rattle.residue.specs.Range.{isModulus}
 use Rattle.residue.proofs.Primes.{modulus-prime}
 use Rattle.sparse.specs.Matrix.{Compressed, matrix, form}
 use Rattle.sparse.specs.Set.{Set}
-use Rattle.sparse.proofs.DenseLaws.{Lengths, compress-lengths}
+use Rattle.sparse.proofs.DenseLaws.{compress-lengths}
 use Rattle.elimination.specs.Structural.{structural}
 use Rattle.elimination.specs.Pivots.{Found, uppersOf, turns}
 use Rattle.elimination.specs.Factoring.{schedule, nothing, firstOver, factored, factorFrom, factor, lowersOf}
@@ -21,7 +20,7 @@ use Rattle.elimination.proofs.Pairs.{structural-pairs}
 use Rattle.elimination.proofs.Theorem.{StoredFactors, factor-stored}
 use Rattle.call_tests.specs.Tests.{planLengths, limitsOk, planOutcome}
 use Rattle.check_calls.proofs.Tested.{GoodPlan, good-plan}
-use Rattle.factoring.specs.Outcome.{Outcome, refusedAt, done, unlessOver, factoringFrom, factoring}
+use Rattle.factoring.specs.Outcome.{Outcome, done, unlessOver, factoringFrom, factoring}
 use Rattle.factor_calls.specs.Lengths.{lentLengths, lentOutcome}
 use Rattle.factor_calls.specs.Calls.{refusal, unlessRefused, factorCallOf}
 use Rattle.factor_calls.specs.declared.Lent.{Lent}

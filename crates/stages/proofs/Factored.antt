@@ -8,8 +8,7 @@ use lib.Seq.{length-take-le}
 use Rattle.lists.specs.Filled.{zeros}
 use Rattle.residue.proofs.Primes.{modulus-prime}
 use Rattle.sparse.specs.Matrix.{Compressed, compressed}
-use Rattle.sparse.specs.Set.{Set, setOf}
-use Rattle.elimination.specs.Factoring.{factor}
+use Rattle.sparse.specs.Set.{setOf}
 use Rattle.plan_text.specs.Call.{ReadAnswer, callOf, Gives}
 use Rattle.plan_text.specs.declared.Reading.{Reading}
 use Rattle.call_tests.specs.Limits.{largestEntries}
@@ -23,7 +22,7 @@ use Rattle.factor_calls.proofs.Ready.{Kept}
 use Rattle.lists.specs.declared.Outcome.the-variants.{Passed}
 use Rattle.factor_calls.specs.Calls.{factorCallOf}
 use Rattle.stages.specs.declared.Stages.{Stages}
-use Rattle.stages.specs.Stages.{reading, heldPlan, planOf, lentFor, factoredOf, setIn}
+use Rattle.stages.specs.Stages.{reading, heldPlan, lentFor, factoredOf, setIn}
 use Rattle.stages.specs.Lists.{SetLists, StageLists, Held, Lendable}
 use Rattle.stages.specs.Staged.{Fits, heldSet, Factors, Staged}
 use Rattle.stages.proofs.Lists.{filled-fits, filled-cell, cut-cell, cut-cut}

@@ -1,15 +1,14 @@
 -- What a reading says it left in the lists is there.
 use mathlib.Core.Path.{_≡_, refl, sym, subst}
 use mathlib.Core.List.{List}
-use Prim.Native.Nat.{ℕ, _+_, _≤_}
+use Prim.Native.Nat.{ℕ, _≤_}
 use native.Mathlib.Omega.{arith}
 use lib.ListN.{length}
-use Rattle.plan_text.specs.Limits.{startsLength}
 use Rattle.plan_text.specs.Reading.{Entry, ReadResult, refused, accepted, kept, readOf}
 use Rattle.plan_text.specs.Call.{ReadAnswer, answerOf, callOf, Gives}
 use Rattle.plan_text.specs.declared.Reading.{Reading}
 use Rattle.plan_text.proofs.Accepted.{accepted-states}
-use Rattle.sparse.specs.Matrix.{Compressed, compressed}
+use Rattle.sparse.specs.Matrix.{Compressed}
 use Rattle.call_tests.specs.Limits.{largestSize, largestEntries}
 use Rattle.stages.specs.Stages.{reading, heldPlan, planOf}
 use Rattle.stages.specs.Lists.{Largest, Held}

@@ -5,7 +5,7 @@
 --   entry-limit          a text within its length cannot pass the entry limit
 --   moduli               a modulus is accepted exactly if it is a prime that is not above the largest
 use Prim.Native.Nat.{ℕ, _≤_}
-use mathlib.Core.Path.{_≡_, sym, ap, subst, _∙_}
+use mathlib.Core.Path.{_≡_, sym, ap, _∙_}
 use mathlib.Core.Logic.{_↔_}
 use mathlib.Core.Bool.{true}
 use mathlib.Core.List.{List}
@@ -14,8 +14,8 @@ use lib.ListN.{length}
 use Rattle.algebra.specs.Prime.{Prime}
 use Rattle.residue.specs.Range.{isModulus, largestModulus}
 use Rattle.residue.proofs.Primes.{modulus-prime, modulus-range, prime-modulus}
-use Rattle.plan_text.specs.Reading.{Entry, ReadResult, accepted, kept, readOf}
-use Rattle.plan_text.specs.Stating.{States, planText, entriesOf}
+use Rattle.plan_text.specs.Reading.{Entry, accepted, kept, readOf}
+use Rattle.plan_text.specs.Stating.{States}
 use Rattle.plan_text.specs.Call.{callOf}
 use Rattle.plan_text.specs.declared.judge.Sizes.{Sizes}
 use Rattle.plan_text.proofs.Accepted.{accepted-states}

@@ -12,7 +12,7 @@ use lib.ListN.{length}
 use borrow.Author.Tests.{eq-eqb, eqb-true}
 use Rattle.lists.specs.Refusals.{_▷_, unless}
 use Rattle.lists.specs.declared.Outcome.{Outcome}
-use Rattle.lists.specs.declared.Outcome.the-variants.{Passed, Refused}
+use Rattle.lists.specs.declared.Outcome.the-variants.{Passed}
 use Rattle.lists.proofs.Bools.{and-left, and-both}
 use Rattle.lists.proofs.Refusals.{both-passed}
 use Rattle.residue.proofs.Primes.{modulus-prime}

@@ -1,5 +1,4 @@
 // The row of L of a row of the matrix.
-ghost use mathlib.Core.Path.{_≡_};
 ghost use lib.ListN.{length};
 ghost use Rattle.algebra.specs.Matrix.{vector};
 ghost use Rattle.algebra.specs.Reduction.{reduced};

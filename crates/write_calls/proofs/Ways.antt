@@ -2,12 +2,12 @@
 use mathlib.Core.Path.{_≡_, refl, sym, ap, _∙_}
 use mathlib.Core.Bool.{Bool, true, false, cond}
 use mathlib.Core.List.{List, [], _∷_}
-use Prim.Native.Nat.{ℕ, _^_, _<_}
+use Prim.Native.Nat.{ℕ, _^_}
 use native.Mathlib.Omega.{arith}
 use lib.Dec.{leb}
 use lib.ListN.{length}
 use Rattle.lists.specs.Filled.{zeros, filled}
-use Rattle.lists.specs.Refusals.{_▷_, unless}
+use Rattle.lists.specs.Refusals.{unless}
 use Rattle.lists.specs.declared.Outcome.{Outcome}
 use Rattle.lists.specs.declared.Outcome.the-variants.{Passed, Refused}
 use Rattle.lists.proofs.Filled.{filled-none}
@@ -23,7 +23,7 @@ use Rattle.certificate.specs.Writing.{roomFor, written, Writes, Writable}
 use Rattle.certificate.proofs.Rooms.{written-refused, written-passed}
 use Rattle.certificate.proofs.Counts.{entries-below}
 use Rattle.check_calls.specs.Calls.{factorsOutcome, checkFactorsOf}
-use Rattle.check_calls.proofs.Tested.{GoodPlan, factors-good, prime-positive}
+use Rattle.check_calls.proofs.Tested.{factors-good, prime-positive}
 use Rattle.write_calls.specs.Call.{writeOutcome, kept, WritesCertificate}
 use Rattle.write_calls.specs.declared.Written.{Written}
 

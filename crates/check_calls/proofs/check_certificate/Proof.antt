@@ -1,20 +1,16 @@
 -- `check_certificate` meets its contract. Assumes nothing.
-use mathlib.Core.Path.{_≡_, refl, sym, ap, _∙_}
+use mathlib.Core.Path.{_≡_, sym, ap, _∙_}
 use mathlib.Core.Bool.{true}
-use borrow.Author.Tests.{not-true, not-false}
 use Rattle.sparse.specs.Words.{view}
 use Rattle.sparse.specs.Matrix.{Compressed, compressed, viewed}
-use mathlib.Core.List.{List, []}
-use Prim.Native.Nat.{ℕ, _≤_, _<_}
+use mathlib.Core.List.{[]}
 use native.Mathlib.Omega.{arith}
 use lib.ListN.{length}
 use Rattle.lists.specs.Filled.{zeros}
-use Rattle.lists.specs.declared.Outcome.{Outcome}
 use Rattle.lists.proofs.Refusals.{refused, passed}
 use Rattle.lists.proofs.Filled.{length-zeros}
-use Rattle.sparse.specs.Set.{Set, setOf}
+use Rattle.sparse.specs.Set.{setOf}
 use Rattle.pluq.specs.Judge.{judge}
-use Rattle.checker.specs.Needs.{Checkable}
 use Rattle.certificate.specs.Reading.{headerOk, setOfCertificate}
 use Rattle.certificate.proofs.Passed.{headed, passed-sized}
 use Rattle.certificate.proofs.Views.{header-fits, set-of-parts, part}

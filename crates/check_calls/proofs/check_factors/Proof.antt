@@ -1,13 +1,8 @@
 -- `check_factors` meets its contract. Assumes nothing.
-use mathlib.Core.Path.{_≡_, refl, sym, ap, _∙_}
-use mathlib.Core.Bool.{true}
-use borrow.Author.Tests.{not-true, not-false}
+use mathlib.Core.Path.{_≡_, sym, ap, _∙_}
 use Rattle.sparse.specs.Matrix.{Compressed, compressed}
-use mathlib.Core.List.{List}
-use Prim.Native.Nat.{ℕ}
 use lib.ListN.{length}
 use Rattle.lists.specs.Filled.{zeros}
-use Rattle.lists.specs.declared.Outcome.{Outcome}
 use Rattle.lists.proofs.Refusals.{refused, passed}
 use Rattle.lists.proofs.Filled.{length-zeros}
 use Rattle.sparse.specs.Set.{Set, setOf}

@@ -1,10 +1,7 @@
 -- `factor` meets its contract: everything lent is cleared, so that a refusal has nothing left to do. Assumes nothing.
-use mathlib.Core.Path.{_≡_, refl, sym, ap, _∙_, subst}
-use Prim.Native.Nat.{ℕ}
-use lib.ListN.{length}
+use mathlib.Core.Path.{_≡_, sym, ap, _∙_}
 use Rattle.lists.specs.declared.Outcome.the-variants.{Passed}
 use Rattle.sparse.specs.Matrix.{Compressed, compressed}
-use Rattle.factoring.specs.Outcome.{factoring, Leaves}
 use Rattle.factor_calls.specs.Lengths.{lentOf, lentOutcome}
 use Rattle.factor_calls.specs.declared.Lent.{Lent}
 use Rattle.factor_calls.proofs.Ready.{kept-same, ready, call-refused, call-done}

@@ -1,5 +1,4 @@
 -- `lent_lengths` meets its contract. Assumes nothing.
-use mathlib.Core.Path.{sym, _∙_}
 use Rattle.factor_calls.proofs.LentLists.{rows-differ, columns-differ, lstarts-differ, lower-differs, ustarts-differ, upper-differs, upper-agrees}
 use borrow.Author.Needs.{needs}
 use Rattle.factor_calls.proofs.lent_lengths.Statement.{statement}

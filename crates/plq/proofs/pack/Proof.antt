@@ -1,6 +1,5 @@
 -- `pack` meets its contract. Assumes nothing.
-use mathlib.Core.Path.{_≡_, sym, ap}
-use Rattle.lists.specs.declared.Outcome.{Outcome}
+use mathlib.Core.Path.{sym, ap}
 use Rattle.plq.specs.Calls.{packed}
 use borrow.Author.Needs.{needs}
 use Rattle.plq.proofs.pack.Statement.{statement}

@@ -1,5 +1,5 @@
 -- `plq_check_certificate` meets its contract. Assumes nothing.
-use mathlib.Core.Path.{_≡_, ap, _∙_}
+use mathlib.Core.Path.{ap, _∙_}
 use Rattle.plq.specs.Calls.{packed}
 use borrow.Author.Needs.{needs}
 use Rattle.plq.proofs.plq_check_certificate.Statement.{statement}

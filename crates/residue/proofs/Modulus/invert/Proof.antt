@@ -1,8 +1,8 @@
 -- `Modulus::invert` meets its contract. The loop's invariant: t * a = x modulo p, and x is neither 0 nor p or more. The measure is x. Assumes nothing.
-use Prim.Native.Nat.{ℕ, _*_, _%_, _/_, _<_}
-use mathlib.Core.Path.{_≡_, ap, sym, _∙_}
+use Prim.Native.Nat.{ℕ, _*_, _<_}
+use mathlib.Core.Path.{sym}
 use borrow.Author.Needs.{needs}
-use native.Mathlib.Nat.{mod-lt, mod-eq-of-lt, one-mul, div-lt-self, mul-comm}
+use native.Mathlib.Nat.{mod-lt, one-mul, div-lt-self, mul-comm}
 use native.Mathlib.Omega.{arith}
 use Rattle.algebra.specs.Congruence.{_≈⟨_⟩_}
 use Rattle.algebra.proofs.Congruence.{exact, _⊙_}

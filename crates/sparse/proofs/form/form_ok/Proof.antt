@@ -1,6 +1,6 @@
 -- `form_ok` meets its contract. Assumes nothing.
 use Prim.Native.Nat.{ℕ}
-use mathlib.Core.Path.{_≡_, refl, sym, _∙_, ap}
+use mathlib.Core.Path.{_≡_, sym, _∙_, ap}
 use lib.ListN.{length}
 use borrow.Author.Tests.{ne-eqb, eq-eqb, not-false}
 use Rattle.sparse.specs.Words.{view}

@@ -1,8 +1,8 @@
 -- `starts_from` meets its contract. Assumes nothing.
-use Prim.Native.Nat.{ℕ, _≤_, _<_, _-_, _^_}
+use Prim.Native.Nat.{_≤_, _<_, _-_, _^_}
 use mathlib.Core.Path.{_≡_, refl, sym, _∙_}
 use native.Mathlib.Omega.{arith}
-use lib.ListN.{length, drop}
+use lib.ListN.{drop}
 use Rattle.sparse.specs.Words.{view}
 use Rattle.sparse.specs.Form.{startsFrom}
 use Rattle.sparse.proofs.Forms.{starts-falls, starts-on, starts-end}

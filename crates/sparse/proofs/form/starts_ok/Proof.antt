@@ -1,5 +1,5 @@
 -- `starts_ok` meets its contract. Assumes nothing.
-use mathlib.Core.Path.{_≡_, refl, sym, _∙_}
+use mathlib.Core.Path.{sym, _∙_}
 use native.Mathlib.Omega.{arith}
 use Rattle.sparse.specs.Words.{view}
 use Rattle.sparse.proofs.Forms.{starts-none, starts-first, starts-rest}

@@ -1,9 +1,9 @@
 -- `values_ok` meets its contract. Assumes nothing.
-use Prim.Native.Nat.{ℕ, _≤_, _<_, _-_}
+use Prim.Native.Nat.{_≤_, _-_}
 use mathlib.Core.Path.{_≡_, refl, sym, _∙_}
 use native.Mathlib.Omega.{arith}
 use borrow.Author.Needs.{needs}
-use lib.ListN.{length, drop}
+use lib.ListN.{drop}
 use Rattle.sparse.specs.Words.{view}
 use Rattle.sparse.specs.Form.{values}
 use Rattle.sparse.proofs.Forms.{values-zero, values-high, values-on, values-end}

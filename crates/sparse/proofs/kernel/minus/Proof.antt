@@ -1,5 +1,5 @@
 -- `minus` meets its contract, by the law of each arm. Assumes nothing.
-use Prim.Native.Nat.{_*_, _<_}
+use Prim.Native.Nat.{_*_}
 use native.Mathlib.Omega.{arith}
 use borrow.Author.Needs.{needs}
 use Rattle.sparse.proofs.Subtraction.{product-below, cell-less, cell-wraps}

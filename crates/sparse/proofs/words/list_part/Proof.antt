@@ -1,5 +1,4 @@
 -- `list_part` meets its contract. Assumes nothing.
-use mathlib.Core.Path.{_≡_}
 use Prim.Native.Nat.{_-_}
 use lib.ListN.{take, drop}
 use borrow.Author.Needs.{needs}
