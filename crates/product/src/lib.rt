@@ -22,13 +22,16 @@ use sparse::words::count;
 use sparse::words::list_part;
 use sparse::words::word;
 
-// Whether all cells so far stood for 0, and this one does.
+// Whether all cells so far stood for 0, and this one does. Most cells are 0: those are not divided.
 fn still_zero(q: Modulus, zero: bool, x: u64) -> bool
     requires { ⌜ 0 < q .p ⌝ }
     ensures { λ r. ⌜ r ≡ (zero && eqb (x % q .p) 0) ⌝ }
 {
     if !zero {
         return false;
+    }
+    if x == 0 {
+        return true;
     }
     q.reduce(x) == 0
 }
