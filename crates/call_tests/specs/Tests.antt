@@ -2,6 +2,7 @@
 --   pairedLengths xs ys       two lists are as long as each other
 --   planLengths n A           a plan's lists have their lengths: n + 1 starts, as many values as columns
 --   setLengths n m s          a set's lists have theirs: n cells of R, m of C, n + 1 starts of L, r + 1 starts of U, values as columns
+--   limitsOk n m A            n, m and the number of entries are within their limits
 --   planOutcome p n m A       1 where p is no modulus that is accepted, 2 where a limit is passed, 8 where the form is broken
 --   callOutcome ..            9 where a length is wrong, then the plan
 use Prim.Native.Nat.{ℕ, _+_}

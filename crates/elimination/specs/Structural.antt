@@ -1,8 +1,10 @@
 -- Pivot rule 1: the structural pivots of a stored matrix, found without arithmetic (Faugère and Lachartre).
 --   size A i              how many entries row i has
 --   leads A i c           row i is not empty, and its leftmost column is c
+--   prefer A i b          row i against b, the choice so far: the one with fewer entries, b where they have as many
 --   chosen A c n          of the rows below n that lead at c the one with fewest entries, of these the lowest-numbered
 --   Pair                  a row and the column at which it is a pivot row
+--   paired c b            the pair of column c and the row chosen for it, if there is one
 --   structural A n m      the chosen rows with their columns, by rising column
 use Prim.Native.Nat.{ℕ, zero, suc, _+_, _-_}
 use mathlib.Core.Bool.{Bool, cond, _&&_}

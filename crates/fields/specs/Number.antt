@@ -1,5 +1,6 @@
 -- The number that a field says. Bytes: 48 is `0`, 57 is `9`, 45 is `-`.
 --   digitsFrom v l    the number of v's digits followed by the digits l
+--   zeroAlone l       0 where nothing follows the digit `0`, else no number
 --   numberOf l        the number without sign: one to ten digits, no zero before others
 --   positive n        a number as one with a plus (which is not written)
 --   negative n        a number as one with a minus: none before 0

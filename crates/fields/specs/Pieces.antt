@@ -1,6 +1,7 @@
 -- A text cut at a separator byte.
 --   Pieces            the pieces: `more l t` is a piece l that a separator ends, then the rest t; `last l` follows the last separator
 --   pieces s text     the pieces of a text cut at each byte s
+--   prepend b t       the pieces t with the byte b before the first
 --   firstPiece t      the first of them
 --   joined s t        the text of the pieces: their bytes, with the separator s between them
 use Prim.Native.Nat.{ℕ}

@@ -5,6 +5,8 @@
 --   answerOf room o     the answer for a text that is read as o
 --   callOf text a b c   the answer for lists of the lengths a, b and c: 9 where one is wrong
 --   Gives x r ..        the result and the lists are what the answer x says
+--   Cleared             the lists have their lengths and are all zero
+--   Limits              a place in a text that is not too long, and sizes within their limits
 --   Begins, Shows       what reading the triples starts from, and what it returns and leaves
 --   Second              what reading the second line starts from
 --   afterOpen, Bounded  what the first two lines lead to, and the limits that sizes which were read keep

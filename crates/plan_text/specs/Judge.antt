@@ -2,6 +2,8 @@
 --   inRange v             v lies from -2,147,483,648 to 2,147,483,647
 --   residueAt p v         v modulo p
 --   isLast i j v          the line is `0 0 0`
+--   isZero v              v is `0`
+--   entryIf u i j v       the entry, or 7 where u says that the storage is used up and v is to be stored
 --   within i n            i lies from 1 to n
 --   before a b i j        a and b stand before i and j: by row, then by column
 --   mayStand a b l        the line l may stand after the one at a and b

@@ -3,6 +3,10 @@
 --   fieldsOf t       the fields that the pieces t of a line make
 --   lineOf l         the line `i j v`
 --   headerOf l       the second line, `n m M`
+--   withSigned, lineWith, lineIn   the line `i j v` from the numbers that its fields are
+--   isM, headerWith, headerIn      the line `n m M` from the numbers and the letter that its fields are
+--   fieldsAt l r     the fields of l where r says that its spaces stand
+--   Inside l r       these places are in the line, one after the other
 --   Cut l r          r says where the two spaces of the line l stand, and that cuts it into its fields
 use Prim.Native.Nat.{ℕ, _+_, _-_, _<_}
 use mathlib.Core.Path.{_≡_}

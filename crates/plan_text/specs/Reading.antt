@@ -1,8 +1,12 @@
 -- The reading of a whole plan text. 10 is the byte of the line feed.
 --   Entry              a triple of the text: row and column count from 1, the value is a residue
 --   kept seen          what is stored of the triples seen, in the text's order: those whose value is not 0
+--   lastRow, lastColumn   where the latest triple seen stands, 0 and 0 before the first
+--   verdictOn          the verdict on a line after the triples seen
 --   ReadResult         a refusal with its detail, or the sizes and the triples of an accepted text
 --   triples            the lines from the third one on
+--   ending, onward     what follows the last line, and what the verdict on a line leads to
+--   fromFirst, withModulus, fromSecond, withSizes   the first line, its modulus, the second line, its sizes
 --   readOf room text   a text read into lists with room for so many entries
 -- Lists of triples seen have the latest first.
 use Prim.Native.Nat.{ℕ, _+_}

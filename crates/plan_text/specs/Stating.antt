@@ -2,10 +2,13 @@
 --   StatedEntry          a triple as it is stated: row and column from 1, the value with its sign
 --   integerOf v          the integer that v is
 --   tripleText t         the line `i j v`
+--   tripleLines ts       the lines of the triples, then the last line
+--   lastLine             `0 0 0`
 --   sizesText s          the line `n m M`
 --   planText s ts        the text of the plan with the sizes s and the triples ts
 --   Follows s a b t      t stands in the plan and after the triple at a and b, and its value is in range
 --   Rising s a b ts      each of the triples ts follows the one before, the first the one at a and b
+--   entryOf p t          the triple with its value modulo p
 --   entriesOf p ts       the triples with their values modulo p, the latest first
 --   Plan room s ts       a plan within the limits that lists with room for so many entries can hold
 --   States room s text out   the text states a plan with the sizes s whose entries are `out`

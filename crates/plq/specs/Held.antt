@@ -3,6 +3,7 @@
 --   writtenOf s ..          writing it into a buffer with so much room
 --   stagedOutcome s ..      what comes of any stages: the first refusal, or the above
 --   Puts o cert r b₀ b      the outcome r is o, and the buffer holds the certificate, zero past its end; all zero where o is a refusal
+--   StagedFits s ..         what stands in the lists fits them, where there is anything
 use Prim.Native.Nat.{ℕ}
 use mathlib.Core.Path.{_≡_}
 use mathlib.Core.List.{List}
@@ -34,6 +35,5 @@ pub record Puts (o : Outcome) (cert : List ℕ) (r : Outcome) (b₀ b : List ℕ
   pub outcome : r ≡ o
   pub buffer : b ≡ filled (length b₀) (kept o cert)
 
--- what stands in the lists fits them, where there is anything
 pub record StagedFits (s : Stages) (A : Compressed) (R C : List ℕ) (L U : Compressed) : Type 0 where
   pub fits : s .reading .number ≡ 0 → Fits s A R C L U

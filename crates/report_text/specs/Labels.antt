@@ -1,5 +1,6 @@
 -- The fixed parts of the printed lines, as bytes.
---   modulusLabel ..     what stands before each number, with its spaces
+--   modulusLabel, slotsLabel, wordsLabel, entriesLabel, rankLabel, structuralLabel, lowerLabel, upperLabel, openLabel, refusedLabel, atLabel
+--                       what stands before each number, with its spaces
 --   openWord, closedWord    the two verdicts
 --   space, lineFeed     what stands before each value, and at the end of each line
 use Prim.Native.Nat.{ℕ}

@@ -3,6 +3,7 @@
 --   coefficients p s y     the multiples of U's rows that were taken away, in order
 --   lowest p m s y         the lowest-numbered column at which the remainder is not 0; m where there is none
 --   Solved                 the verdict, x and z
+--   opened m x             open with x: z is all zero
 --   solve p n m s y        open: x by substitution through L, placed at the pivot rows; closed: z by substitution through U
 --   isOpen                 true for open, false for closed
 --   openColumns p m s      a cell for each column: 1 where its unit question is open, 0 where it is closed (document 01's open words)

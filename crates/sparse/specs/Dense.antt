@@ -2,6 +2,7 @@
 --   columnsFrom j row     the columns, counted from j, at which a dense row is not 0
 --   nonzeros row          the values that are not 0, in order
 --   startsAfter at rows   the row starts after one that is `at`
+--   allColumns, allValues the columns and the values of all rows, one row after another
 --   compress rows         the stored form of a list of dense rows
 --   scaled p c w          the residues that the cells of a working row stand for, each times c
 use Prim.Native.Nat.{ℕ, zero, suc, _+_, _*_, _%_}

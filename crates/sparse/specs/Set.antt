@@ -1,5 +1,6 @@
 -- A set of factors as it is stored (document 01's set).
 --   Set    the rank r, the row order R, the column order C, and L and U by compressed rows
+--   setOf  the set of these five
 use Prim.Native.Nat.{ℕ}
 use mathlib.Core.List.{List}
 use Rattle.sparse.specs.Matrix.{Compressed}
