@@ -1,8 +1,8 @@
 // Document 01's plan D: in little room, and with one thing changed, so that factoring refuses it.
-use crate::change;
-use crate::change::Change;
-use crate::run::run;
 use case_text::number;
+use factoring_runs::change;
+use factoring_runs::change::Change;
+use factoring_runs::run::run;
 
 fn plan_d(name: &[u8], l: u32, u: u32, change: Change) {
     run(

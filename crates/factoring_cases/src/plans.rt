@@ -1,6 +1,6 @@
 // Plans that are factored with room to spare.
-use crate::change;
-use crate::run::run;
+use factoring_runs::change;
+use factoring_runs::run::run;
 
 fn show(name: &[u8], text: &[u8]) {
     run(name, text, 16, 16, change::none());

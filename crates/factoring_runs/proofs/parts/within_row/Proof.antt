@@ -1,8 +1,8 @@
 -- `within_row` meets its contract. Assumes nothing.
 use borrow.Author.Needs.{needs}
-use Rattle.factoring_cases.proofs.Counted.{counts}
-use Rattle.factoring_cases.proofs.parts.within_row.Statement.{statement}
-use Rattle.factoring_cases.proofs.parts.within_row.Tie as tie
+use Rattle.factoring_runs.proofs.Counted.{counts}
+use Rattle.factoring_runs.proofs.parts.within_row.Statement.{statement}
+use Rattle.factoring_runs.proofs.parts.within_row.Tie as tie
 
 index-requires : tie.Need-index-requires
 index-requires c κs = search needs

@@ -1,8 +1,8 @@
 -- `within` meets its contract. Assumes nothing.
 use borrow.Author.Needs.{needs}
-use Rattle.factoring_cases.proofs.Counted.{counts}
-use Rattle.factoring_cases.proofs.parts.within.Statement.{statement}
-use Rattle.factoring_cases.proofs.parts.within.Tie as tie
+use Rattle.factoring_runs.proofs.Counted.{counts}
+use Rattle.factoring_runs.proofs.parts.within.Statement.{statement}
+use Rattle.factoring_runs.proofs.parts.within.Tie as tie
 
 index-requires : tie.Need-index-requires
 index-requires c κs = search needs
