@@ -21,7 +21,7 @@ use Rattle.report_text.specs.Report.{refusalText}
 use Rattle.report_text.specs.Printed.{detailFromOne, countedFromOne, printed}
 use Rattle.report_text.proofs.Room.{refusal-room}
 use Rattle.stages.specs.Stages.{reading, readOutcome, factoredOf, factorOutcome}
-use Rattle.stages.specs.Staged.{Factors, Staged}
+use Rattle.stages.specs.Staged.{FactorsHeld, Staged}
 use Rattle.stages.specs.declared.Stages.{Stages}
 use Rattle.asking.specs.Asking.{answerFor, givenLine, askReadOf, askOf, Asks}
 use Rattle.asking.specs.Held.{heldAnswer, Answerable, Prints, stagedLine, StagedReady, InLists}
@@ -79,7 +79,7 @@ module _ (text y : List ℕ) (s : Stages) (A : Compressed) (R C : List ℕ) (L U
   ofText = givenLine (answerFor r f y)
 
   module _ (done : s .reading .number ≡ 0) where
-    factors : Factors r s A R C L U
+    factors : FactorsHeld r s A R C L U
     factors = h .factors done
 
     same-answer : s .factored .number ≡ 0 → givenLine (heldAnswer s A R C L U y) ≡ ofText

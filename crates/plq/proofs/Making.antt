@@ -20,7 +20,7 @@ use Rattle.write_calls.specs.Call.{writeOutcome, kept}
 use Rattle.factoring.specs.Outcome as factoring
 use Rattle.stages.specs.declared.Stages.{Stages}
 use Rattle.stages.specs.Stages.{reading, planOf, readOutcome, factoredOf, factorOutcome, setIn}
-use Rattle.stages.specs.Staged.{Factors, Staged}
+use Rattle.stages.specs.Staged.{FactorsHeld, Staged}
 use Rattle.plq.specs.Calls.{packed, makeReadOf, makeTextOf, certificateFor, Makes}
 use Rattle.plq.specs.Held.{heldCertificate, writtenOf, stagedOutcome, Puts, StagedFits}
 
@@ -85,7 +85,7 @@ module _ (text : List ℕ) (s : Stages) (A : Compressed) (R C : List ℕ) (L U :
     abbrev writing : Outcome
     writing = writeOutcome (x .result .p) (x .result .n) (x .result .m) (planOf x) (setIn f) workLength (length b₀)
 
-    held : Factors x s A R C L U → s .factored .number ≡ 0 → Same (writtenOf s A R C L U (length w) (length b₀)) writing (heldCertificate s R C L U) (certificateFor x)
+    held : FactorsHeld x s A R C L U → s .factored .number ≡ 0 → Same (writtenOf s A R C L U (length w) (length b₀)) writing (heldCertificate s R C L U) (certificateFor x)
     unfolding certificateFor
     held g q =
         let o : writtenOf s A R C L U (length w) (length b₀) ≡ writing =
@@ -93,7 +93,7 @@ module _ (text : List ℕ) (s : Stages) (A : Compressed) (R C : List ℕ) (L U :
         let c : heldCertificate s R C L U ≡ certificateFor x = λ t. certificateOf (h .reading-is t .p) (h .reading-is t .n) (h .reading-is t .m) (g .set-is q t) in
         record { outcome = o; kept-same = λ t. kept (o t) (c t) }
 
-    factored : Factors x s A R C L U
+    factored : FactorsHeld x s A R C L U
         → Same (unless (eqb (s .factored .number) 0) (s .factored .number) (s .factored .detail) ▷ writtenOf s A R C L U (length w) (length b₀)) (factorOutcome f ▷ writing) (heldCertificate s R C L U) (certificateFor x)
     factored g =
         let e = after (eqb (s .factored .number) 0) (s .factored .number) (s .factored .detail) (writtenOf s A R C L U (length w) (length b₀)) writing (heldCertificate s R C L U) (certificateFor x)

@@ -19,7 +19,7 @@ use Rattle.report_text.specs.Report.{reportText}
 use Rattle.report_text.specs.Printed.{countedFromOne, printed}
 use Rattle.stages.specs.declared.Stages.{Stages}
 use Rattle.stages.specs.Stages.{reading, readOutcome, factoredOf, factorOutcome}
-use Rattle.stages.specs.Staged.{Factors, Staged}
+use Rattle.stages.specs.Staged.{FactorsHeld, Staged}
 use Rattle.reporting.specs.Held.{heldSummary, heldList, heldText, stagedText, StagedReady, Prints}
 use Rattle.reporting.specs.Reporting.{summaryOf, openListOf, reportReadOf, reportOf, ReportLists, Reports}
 
@@ -40,7 +40,7 @@ module _ (x : ReadAnswer) (s : Stages) (A : Compressed) (R C : List ℕ) (L U : 
   abbrev after-reading : List ℕ
   after-reading = printed (countedFromOne storageTooShort (factorOutcome (factoredOf x))) after-factoring
 
-  module _ (h : Factors x s A R C L U) where
+  module _ (h : FactorsHeld x s A R C L U) where
     summary-is : heldSummary s ≡ summaryOf x (factoredOf x)
     summary-is t =
         record {
@@ -67,7 +67,7 @@ module _ (x : ReadAnswer) (s : Stages) (A : Compressed) (R C : List ℕ) (L U : 
         (λ e. held-is (eqb-true (s .factored .number) 0 e))
         ∙ (λ t. printed (countedFromOne storageTooShort (unless (eqb (h .number-is t) 0) (h .number-is t) (h .detail-is t))) after-factoring)
 
-  staged-is : (s .reading .number ≡ 0 → Factors x s A R C L U) → stagedText s A R C L U ≡ reportReadOf x
+  staged-is : (s .reading .number ≡ 0 → FactorsHeld x s A R C L U) → stagedText s A R C L U ≡ reportReadOf x
   unfolding stagedText reportReadOf
   staged-is factors =
       after-test (eqb (s .reading .number) 0) (s .reading .number) (s .reading .detail) _ after-reading

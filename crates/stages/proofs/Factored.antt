@@ -24,7 +24,7 @@ use Rattle.factor_calls.specs.Calls.{factorCallOf}
 use Rattle.stages.specs.declared.Stages.{Stages}
 use Rattle.stages.specs.Stages.{reading, heldPlan, lentFor, factoredOf, setIn}
 use Rattle.stages.specs.Lists.{SetLists, StageLists, Held, Lendable}
-use Rattle.stages.specs.Staged.{Fits, heldSet, Factors, Staged}
+use Rattle.stages.specs.Staged.{Fits, heldSet, FactorsHeld, Staged}
 use Rattle.stages.proofs.Lists.{filled-fits, filled-cell, cut-cell, cut-cut}
 use Rattle.stages.proofs.Holding.{Small, as-reading, small, held, answer-is}
 use Rattle.stages.proofs.Counts.{Counted, good, counted, call-passed, call-factoring}
@@ -133,7 +133,7 @@ module _ (r : Reading) (A : Compressed) (f : Factored) (R C : List ℕ) (L U : C
   abbrev answered : ReadAnswer
   answered = record { result = r; starts = A .starts; columns = A .cols; values = A .vals }
 
-  factors : Factors answered result A R C L U
+  factors : FactorsHeld answered result A R C L U
   unfolding factoredOf
   factors =
       record {
@@ -154,7 +154,7 @@ module _ (r : Reading) (A : Compressed) (f : Factored) (R C : List ℕ) (L U : C
   of-text text w₀ e g =
       record {
         reading-is = g .result-is;
-        factors = λ z. subst (λ (x : ReadAnswer). Factors x result A R C L U) (answer-is text r A g) factors;
+        factors = λ z. subst (λ (x : ReadAnswer). FactorsHeld x result A R C L U) (answer-is text r A g) factors;
         cleared = h .work ∙ ap zeros e;
       }
 

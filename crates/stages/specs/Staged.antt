@@ -1,7 +1,7 @@
 -- What the stages leave.
 --   Fits s ..             the lists are at least as long as what stands in them
 --   heldSet s ..          the set that stands in the lists
---   Factors x s ..        after a reading x that was done: the plan and the numbers of its factoring, and where that was done too, the set
+--   FactorsHeld x s ..    after a reading x that was done: the plan and the numbers of its factoring, and where that was done too, the set
 --   Staged text s ..      the contract: the reading, what stands in the lists after it, and the working row left all zero
 use Prim.Native.Nat.{ℕ, _+_, _≤_}
 use mathlib.Core.Path.{_≡_}
@@ -33,7 +33,7 @@ heldSet s R C L U =
     (compressed (take (s .reading .n + 1) (L .starts)) (take (s .lower) (L .cols)) (take (s .lower) (L .vals)))
     (compressed (take (s .factored .rank + 1) (U .starts)) (take (s .upper) (U .cols)) (take (s .upper) (U .vals)))
 
-pub record Factors (x : ReadAnswer) (s : Stages) (A : Compressed) (R C : List ℕ) (L U : Compressed) : Type 0 where
+pub record FactorsHeld (x : ReadAnswer) (s : Stages) (A : Compressed) (R C : List ℕ) (L U : Compressed) : Type 0 where
   pub fits : Fits s A R C L U
   pub plan-is : heldPlan (s .reading) (A .starts) (A .cols) (A .vals) ≡ planOf x
   pub number-is : s .factored .number ≡ factoredOf x .number
@@ -47,5 +47,5 @@ pub record Factors (x : ReadAnswer) (s : Stages) (A : Compressed) (R C : List �
 
 pub record Staged (text : List ℕ) (s : Stages) (A : Compressed) (R C : List ℕ) (L U : Compressed) (w₀ w : List ℕ) : Type 0 where
   pub reading-is : s .reading ≡ reading text .result
-  pub factors : s .reading .number ≡ 0 → Factors (reading text) s A R C L U
+  pub factors : s .reading .number ≡ 0 → FactorsHeld (reading text) s A R C L U
   pub cleared : w ≡ zeros (length w₀)
