@@ -5,7 +5,7 @@ ghost use Rattle.residue.specs.Arithmetic.{Residues};
 ghost use Rattle.sparse.specs.Words.{view};
 ghost use Rattle.sparse.specs.Row.{entry};
 ghost use Rattle.sparse.specs.Matrix.{viewed, matrix};
-ghost use Rattle.sparse.specs.WorkingRow.{Cell, Subtracted, RowReady, MatrixReady};
+ghost use Rattle.sparse.specs.WorkingRow.{Lessened, Subtracted, RowReady, MatrixReady};
 use crate::words::bytes_part;
 use crate::words::count;
 use crate::words::list_part;
@@ -23,7 +23,7 @@ fn product(a: u32, b: u32) -> u64
 // The cell x less c v: below p * p, so that it is never reduced here.
 fn minus(q: Modulus, x: u64, c: u32, v: u32) -> u64
     requires { ⌜ (x < q .p * q .p) × Residues (q .p) c v ⌝ }
-    ensures { λ r. ⌜ Cell (q .p) (c * v) x r ⌝ }
+    ensures { λ r. ⌜ Lessened (q .p) (c * v) x r ⌝ }
 {
     let square = product(q.p, q.p);
     let u = product(c, v);
