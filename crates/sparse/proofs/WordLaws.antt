@@ -1,6 +1,6 @@
 -- Laws of the 32-bit numbers that bytes hold.
 use mathlib.Core.Path.{_≡_, refl, sym, ap, _∙_}
-use mathlib.Core.List.{List, [], _∷_, _++_}
+use mathlib.Core.List.{List, [], _∷_, _++_, append-nil}
 use Prim.Native.Nat.{ℕ, zero, suc, _+_, _*_, _-_, _/_, _≤_, _<_}
 use native.Mathlib.Omega.{arith}
 use lib.ListN.{length, getD, length-append, List·getD-append}
@@ -33,6 +33,15 @@ getD-words (a ∷ b ∷ c ∷ d ∷ r) (suc k) h =
     getD-words r k (omega arith)
     ∙ sym (le32-ap (past a b c d r (4 * suc k) (4 * k) (omega arith)) (past a b c d r (4 * suc k + 1) (4 * k + 1) (omega arith))
     (past a b c d r (4 * suc k + 2) (4 * k + 2) (omega arith)) (past a b c d r (4 * suc k + 3) (4 * k + 3) (omega arith)))
+
+-- a stored list without bytes is the list itself
+pub view-list : (l : List ℕ) → view l [] ≡ l
+unfolding view words
+view-list l = append-nil l
+
+pub view-stored : (l b : List ℕ) → length b ≡ 0 → view l b ≡ l
+view-stored l [] e = view-list l
+view-stored l (x ∷ b) e = absurd (omega arith)
 
 pub length-view : (l b : List ℕ) → length (view l b) ≡ length l + length b / 4
 unfolding view

@@ -4,13 +4,14 @@ ghost use Prim.Native.Nat.{_*_, _<_};
 ghost use Rattle.residue.specs.Arithmetic.{Residues};
 ghost use Rattle.sparse.specs.Words.{view};
 ghost use Rattle.sparse.specs.Row.{entry};
-ghost use Rattle.sparse.specs.Matrix.{viewed, matrix};
+ghost use Rattle.sparse.specs.Matrix.{compressed, viewed, matrix};
 ghost use Rattle.sparse.specs.WorkingRow.{Lessened, Subtracted, RowReady, MatrixReady};
 use crate::words::bytes_part;
 use crate::words::count;
 use crate::words::list_part;
 use crate::words::word;
 use lists::index;
+use lists::part;
 use residue::Modulus;
 
 // a b, not reduced.
@@ -30,8 +31,21 @@ fn minus(q: Modulus, x: u64, c: u32, v: u32) -> u64
     if u <= x { x - u } else { x + (square - u) }
 }
 
-// work - c row, where the row is given by its columns and values.
-pub fn subtract(
+// work - c row, where the row is given by stored lists.
+fn subtract_list(q: Modulus, cols: &[u32], vals: &[u32], c: u32, work: &mut [u64])
+    requires { ⌜ RowReady (q .p) c (now cols) (now vals) (now work) ⌝ }
+    ensures { λ _. ⌜ Subtracted (q .p) (λ j. c * entry (now (cols .entry)) (now (vals .entry)) j) (now (work .entry)) (now (work .exit)) ⌝ }
+{
+    let mut t = 0;
+    while t < cols.len() {
+        let j = index(cols[t]);
+        work[j] = minus(q, work[j], c, vals[t]);
+        t += 1;
+    }
+}
+
+// work - c row, where the row is given by its columns and values, of which some may stand in bytes.
+fn subtract_words(
     q: Modulus,
     cols: &[u32],
     cb: &[u8],
@@ -51,6 +65,26 @@ pub fn subtract(
         work[j] = minus(q, work[j], c, v);
         t += 1;
     }
+}
+
+// The same, by the loop without bytes where there are none: it asks of no number where it stands.
+pub fn subtract(
+    q: Modulus,
+    cols: &[u32],
+    cb: &[u8],
+    vals: &[u32],
+    vb: &[u8],
+    c: u32,
+    work: &mut [u64],
+)
+    requires { ⌜ RowReady (q .p) c (view (now cols) (now cb)) (view (now vals) (now vb)) (now work) ⌝ }
+    ensures { λ _. ⌜ Subtracted (q .p) (λ j. c * entry (view (now (cols .entry)) (now (cb .entry))) (view (now (vals .entry)) (now (vb .entry))) j) (now (work .entry)) (now (work .exit)) ⌝ }
+{
+    if cb.len() + vb.len() == 0 {
+        subtract_list(q, cols, vals, c, work);
+        return;
+    }
+    subtract_words(q, cols, cb, vals, vb, c, work);
 }
 
 // work - c M[k], where M is a stored matrix: the row is handed on as middle parts of its lists.
@@ -80,4 +114,22 @@ pub fn subtract_row(
         c,
         work,
     );
+}
+
+// work - c M[k], where M is a matrix in stored lists.
+pub fn subtract_list_row(
+    q: Modulus,
+    ss: &[u32],
+    cols: &[u32],
+    vals: &[u32],
+    k: usize,
+    c: u32,
+    work: &mut [u64],
+)
+    requires { ⌜ MatrixReady (q .p) k c (compressed (now ss) (now cols) (now vals)) (now work) ⌝ }
+    ensures { λ _. ⌜ Subtracted (q .p) (λ j. c * matrix (compressed (now (ss .entry)) (now (cols .entry)) (now (vals .entry))) k j) (now (work .entry)) (now (work .exit)) ⌝ }
+{
+    let a = index(ss[k]);
+    let e = index(ss[k + 1]);
+    subtract_list(q, part(cols, a, e), part(vals, a, e), c, work);
 }

@@ -1,106 +1,51 @@
--- `subtract` meets its contract; the loop's invariant is `Combining` with c times the unit matrix, the measure what is left. Assumes nothing.
-use Prim.Native.Nat.{_-_, _*_, _<_}
-use mathlib.Core.Path.{_≡_, _∙_}
+-- `subtract` meets its contract, by whichever loop. Assumes nothing.
+use mathlib.Core.Path.{_≡_}
 use native.Mathlib.Omega.{arith}
-use lib.ListN.{length, getD}
 use borrow.Author.Needs.{needs}
-use Rattle.algebra.specs.Sum.{δ}
 use Rattle.sparse.specs.Words.{view}
-use Rattle.sparse.proofs.Entries.{row-columns, row-values}
-use Rattle.sparse.proofs.Subtraction.{Combining, combining-starts, combining-turn, combining-row, set-cell}
+use Rattle.sparse.proofs.WordLaws.{view-stored}
 use Rattle.sparse.proofs.kernel.subtract.Statement.{statement}
 use Rattle.sparse.proofs.kernel.subtract.Tie as tie
 
-abbrev Inv-loop : tie.InvT-loop
-Inv-loop q cols cb vals vb c work₀ n t₀ work t = Combining (q .p) (λ k j. c * δ k j) (view cols cb) (view vals vb) work₀ work t
+abbrev start : tie.Then1 → tie.Start
+start c = c .before .before .before .before .before .before
 
-abbrev μ-loop : tie.MeasureT-loop
-μ-loop q cols cb vals vb c work₀ n t₀ work t = n - t
+-- where there are no bytes, the lists meant are the stored ones
+columns : (c : tie.Then1) → view (start c .args .cols .now) (start c .args .cb .now) ≡ start c .args .cols .now
+columns c = view-stored (start c .args .cols .now) (start c .args .cb .now) (omega (arith, c .if1 .taken))
 
-abbrev start : tie.In-loop Inv-loop μ-loop → tie.Start Inv-loop μ-loop
-start c = c .before .before .before .before .before .before .before .before
+numbers : (c : tie.Then1) → view (start c .args .vals .now) (start c .args .vb .now) ≡ start c .args .vals .now
+numbers c = view-stored (start c .args .vals .now) (start c .args .vb .now) (omega (arith, c .if1 .taken))
 
-paired : (c : tie.In-loop Inv-loop μ-loop) → c .before .loop .t < length (view (start c .args .vals .now) (start c .args .vb .now))
-paired c = omega (arith, start c .pre .row .paired)
+add-if1 : tie.Need-add-if1
+add-if1 c = search needs
 
--- the index is the column
-place : (c : tie.After-word2 Inv-loop μ-loop)
-    → c .before .index .result ≡ getD (view (start (c .before .before .before) .args .cols .now) (start (c .before .before .before) .args .cb .now)) (c .before .before .before .before .loop .t) 0
-place c = c .before .index .ensures ∙ c .before .before .word .ensures
+subtract-list-requires : tie.Need-subtract-list-requires
+subtract-list-requires c κs = rw (columns (c .before), numbers (c .before)) at (start (c .before) .pre)
 
-column : (c : tie.After-word2 Inv-loop μ-loop) → c .before .index .result < length (c .before .before .before .before .loop .work)
-column c =
-    let turn = c .before .before .before in
-    rw (place c, turn .before .loop .inv .long) (row-columns _ _ _ _ (start turn .pre .row) (turn .before .loop .t) (omega arith))
+same-length : tie.Need-same-length
+same-length c = search needs
 
-count-requires : tie.Need-count-requires Inv-loop μ-loop
-count-requires c κs = search needs
+returns : tie.Need-returns
+returns c = let t = c .before .before .before .before in rw (columns t, numbers t) (c .before .before .subtract-list .ensures)
 
-loop-holds : tie.Need-loop-holds Inv-loop μ-loop
-loop-holds c = combining-starts _ _ _ _ _ (c .before .before .before .before .before .before .pre .below)
+subtract-words-requires : tie.Need-subtract-words-requires
+subtract-words-requires c κs = search needs
 
-word-requires : tie.Need-word-requires Inv-loop μ-loop
-word-requires c κs = omega arith
+same-length-2 : tie.Need-same-length-2
+same-length-2 c = search needs
 
-index-requires : tie.Need-index-requires Inv-loop μ-loop
-index-requires c κs = search needs
-
-word-requires-2 : tie.Need-word-requires-2 Inv-loop μ-loop
-word-requires-2 c κs = omega (arith, start (c .before .before) .pre .row .paired)
-
-mul-minus : tie.Need-mul-minus Inv-loop μ-loop
-mul-minus c = omega (arith, column c)
-
-slice-read-minus : tie.Need-slice-read-minus Inv-loop μ-loop
-slice-read-minus c = column (c .before)
-
-minus-requires : tie.Need-minus-requires Inv-loop μ-loop
-minus-requires c κs = let i = c .before .before .before .before .before .loop in let s = start (c .before .before .before .before) in (
-  i .inv .below _ (column (c .before)),
-  record { left = s .pre .residue; right = rw (c .before .word2 .ensures) (row-values _ _ _ _ (s .pre .row) (i .t) (paired (c .before .before .before .before))) },
-)
-
-mul-work : tie.Need-mul-work Inv-loop μ-loop
-mul-work c = omega (arith, column (c .before .before))
-
-slice-write-work : tie.Need-slice-write-work Inv-loop μ-loop
-slice-write-work c = column (c .before .before)
-
-add-t : tie.Need-add-t Inv-loop μ-loop
-add-t c = omega arith
-
-loop-less : tie.Need-loop-less Inv-loop μ-loop
-loop-less c = omega arith
-
-loop-again : tie.Need-loop-again Inv-loop μ-loop
-loop-again c = let w = c .before .before in let turn = w .before .before .before in let i = turn .before .loop in
-    combining-turn _ _ _ _ _ _ _ (i .t) (w .before .index .result) (w .word2 .result) (omega arith) (paired turn) (place w) (w .word2 .ensures) (i .inv)
-    (set-cell _ _ _ _ _ (i .work) (column w) (i .inv .below) (c .minus .ensures))
-
-same-length : tie.Need-same-length Inv-loop μ-loop
-same-length c = c .before .loop .inv .long
-
-returns : tie.Need-returns Inv-loop μ-loop
-returns c = combining-row _ _ _ _ _ _ _ (omega arith) (c .before .loop .inv)
+returns-2 : tie.Need-returns-2
+returns-2 c = search needs
 
 pub subtract-spec : {M : Type 1} → statement M
 subtract-spec =
     tie.close
     (tie.spec
-    Inv-loop
-    μ-loop
-    count-requires
-    loop-holds
-    word-requires
-    index-requires
-    word-requires-2
-    mul-minus
-    slice-read-minus
-    minus-requires
-    mul-work
-    slice-write-work
-    add-t
-    loop-less
-    loop-again
+    add-if1
+    subtract-list-requires
     same-length
-    returns)
+    returns
+    subtract-words-requires
+    same-length-2
+    returns-2)
