@@ -10,7 +10,7 @@ import json
 from pathlib import Path
 from typing import NamedTuple
 
-from model.ask import ask
+from model.ask import ask, ask_by_text
 from model.calls import check_certificate, make_certificate
 from model.report import report
 
@@ -18,7 +18,8 @@ KEPT = Path(__file__).parent / "kept"
 
 
 class Case(NamedTuple):
-    """`call` is report, ask, make or check; the other fields as it needs them."""
+    """`call` is report, ask, make or check; the other fields as it needs them.
+    A question that is not given as arguments may follow the plan in `text`."""
 
     call: str
     text: bytes
@@ -34,7 +35,7 @@ def expected(case):
     if case.call == "report":
         return report(case.text)
     if case.call == "ask":
-        return ask(case.text, case.question)
+        return ask(case.text, case.question) if case.question else ask_by_text(case.text)
     if case.call == "make":
         return make_certificate(case.text, case.buffer_length)
     return check_certificate(case.text, case.certificate), case.certificate

@@ -20,7 +20,7 @@ from generate.certificates import (
 )
 from generate.edges import edge_texts, lower_edge, upper_edge
 from generate.plans import build, dense, random_plan, tiny_plan
-from generate.texts import damaged_text, plain_text, random_question, varied_text
+from generate.texts import damaged_text, plain_text, question_text, random_question, varied_text
 from model.certificate import write
 from model.factors import factor
 from model.limits import GREATEST_ENTRIES
@@ -53,6 +53,7 @@ def _printed_cases(rng, plan, text, origin):
     """The text and damaged copies of it through both programs."""
     yield Case("report", text, origin=origin)
     yield Case("ask", text, question=random_question(rng, plan), origin=origin)
+    yield Case("ask", text + question_text(rng, plan), origin=origin)
     for _ in range(2):
         damaged = damaged_text(rng, text)
         yield Case("report", damaged, origin=origin)

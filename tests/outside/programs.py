@@ -64,7 +64,7 @@ class Report:
 
 
 class Ask:
-    """Takes the question as arguments."""
+    """Takes the question as arguments, or after the plan where there are none."""
 
     calls = ("ask",)
 

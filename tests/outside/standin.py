@@ -181,7 +181,8 @@ def main(program, *words):
     if program == "report":
         sink.write(report.report(source.read()))
     elif program == "ask":
-        sink.write(ask.ask(source.read(), tuple(map(int, words))))
+        text = source.read()
+        sink.write(ask.ask(text, tuple(map(int, words))) if words else ask.ask_by_text(text))
     else:
         _answer_calls(source, sink)
 

@@ -4,6 +4,7 @@
     varied_text  the same plan, by other values and with lines that store nothing
     damaged_text a text with something changed
     random_question   m numbers, now and then one that is no residue
+    question_text     such numbers as text, now and then with something changed
 """
 
 from model.limits import GREATEST_TEXT, GREATEST_VALUE, LEAST_VALUE
@@ -199,3 +200,14 @@ def random_question(rng, plan):
         if style == "too large":
             y[rng.randrange(m)] = rng.choice((p, p + 1, 2**32 - 1))
     return tuple(y)
+
+
+def question_text(rng, plan):
+    """Between spaces or line feeds, with or without a line feed at the end;
+    now and then a field that is odd, one more or one fewer, or a byte changed."""
+    fields = [b"%d" % value for value in random_question(rng, plan)]
+    if fields and rng.random() < 0.3:
+        place = rng.randrange(len(fields))
+        fields[place : place + 1] = rng.choice(([], [b"0", b"0"], [rng.choice(ODD_FIELDS)]))
+    text = rng.choice((b" ", b"\n")).join(fields) + rng.choice((b"", b"\n"))
+    return rng.choice(DAMAGES[:5])(rng, text) if text and rng.random() < 0.2 else text

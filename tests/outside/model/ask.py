@@ -1,11 +1,17 @@
 """The question program's output (scope, "Questions"; the form of the lines is the program's own).
 
     ask          the output for a text and a question
+    ask_by_text  the output for a text that the question follows
 """
+
+import re
 
 from .questions import answer_from_factors
 from .refusals import QUESTION_VALUE, Refusal
 from .report import printed, refused, stages
+
+NO_RESIDUE = 2**32 - 1  # stands for a value that is no number of 32 bits
+GREATEST_INPUT = 98_304  # bytes that are looked at
 
 
 def ask(text, y):
@@ -21,3 +27,24 @@ def ask(text, y):
         return refused(Refusal(answer.number, counted))
     verdict, cells = ("open", answer.x) if answer.is_open else ("closed", answer.z)
     return printed(" ".join([verdict, *map(str, cells)]))
+
+
+def ask_by_text(text):
+    """The plan ends with its first line `0 0 0`; what follows is the question."""
+    text = text[:GREATEST_INPUT]
+    ending = re.search(rb"(?m)^0 0 0\n", text)
+    end = ending.end() if ending else len(text)
+    return ask(text[:end], _values(text[end:]))
+
+
+def _values(text):
+    """Decimal numbers without sign or leading zero, between single spaces or
+    line feeds; one line feed may end them."""
+    text = text.removesuffix(b"\n")
+    return tuple(map(_value, re.split(b"[ \n]", text))) if text else ()
+
+
+def _value(field):
+    if not re.fullmatch(b"0|[1-9][0-9]*", field):
+        return NO_RESIDUE
+    return min(int(field), NO_RESIDUE)
