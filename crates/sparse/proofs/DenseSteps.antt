@@ -1,12 +1,16 @@
 -- The loops between stored rows and the working row, one turn at a time.
 use mathlib.Core.Path.{_≡_, refl, sym, ap, _∙_}
+use mathlib.Core.Bool.{true}
 use mathlib.Core.List.{List, [], _∷_, _++_}
 use Prim.Native.Nat.{ℕ, _+_, _-_, _*_, _%_, _≤_, _<_}
-use native.Mathlib.Nat.{mul-le-mul-left}
+use native.Mathlib.Nat.{mul-le-mul-left, mul-zero, zero-mod}
 use native.Mathlib.Decide.{ℕ-discrete}
 use native.Mathlib.Omega.{arith}
 use lib.ListN.{length, getD, take, drop, set, length-set, drop-of-length-le}
-use lib.Seq.{length-take-le, take-all, getD-set-same, getD-set-other}
+use lib.Dec.{eqb}
+use lib.Seq.{length-take-le, take-all, getD-set-same, getD-set-other, set-getD}
+use borrow.Author.Count.{below-more}
+use borrow.Author.Tests.{eq-eqb}
 use Rattle.lists.specs.Filled.{zeros}
 use Rattle.lists.specs.Tabulate.{tabulate}
 use Rattle.lists.proofs.Filled.{Clearing, clearing-starts, clearing-turn, clearing-ends, zeros-at, clearing-cell}
@@ -20,8 +24,10 @@ use Rattle.sparse.specs.Row.{weigh, entry, Below, Row}
 use Rattle.sparse.specs.WorkingRow.{Cell}
 use Rattle.sparse.specs.Dense.{nonzeros, scaled}
 use Rattle.sparse.specs.Storing.{Room, Stored, RowStored}
+use Rattle.sparse.specs.Scan.{NextNonzero}
+use Rattle.sparse.proofs.Scanning.{over-zeros}
 use Rattle.sparse.proofs.Entries.{weigh-step, weigh-end, entry-below, row-values}
-use Rattle.sparse.proofs.Nonzeros.{count-append, nonzeros-zero, nonzeros-one, stored-none, stored-then, stored-columns, stored-values, length-scaled, scaled-drop, scaled-take, scaled-split, scaled-once}
+use Rattle.sparse.proofs.Nonzeros.{count-append, nonzeros-zero, nonzeros-one, stored-none, stored-zero, stored-then, stored-columns, stored-values, length-scaled, scaled-drop, scaled-take, scaled-split, scaled-once}
 
 -- ---- loading a row: each cell and what is still to come for it make its entry
 
@@ -132,6 +138,10 @@ module _ (p : ℕ) (w : List ℕ) where
           rest = omega (arith, s .rest, ap (λ (l : List ℕ). length (nonzeros l)) (scaled-drop p 1 w j h), nonzeros-one (1 * (getD w j 0 % p) % p) (scaled p 1 (drop (j + 1) w)) (λ z. e (sym (scaled-once p (getD w j 0)) ∙ z)));
         }
 
+  -- cells of 0 are passed over
+  pub counting-over : (k j r : ℕ) → NextNonzero w j r → Counting k j → Counting k r
+  counting-over k j r d s = over-zeros (Counting k) w j r d (λ i h e t. counting-zero k i h t (ap (λ (x : ℕ). x % p) e ∙ zero-mod p)) s
+
   pub counting-ends : (k j : ℕ) → length w ≤ j → Counting k j → k ≡ length (nonzeros (scaled p 1 w))
   unfolding nonzeros scaled
   counting-ends k j h s = omega (arith, s .rest, ap (λ (l : List ℕ). length (nonzeros (scaled p 1 l))) (drop-of-length-le w h))
@@ -193,3 +203,24 @@ module _ (p c start : ℕ) (w₀ cols₀ vals₀ : List ℕ) where
 
           passed : 0 + length (scaled p c (take j w₀)) ≡ j
           passed = omega (arith, length-scaled p c (take j w₀), length-take-le j w₀ (omega arith))
+
+  -- cells of 0 are passed over
+  pub storing-over : (w cols vals : List ℕ) (at j r : ℕ) → Storing w cols vals at j → NextNonzero w j r → Storing w cols vals at r
+  storing-over w cols vals at j r s d = over-zeros (Storing w cols vals at) w j r d step s
+    where
+      nothing : c * (0 % p) % p ≡ 0
+      nothing = ap (λ (x : ℕ). c * x % p) (zero-mod p) ∙ ap (λ (x : ℕ). x % p) (mul-zero c) ∙ zero-mod p
+
+      step : (i : ℕ) → i < length w → getD w i 0 ≡ 0 → Storing w cols vals at i → Storing w cols vals at (i + 1)
+      step i h e t =
+          rw (ap (λ (x : ℕ). set w i x) (sym e) ∙ set-getD w i 0) at
+          (storing-turn w cols vals at i t 0 (omega (arith, t .clearing .long)) (sym (ap (λ (x : ℕ). c * (x % p) % p) e ∙ nothing)) cols vals at (stored-zero i at 0 cols vals refl))
+
+-- ---- the first cell that stands for another residue than 0
+
+abbrev pub StandForZero : ℕ → List ℕ → ℕ → Type 0
+StandForZero p w j = (k : ℕ) → k < j → eqb (getD w k 0 % p) 0 ≡ true
+
+pub standing-over : (p : ℕ) (w : List ℕ) (j r : ℕ) → NextNonzero w j r → StandForZero p w j → StandForZero p w r
+standing-over p w j r d s =
+    over-zeros (StandForZero p w) w j r d (λ i h e t. below-more (λ k. eqb (getD w k 0 % p) 0 ≡ true) i t (eq-eqb (getD w i 0 % p) 0 (ap (λ (x : ℕ). x % p) e ∙ zero-mod p))) s

@@ -5,6 +5,7 @@ pub mod Entries
 pub mod Rows
 pub mod Subtraction
 pub mod Nonzeros
+pub mod Scanning
 pub mod DenseSteps
 pub mod DenseLaws
 pub mod DenseForm

@@ -6,3 +6,4 @@ pub mod Set
 pub mod WorkingRow
 pub mod Dense
 pub mod Storing
+pub mod Scan

@@ -1,5 +1,5 @@
 // Rows on their way between storage and the working row, whose cells stand for their residues modulo p. Most cells of a
-// working row are 0, so a cell is divided only where it is not.
+// working row are 0: those are passed over, and are not divided.
 ghost use mathlib.Core.Path.{_≡_};
 ghost use mathlib.Core.List.{[], _∷_};
 ghost use Prim.Native.Nat.{_+_, _*_, _%_, _<_};
@@ -14,6 +14,7 @@ ghost use Rattle.sparse.specs.Row.{entry, weigh};
 ghost use Rattle.sparse.specs.WorkingRow.{Cell};
 ghost use Rattle.sparse.specs.Dense.{nonzeros, scaled};
 ghost use Rattle.sparse.specs.Storing.{LoadReady, DotReady, Room, Stored, StoreReady, RowStored};
+use crate::scan::next_nonzero;
 use crate::words::count;
 use crate::words::word;
 use lists::index;
@@ -84,7 +85,7 @@ pub fn count_nonzero(q: Modulus, work: &[u64]) -> usize
         if !is_zero(q, work[j]) {
             k += 1;
         }
-        j += 1;
+        j = next_nonzero(work, j + 1);
     }
     k
 }
@@ -99,7 +100,7 @@ pub fn first_nonzero(q: Modulus, work: &[u64]) -> usize
         if !is_zero(q, work[j]) {
             return j;
         }
-        j += 1;
+        j = next_nonzero(work, j + 1);
     }
     j
 }
@@ -146,7 +147,7 @@ pub fn store(
         let v = scale(q, c, work[j]);
         at = put(v, j as u32, at, cols, vals);
         work[j] = 0;
-        j += 1;
+        j = next_nonzero(work, j + 1);
     }
     at
 }

@@ -3,4 +3,5 @@
 pub mod dense;
 pub mod form;
 pub mod kernel;
+pub mod scan;
 pub mod words;

@@ -8,11 +8,12 @@ use lib.ListN.{length, getD}
 use borrow.Author.Count.{below-more}
 use borrow.Author.Tests.{not-true, not-false}
 use Rattle.lists.proofs.Tests.{first-all, first-fails}
+use Rattle.sparse.proofs.DenseSteps.{StandForZero, standing-over}
 use Rattle.sparse.proofs.dense.first_nonzero.Statement.{statement}
 use Rattle.sparse.proofs.dense.first_nonzero.Tie as tie
 
 abbrev Inv-loop : tie.InvT-loop
-Inv-loop q work j₀ j = (j ≤ length work) × ((k : ℕ) → k < j → eqb (getD work k 0 % q .p) 0 ≡ true)
+Inv-loop q work j₀ j = (j ≤ length work) × StandForZero (q .p) work j
 
 abbrev μ-loop : tie.MeasureT-loop
 μ-loop q work j₀ j = length work - j
@@ -33,14 +34,18 @@ returns : tie.Need-returns Inv-loop μ-loop
 returns c = let z = c .before in let h = z .before .before .before .loop in
     sym (first-fails _ _ (h .j) (omega arith) (h .inv .1) (sym (z .is-zero .ensures) ∙ not-true _ (c .if1 .taken)))
 
-add-j : tie.Need-add-j Inv-loop μ-loop
-add-j c = omega arith
+add-next-nonzero : tie.Need-add-next-nonzero Inv-loop μ-loop
+add-next-nonzero c = omega arith
+
+next-nonzero-requires : tie.Need-next-nonzero-requires Inv-loop μ-loop
+next-nonzero-requires c κs = omega arith
 
 loop-less : tie.Need-loop-less Inv-loop μ-loop
-loop-less c = omega arith
+loop-less c = omega (arith, c .next-nonzero .ensures .least)
 
 loop-again : tie.Need-loop-again Inv-loop μ-loop
-loop-again c = let z = c .before in (omega arith, below-more _ _ (z .before .before .before .loop .inv .1) (sym (z .is-zero .ensures) ∙ not-false _ (c .if1 .left)))
+loop-again c = let z = c .before .before in let d = c .next-nonzero .ensures in
+    (d .inside, standing-over _ _ _ _ d (below-more _ _ (z .before .before .before .loop .inv .1) (sym (z .is-zero .ensures) ∙ not-false _ (c .before .if1 .left))))
 
 returns-2 : tie.Need-returns-2 Inv-loop μ-loop
 returns-2 c = let h = c .before .loop in
@@ -58,7 +63,8 @@ first-nonzero-spec =
     shared-slice-read-is-zero
     is-zero-requires
     returns
-    add-j
+    add-next-nonzero
+    next-nonzero-requires
     loop-less
     loop-again
     returns-2)

@@ -1,8 +1,8 @@
 -- `store` meets its contract; the loop's invariant is `Storing`, the measure what is left. Assumes nothing.
-use Prim.Native.Nat.{_-_, _<_}
+use Prim.Native.Nat.{_+_, _-_, _<_}
 use native.Mathlib.Omega.{arith}
-use lib.ListN.{length}
-use Rattle.sparse.proofs.DenseSteps.{Storing, storing-starts, storing-columns, storing-values, storing-room, storing-turn, storing-ends}
+use lib.ListN.{length, length-set}
+use Rattle.sparse.proofs.DenseSteps.{Storing, storing-starts, storing-columns, storing-values, storing-room, storing-turn, storing-over, storing-ends}
 use Rattle.sparse.proofs.dense.store.Statement.{statement}
 use Rattle.sparse.proofs.dense.store.Tie as tie
 
@@ -44,15 +44,20 @@ mul-work c = omega (arith, inside (turn c), turn c .before .before .before .befo
 slice-write-work : tie.Need-slice-write-work Inv-loop μ-loop
 slice-write-work c = turn c .loop-test .taken
 
-add-j : tie.Need-add-j Inv-loop μ-loop
-add-j c = omega (arith, inside (turn c), turn c .before .before .before .before .before .good)
+add-next-nonzero : tie.Need-add-next-nonzero Inv-loop μ-loop
+add-next-nonzero c = omega (arith, inside (turn (c .before)), turn (c .before) .before .before .before .before .before .good)
+
+next-nonzero-requires : tie.Need-next-nonzero-requires Inv-loop μ-loop
+next-nonzero-requires c κs = let l = turn (c .before) in omega (arith, l .loop-test .taken, length-set (l .before .loop .work) (l .before .loop .j) 0)
 
 loop-less : tie.Need-loop-less Inv-loop μ-loop
-loop-less c = omega (arith, inside (turn c))
+loop-less c = omega (arith, inside (turn (c .before .before)), c .next-nonzero .ensures .least)
 
 loop-again : tie.Need-loop-again Inv-loop μ-loop
-loop-again c = let l = turn c in let h = l .before .loop in
-    storing-turn _ _ _ _ _ _ (h .work) (h .cols) (h .vals) (h .at) (h .j) (h .inv) _ (inside l) (c .before .before .before .before .before .before .before .scale .ensures .value) _ _ _ (c .before .before .before .before .put .ensures)
+loop-again c = let d = c .before .before in let l = turn d in let h = l .before .loop in
+    storing-over _ _ _ _ _ _ _ _ _ _ (h .j + 1) _
+    (storing-turn _ _ _ _ _ _ (h .work) (h .cols) (h .vals) (h .at) (h .j) (h .inv) _ (inside l) (d .before .before .before .before .before .before .before .scale .ensures .value) _ _ _ (d .before .before .before .before .put .ensures))
+    (c .next-nonzero .ensures)
 
 same-length : tie.Need-same-length Inv-loop μ-loop
 same-length c = c .before .loop .inv .clearing .long
@@ -80,7 +85,8 @@ store-spec =
     put-requires
     mul-work
     slice-write-work
-    add-j
+    add-next-nonzero
+    next-nonzero-requires
     loop-less
     loop-again
     same-length
