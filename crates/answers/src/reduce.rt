@@ -1,7 +1,6 @@
 // The reduction of a question by the rows of U, in order, in the working row.
 ghost use mathlib.Core.Path.{_≡_};
 ghost use Prim.Native.Nat.{_%_, _≤_, _<_};
-ghost use lib.Dec.{eqb};
 ghost use lib.ListN.{length, getD, take};
 ghost use Rattle.algebra.specs.Matrix.{vector};
 ghost use Rattle.sparse.specs.Words.{view};
@@ -10,6 +9,7 @@ ghost use Rattle.answers.specs.Reducing.{EliminationReady, Eliminated, M
 use lists::clear_row;
 use lists::index;
 use residue::Modulus;
+use sparse::dense::first_nonzero;
 use sparse::kernel::subtract_row;
 use sparse::words::word;
 
@@ -41,7 +41,7 @@ pub fn reduce_by_row(
     requires { ⌜ EliminationReady (q .p) k c (viewed (now us) (now usb) (now uc) (now ucb) (now uv) (now uvb)) (now work) ⌝ }
     ensures { λ v. ⌜ Eliminated (q .p) (viewed (now (us .entry)) (now (usb .entry)) (now (uc .entry)) (now (ucb .entry)) (now (uv .entry)) (now (uvb .entry))) k c (now (work .entry)) (now (work .exit)) v ⌝ }
 {
-    let v = q.reduce(work[c]);
+    let v = q.reduce_cell(work[c]);
     if v == 0 {
         return v;
     }
@@ -75,30 +75,12 @@ pub fn reduce(
     }
 }
 
-// Whether the cell x stands for 0. Most cells are 0 themselves, which needs no division.
-fn is_zero(q: Modulus, x: u64) -> bool
-    requires { ⌜ 0 < q .p ⌝ }
-    ensures { λ r. ⌜ r ≡ eqb (x % q .p) 0 ⌝ }
-{
-    if x == 0 {
-        return true;
-    }
-    q.reduce(x) == 0
-}
-
 // The lowest place at which the working row does not stand for 0, or its length.
 pub fn lowest_nonzero(q: Modulus, work: &[u64]) -> usize
     requires { ⌜ 0 < q .p ⌝ }
     ensures { λ j. ⌜ j ≡ lowestOf (length (now (work .entry))) (λ l. getD (now (work .entry)) l 0 % q .p) ⌝ }
 {
-    let mut j = 0;
-    while j < work.len() {
-        if !is_zero(q, work[j]) {
-            return j;
-        }
-        j += 1;
-    }
-    j
+    first_nonzero(q, work)
 }
 
 // Reduces the question y; returns the lowest column at which its remainder is not 0, or m.

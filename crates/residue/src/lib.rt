@@ -27,6 +27,17 @@ impl Modulus {
         (x % p) as u32
     }
 
+    // The residue of x, where x is most often 0: then nothing is divided.
+    pub fn reduce_cell(self, x: u64) -> u32
+        requires { ⌜ 0 < self .p ⌝ }
+        ensures { λ r. ⌜ Residue (self .p) (x % self .p) r ⌝ }
+    {
+        if x == 0 {
+            return 0;
+        }
+        self.reduce(x)
+    }
+
     // a + b
     pub fn add(self, a: u32, b: u32) -> u32
         requires { ⌜ Residues (self .p) a b ⌝ }

@@ -68,10 +68,7 @@ fn is_zero(q: Modulus, x: u64) -> bool
     requires { ⌜ 0 < q .p ⌝ }
     ensures { λ r. ⌜ r ≡ eqb (x % q .p) 0 ⌝ }
 {
-    if x == 0 {
-        return true;
-    }
-    q.reduce(x) == 0
+    q.reduce_cell(x) == 0
 }
 
 // How many cells stand for another residue than 0.

@@ -5,18 +5,18 @@ use borrow.Author.Needs.{needs}
 use Rattle.answers.proofs.reduce.reduce_by_row.Statement.{statement}
 use Rattle.answers.proofs.reduce.reduce_by_row.Tie as tie
 
-mul-reduce : tie.Need-mul-reduce
-mul-reduce c = search needs
+mul-reduce-cell : tie.Need-mul-reduce-cell
+mul-reduce-cell c = search needs
 
-slice-read-reduce : tie.Need-slice-read-reduce
-slice-read-reduce c = search needs
+slice-read-reduce-cell : tie.Need-slice-read-reduce-cell
+slice-read-reduce-cell c = search needs
 
-reduce-requires : tie.Need-reduce-requires
-reduce-requires c κs = search needs
+reduce-cell-requires : tie.Need-reduce-cell-requires
+reduce-cell-requires c κs = search needs
 
 returns : tie.Need-returns
 returns c = let s = c .before .before .before .before .before .before .before .before .before .before in
-    eliminated-none (s .args .q .p) _ _ (s .args .c) _ _ (s .pre .below) (c .before .reduce .ensures .value) (omega arith)
+    eliminated-none (s .args .q .p) _ _ (s .args .c) _ _ (s .pre .below) (c .before .reduce-cell .ensures .value) (omega arith)
 
 subtract-row-requires : tie.Need-subtract-row-requires
 subtract-row-requires c κs = search needs
@@ -31,9 +31,9 @@ pub reduce-by-row-spec : {M : Type 1} → statement M
 reduce-by-row-spec =
     tie.close
     (tie.spec
-    mul-reduce
-    slice-read-reduce
-    reduce-requires
+    mul-reduce-cell
+    slice-read-reduce-cell
+    reduce-cell-requires
     returns
     subtract-row-requires
     same-length
