@@ -58,7 +58,6 @@ searching-found n t j h e s = sym (first-fails n t j h (s .before) e)
 pub searching-ends : (n : ℕ) (t : ℕ → Bool) (j : ℕ) → n ≤ j → Searching n t j → j ≡ first n t
 searching-ends n t j h s = let q : j ≡ n = omega (arith, s .inside) in q ∙ sym (first-all n t (λ i b. s .before i (omega arith)))
 
--- two tests that agree below n fail at the same place
 -- the outcome of a search: refused at j, or passed
 pub unless-at : (n k j f : ℕ) → j ≡ f → j < n → Refused k j ≡ unless (leb n f) k f
 unless-at n k j f e h = ap (λ (b : Bool). unless b k j) (sym (lt-leb n j h)) ∙ ap (λ (i : ℕ). unless (leb n i) k i) e
