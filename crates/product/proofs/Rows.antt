@@ -19,7 +19,9 @@ use Rattle.algebra.specs.Sum.{dot}
 use Rattle.algebra.proofs.Congruence.{exact, turn, _⊙_, _⊕_, same-refl, minus}
 use Rattle.sparse.specs.Row.{Below}
 use Rattle.sparse.specs.WorkingRow.{Subtracted}
+use Rattle.sparse.proofs.Subtraction.{subtracted-ext}
 use Rattle.pluq.specs.Judge.{agrees}
+use Rattle.product.specs.Sweep.{TestedAndCleared}
 
 -- ---- tests
 
@@ -54,7 +56,7 @@ eqb-same a b c d h g = go (eqb a b) refl
 -- ---- the test of a row
 
 -- from a row of zeros, the product taken away and A's row added: all cells stand for 0 exactly if they agree
-pub row-agrees : (p m r : ℕ) (A : Matrix) (R : Vector) (L U : Matrix) (i : ℕ) (w₀ w : List ℕ) → 1 ≤ p → length w₀ ≡ m → w₀ ≡ zeros (length w₀)
+row-agrees : (p m r : ℕ) (A : Matrix) (R : Vector) (L U : Matrix) (i : ℕ) (w₀ w : List ℕ) → 1 ≤ p → length w₀ ≡ m → w₀ ≡ zeros (length w₀)
     → Subtracted p (λ j. (p - 1) * A (R i) j + dot r (L i) (λ k. U k j)) w₀ w
     → all m (λ j. eqb (getD w j 0 % p) 0) ≡ agrees p m r A R L U i
 unfolding agrees
@@ -110,13 +112,13 @@ clearing-turn p w₀ w z z′ j h e d =
     gone k g (yes q) = ap (λ (i : ℕ). getD (set w j 0) i 0) q ∙ getD-set-same w j 0 0 h
     gone k g (no q) = getD-set-other w j k 0 0 q ∙ d .emptied k (omega arith)
 
-pub clearing-ends : (p : ℕ) (w₀ w : List ℕ) (z : Bool) (j : ℕ) → length w ≤ j → Clearing p w₀ w z j
-    → (z ≡ all (length w₀) (λ k. eqb (getD w₀ k 0 % p) 0)) × (w ≡ zeros (length w₀))
+pub clearing-ends : (p : ℕ) (w₀ w : List ℕ) (z : Bool) (j : ℕ) → length w ≤ j → Clearing p w₀ w z j → TestedAndCleared p w₀ w z
 clearing-ends p w₀ w z j h d =
-    let q : j ≡ length w₀ = omega (arith, d .long, d .inside) in (
-      d .so-far ∙ ap (λ (n : ℕ). all n (λ k. eqb (getD w₀ k 0 % p) 0)) q,
-      ext-getD 0 w (zeros (length w₀)) (d .long ∙ sym (length-zeros (length w₀))) (λ k g. d .emptied k (omega arith) ∙ sym (zeros-at (length w₀) k)),
-    )
+    let q : j ≡ length w₀ = omega (arith, d .long, d .inside) in
+    record {
+      tested = d .so-far ∙ ap (λ (n : ℕ). all n (λ k. eqb (getD w₀ k 0 % p) 0)) q;
+      cleared = ext-getD 0 w (zeros (length w₀)) (d .long ∙ sym (length-zeros (length w₀))) (λ k g. d .emptied k (omega arith) ∙ sym (zeros-at (length w₀) k));
+    }
 
 -- a loop that stops at the first that fails, and leaves w as it was
 pub record Scanning (n : ℕ) (t : ℕ → Bool) (w₀ w : List ℕ) (i : ℕ) : Type 0 where
@@ -139,8 +141,13 @@ scanning-turn n t w₀ w w′ i b h e q l s =
 pub zero-below : (p : ℕ) (w : List ℕ) → 0 < p → w ≡ zeros (length w) → Below (p * p) w
 zero-below p w h z i g = omega (arith, ap (λ (l : List ℕ). getD l i 0) z ∙ zeros-at (length w) i, mul-le-mul-left {m = 1} {n = p} p h)
 
-pub cleared-agrees : (p r : ℕ) (A : Matrix) (R : Vector) (L U : Matrix) (i : ℕ) (w₀ w : List ℕ) → 1 ≤ p → w₀ ≡ zeros (length w₀)
-    → Subtracted p (λ j. (p - 1) * A (R i) j + dot r (L i) (λ k. U k j)) w₀ w
-    → all (length w) (λ j. eqb (getD w j 0 % p) 0) ≡ agrees p (length w₀) r A R L U i
-cleared-agrees p r A R L U i w₀ w pos none d =
-    ap (λ (n : ℕ). all n (λ j. eqb (getD w j 0 % p) 0)) (d .long) ∙ row-agrees p (length w₀) r A R L U i w₀ w pos refl none d
+-- the row tested and cleared: whether A's row k = R[i] is row i of the product, and the row is as it was first
+pub cleared-agrees : (p r : ℕ) (A : Matrix) (R : Vector) (L U : Matrix) (i k : ℕ) (w₀ w w′ : List ℕ) (z : Bool) → 1 ≤ p → w₀ ≡ zeros (length w₀) → k ≡ R i
+    → Subtracted p (λ j. (p - 1) * A k j + dot r (L i) (λ u. U u j)) w₀ w → TestedAndCleared p w w′ z → (z ≡ agrees p (length w₀) r A R L U i) × (w′ ≡ w₀)
+cleared-agrees p r A R L U i k w₀ w w′ z pos none e d t = (
+  t .tested
+      ∙ ap (λ (n : ℕ). all n (λ j. eqb (getD w j 0 % p) 0)) (d .long)
+      ∙ row-agrees p (length w₀) r A R L U i w₀ w pos refl none
+      (subtracted-ext p (λ j. (p - 1) * A k j + dot r (L i) (λ u. U u j)) (λ j. (p - 1) * A (R i) j + dot r (L i) (λ u. U u j)) w₀ w (λ j. ap (λ (x : ℕ). (p - 1) * A x j + dot r (L i) (λ u. U u j)) e) d),
+  t .cleared ∙ ap zeros (d .long) ∙ sym none,
+)

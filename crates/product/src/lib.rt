@@ -1,11 +1,8 @@
 // The product of a set compared with the matrix (refusal 14), row by row in the working row.
 ghost use mathlib.Core.Path.{_≡_};
-ghost use mathlib.Core.Bool.{_&&_};
-ghost use Prim.Native.Nat.{_%_, _<_};
-ghost use lib.Dec.{eqb};
-ghost use lib.ListN.{length, getD};
-ghost use Rattle.lists.specs.Filled.{zeros};
-ghost use Rattle.lists.specs.Tests.{all, first};
+ghost use Prim.Native.Nat.{_<_};
+ghost use lib.ListN.{length};
+ghost use Rattle.lists.specs.Tests.{first};
 ghost use Rattle.algebra.specs.Sum.{dot};
 ghost use Rattle.algebra.specs.Matrix.{vector};
 ghost use Rattle.sparse.specs.Words.{view};
@@ -14,6 +11,10 @@ ghost use Rattle.sparse.specs.Matrix.{viewed, matrix};
 ghost use Rattle.sparse.specs.WorkingRow.{Subtracted};
 ghost use Rattle.pluq.specs.Judge.{agrees};
 ghost use Rattle.product.specs.Needs.{CombinesRows, CombinesRow, Comparable};
+
+mod sweep;
+
+use crate::sweep::clear_touched;
 use lists::index;
 use residue::Modulus;
 use sparse::kernel::subtract_row;
@@ -21,35 +22,6 @@ use sparse::words::bytes_part;
 use sparse::words::count;
 use sparse::words::list_part;
 use sparse::words::word;
-
-// Whether all cells so far stood for 0, and this one does. Most cells are 0: those are not divided.
-fn still_zero(q: Modulus, zero: bool, x: u64) -> bool
-    requires { ⌜ 0 < q .p ⌝ }
-    ensures { λ r. ⌜ r ≡ (zero && eqb (x % q .p) 0) ⌝ }
-{
-    if !zero {
-        return false;
-    }
-    if x == 0 {
-        return true;
-    }
-    q.reduce(x) == 0
-}
-
-// Whether every cell stands for 0; all cells are set to 0.
-fn zero_and_clear(q: Modulus, work: &mut [u64]) -> bool
-    requires { ⌜ 0 < q .p ⌝ }
-    ensures { λ r. ⌜ (r ≡ all (length (now (work .entry))) (λ j. eqb (getD (now (work .entry)) j 0 % q .p) 0)) × (now (work .exit) ≡ zeros (length (now (work .entry)))) ⌝ }
-{
-    let mut zero = true;
-    let mut j = 0;
-    while j < work.len() {
-        zero = still_zero(q, zero, work[j]);
-        work[j] = 0;
-        j += 1;
-    }
-    zero
-}
 
 // Takes the rows of U away, each as often as the sparse row says.
 fn subtract_rows(
@@ -172,7 +144,24 @@ fn row_agrees(
     );
     let k = index(word(ro, rob, i));
     subtract_row(q, ss, sb, cols, cb, vals, vb, k, q.p - 1, work);
-    zero_and_clear(q, work)
+    clear_touched(
+        q,
+        ss,
+        sb,
+        cols,
+        cb,
+        ls,
+        lsb,
+        lc,
+        lcb,
+        us,
+        usb,
+        uc,
+        ucb,
+        i,
+        k,
+        work,
+    )
 }
 
 // The first position whose row differs from the product's, or n.

@@ -1,15 +1,13 @@
-use Prim.Native.Nat.{ℕ, _+_, _-_, _*_}
-use mathlib.Core.Path.{_≡_, sym, ap, _∙_}
+use mathlib.Core.Path.{_≡_, ap, _∙_}
 use native.Mathlib.Omega.{arith}
 use lib.ListN.{length, getD}
-use Rattle.lists.specs.Filled.{zeros}
 use Rattle.lists.proofs.Filled.{length-zeros}
 use Rattle.algebra.specs.Matrix.{vector}
-use Rattle.algebra.specs.Sum.{dot}
 use Rattle.sparse.specs.Matrix.{compressed, matrix}
 use Rattle.sparse.specs.Words.{view}
-use Rattle.sparse.proofs.Subtraction.{subtracted-then, subtracted-ext}
+use Rattle.sparse.proofs.Subtraction.{subtracted-then}
 use Rattle.product.proofs.Rows.{cleared-agrees, zero-below}
+use Rattle.product.proofs.SweepLaws.{clears-touched}
 use borrow.Author.Needs.{needs}
 use Rattle.product.proofs.row_agrees.Statement.{statement}
 use Rattle.product.proofs.row_agrees.Tie as tie
@@ -51,21 +49,19 @@ subtract-row-requires c κs = let d = c .before .before in let t = d .before .be
       below = t .subtract-product .ensures .below;
     }
 
-zero-and-clear-requires : tie.Need-zero-and-clear-requires
-zero-and-clear-requires c κs = start (c .before .before .before .before .before .before .before .before .before .before) .pre .1 .positive
+clear-touched-requires : tie.Need-clear-touched-requires
+clear-touched-requires c κs = let a = c .before .before .before in let d = a .before .before .before in let t = d .before .before .before .before in let s = start t in
+    clears-touched (s .args .q .p) _ (s .args .r) _ _ (compressed (view (s .args .ss .now) (s .args .sb .now)) (view (s .args .cols .now) (s .args .cb .now)) (view (s .args .vals .now) (s .args .vb .now))) _ (compressed (view (s .args .ls .now) (s .args .lsb .now)) (view (s .args .lc .now) (s .args .lcb .now)) (view (s .args .lv .now) (s .args .lvb .now))) (compressed (view (s .args .us .now) (s .args .usb .now)) (view (s .args .uc .now) (s .args .ucb .now)) (view (s .args .uv .now) (s .args .uvb .now))) _ _ (s .pre .0) (place d) (s .pre .1)
+    (subtracted-then _ _ _ _ _ _ (t .subtract-product .ensures) (a .subtract-row .ensures))
 
 same-length : tie.Need-same-length
-same-length c = let s = start (c .before .before .before .before .before .before .before .before .before .before .before .before .before) in ap length (c .before .before .zero-and-clear .ensures .1) ∙ length-zeros _ ∙ c .before .before .before .before .before .before .subtract-row .ensures .long ∙ c .before .before .before .before .before .before .before .before .before .before .before .before .before .subtract-product .ensures .long
+same-length c = let a = c .before .before .before .before .before .before in
+    ap length (c .before .before .clear-touched .ensures .cleared) ∙ length-zeros _ ∙ a .subtract-row .ensures .long ∙ a .before .before .before .before .before .before .before .subtract-product .ensures .long
 
 returns : tie.Need-returns
-returns c = let t = c .before .before .before .before .before .before .before .before .before .before .before .before .before in let d = c .before .before .before .before .before .before .before .before .before in let s = start t in let a = c .before .before .before .before .before .before in
-    let long = a .subtract-row .ensures .long ∙ t .subtract-product .ensures .long in (
-      c .before .before .zero-and-clear .ensures .0
-          ∙ cleared-agrees (s .args .q .p) (s .args .r) (matrix (compressed (view (s .args .ss .now) (s .args .sb .now)) (view (s .args .cols .now) (s .args .cb .now)) (view (s .args .vals .now) (s .args .vb .now)))) (vector (view (s .args .ro .now) (s .args .rob .now))) (matrix (compressed (view (s .args .ls .now) (s .args .lsb .now)) (view (s .args .lc .now) (s .args .lcb .now)) (view (s .args .lv .now) (s .args .lvb .now)))) (matrix (compressed (view (s .args .us .now) (s .args .usb .now)) (view (s .args .uc .now) (s .args .ucb .now)) (view (s .args .uv .now) (s .args .uvb .now)))) (s .args .i) _ _ (s .pre .1 .positive) (s .pre .1 .cleared)
-          (subtracted-ext _ _ _ _ _ (λ j. ap (λ (k : ℕ). (s .args .q .p - 1) * matrix (compressed (view (s .args .ss .now) (s .args .sb .now)) (view (s .args .cols .now) (s .args .cb .now)) (view (s .args .vals .now) (s .args .vb .now))) k j + dot (s .args .r) (matrix (compressed (view (s .args .ls .now) (s .args .lsb .now)) (view (s .args .lc .now) (s .args .lcb .now)) (view (s .args .lv .now) (s .args .lvb .now))) (s .args .i)) (λ k. matrix (compressed (view (s .args .us .now) (s .args .usb .now)) (view (s .args .uc .now) (s .args .ucb .now)) (view (s .args .uv .now) (s .args .uvb .now))) k j)) (place d))
-          (subtracted-then _ _ _ _ _ _ (t .subtract-product .ensures) (a .subtract-row .ensures))),
-      c .before .before .zero-and-clear .ensures .1 ∙ ap (λ (n : ℕ). zeros n) long ∙ sym (s .pre .1 .cleared),
-    )
+returns c = let a = c .before .before .before .before .before .before in let d = a .before .before .before in let t = d .before .before .before .before in let s = start t in
+    cleared-agrees (s .args .q .p) (s .args .r) (matrix (compressed (view (s .args .ss .now) (s .args .sb .now)) (view (s .args .cols .now) (s .args .cb .now)) (view (s .args .vals .now) (s .args .vb .now)))) (vector (view (s .args .ro .now) (s .args .rob .now))) (matrix (compressed (view (s .args .ls .now) (s .args .lsb .now)) (view (s .args .lc .now) (s .args .lcb .now)) (view (s .args .lv .now) (s .args .lvb .now)))) (matrix (compressed (view (s .args .us .now) (s .args .usb .now)) (view (s .args .uc .now) (s .args .ucb .now)) (view (s .args .uv .now) (s .args .uvb .now)))) (s .args .i) (d .index .result) _ _ _ _ (s .pre .1 .positive) (s .pre .1 .cleared) (place d)
+    (subtracted-then _ _ _ _ _ _ (t .subtract-product .ensures) (a .subtract-row .ensures)) (c .before .before .clear-touched .ensures)
 
 pub row-agrees-spec : {M : Type 1} → statement M
 row-agrees-spec =
@@ -76,6 +72,6 @@ row-agrees-spec =
     index-requires
     sub-subtract-row
     subtract-row-requires
-    zero-and-clear-requires
+    clear-touched-requires
     same-length
     returns)

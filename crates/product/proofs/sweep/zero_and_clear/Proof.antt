@@ -3,8 +3,8 @@ use native.Mathlib.Omega.{arith}
 use lib.ListN.{length, length-set}
 use borrow.Author.Needs.{needs}
 use Rattle.product.proofs.Rows.{Clearing, clearing-starts, clearing-turn, clearing-ends}
-use Rattle.product.proofs.zero_and_clear.Statement.{statement}
-use Rattle.product.proofs.zero_and_clear.Tie as tie
+use Rattle.product.proofs.sweep.zero_and_clear.Statement.{statement}
+use Rattle.product.proofs.sweep.zero_and_clear.Tie as tie
 
 abbrev Inv-loop : tie.InvT-loop
 Inv-loop q work₀ zero₀ j₀ work zero j = Clearing (q .p) work₀ work zero j

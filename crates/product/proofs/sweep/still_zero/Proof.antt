@@ -6,8 +6,8 @@ use lib.Dec.{eqb}
 use Rattle.lists.proofs.Bools.{chain-stop, chain-on}
 use borrow.Author.Needs.{needs}
 use borrow.Author.Tests.{eq-eqb}
-use Rattle.product.proofs.still_zero.Statement.{statement}
-use Rattle.product.proofs.still_zero.Tie as tie
+use Rattle.product.proofs.sweep.still_zero.Statement.{statement}
+use Rattle.product.proofs.sweep.still_zero.Tie as tie
 
 returns : tie.Need-returns
 returns c = let s = c .before in chain-stop (s .args .zero) _ (s .args .zero) refl (c .if1 .taken)
