@@ -9,3 +9,5 @@ pub mod Scanning
 pub mod DenseSteps
 pub mod DenseLaws
 pub mod DenseForm
+pub mod SparseDense
+pub mod CopySteps

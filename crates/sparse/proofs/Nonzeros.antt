@@ -123,7 +123,7 @@ pub scaled-once : (p x : ℕ) → 1 * (x % p) % p ≡ x % p
 scaled-once p x = ap (λ (y : ℕ). y % p) (one-mul (x % p)) ∙ mod-mod x p
 
 -- an invertible multiple of a residue is 0 only where the residue is
-scaled-zero : (p c x : ℕ) → Invertible p c → c * (x % p) % p ≡ 0 → x % p ≡ 0
+pub scaled-zero : (p c x : ℕ) → Invertible p c → c * (x % p) % p ≡ 0 → x % p ≡ 0
 scaled-zero p c x i e =
     let q = no-divisors (i .prime) {a = c} {b = x % p} (λ z. omega (arith, i .nonzero, sym (mod-eq-of-lt (i .below)) ∙ z .same ∙ zero-mod p)) (record { same = e ∙ sym (zero-mod p) }) in
     sym (mod-mod x p) ∙ q .same ∙ zero-mod p

@@ -7,3 +7,4 @@ pub mod WorkingRow
 pub mod Dense
 pub mod Storing
 pub mod Scan
+pub mod Copying

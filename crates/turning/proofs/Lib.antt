@@ -3,3 +3,4 @@ pub mod LoadedRows
 pub mod GatheredRows
 pub mod PivotRows
 pub mod TakenRows
+pub mod PairRows

@@ -1,9 +1,9 @@
--- A row that is taken: what is stored of it in parts is its row of L and its row of U.
+-- A row that is reduced and taken: what is stored of it in parts is its row of L and its row of U.
 use mathlib.Core.Path.{_≡_, refl, sym, ap, _∙_, subst}
 use mathlib.Core.Bool.{Bool, true, false, cond, not, _&&_, true≢false}
 use mathlib.Core.List.{List, [], _∷_, _++_}
 use Prim.Native.Nat.{ℕ, zero, suc, _+_, _-_, _*_, _%_, _≤_, _<_}
-use native.Mathlib.Nat.{mod-lt, mod-eq-of-lt, zero-add}
+use native.Mathlib.Nat.{mod-lt, zero-add}
 use native.Mathlib.Decide.{ℕ-discrete}
 use native.Mathlib.Omega.{arith}
 use lib.Dec.{leb, eqb}
@@ -12,21 +12,19 @@ use lib.ListN.{length, getD}
 use Rattle.lists.specs.Filled.{zeros}
 use Rattle.lists.specs.Tabulate.{tabulate}
 use Rattle.lists.specs.Tests.{first}
-use Rattle.lists.proofs.Filled.{length-zeros}
 use Rattle.lists.proofs.Tests.{first-here, first-ext}
-use Rattle.lists.proofs.Tabulate.{length-tabulate, tabulate-at, tabulate-ext}
+use Rattle.lists.proofs.Tabulate.{length-tabulate, tabulate-ext}
 use Rattle.algebra.specs.Prime.{Prime}
 use Rattle.algebra.specs.Matrix.{Vector}
 use Rattle.residue.specs.Inverse.{invMod, Invertible}
 use Rattle.sparse.specs.Matrix.{Compressed, matrix}
-use Rattle.sparse.specs.Dense.{columnsFrom, nonzeros, scaled}
+use Rattle.sparse.specs.Dense.{nonzeros, scaled}
 use Rattle.sparse.specs.Storing.{Stored}
-use Rattle.sparse.proofs.Rows.{form-below}
 use Rattle.sparse.proofs.Nonzeros.{count-append, nonzeros-one, stored-then, stored-one, stored-columns, stored-values, scaled-tabulate, count-scaled}
 use Rattle.turning.specs.Loading.{StandsFor, multiples}
 use Rattle.turning.specs.Gathering.{cut, multiplesBy, remainderBy, RowGathered}
-use Rattle.turning.specs.PivotRow.{ListsReady, PivotReady, PivotStored, PivotOutcome}
-use Rattle.turning.specs.Taking.{upperRow, PivotFound, RowFound, PairReady, OtherReady}
+use Rattle.turning.specs.PivotRow.{PivotReady, PivotStored, PivotOutcome}
+use Rattle.turning.specs.Taking.{upperRow, PivotFound, RowFound, OtherReady}
 use Rattle.turning.proofs.PivotRows.{inverse-invertible}
 
 -- ---- the first that fails a test
@@ -97,56 +95,6 @@ module _ (p m r at l total : ℕ) (cs : List ℕ) (w : Vector) (c : ℕ) (lc₀ 
 
       last : PivotStored p c r at l₁ total₁ row lc₁ lv₁ uc₀ uv₀ row′ lc lv uc uv at′ l′ total′ → Stored (0 + length cs) l₁ (w c ∷ []) lc₁ lv₁ lc lv l′
       last q = rw (q .column, q .value, value, q .place, sym long, zero-add) (stored-one (length cs) l₁ (w c) lc₁ lv₁ here)
-
--- ---- a row that is taken as it stands
-
-nonzeros-zeros : (r : ℕ) → nonzeros (zeros r) ≡ []
-unfolding nonzeros zeros
-nonzeros-zeros zero = refl
-nonzeros-zeros (suc r) = nonzeros-zeros r
-
-columns-zeros : (j r : ℕ) → columnsFrom j (zeros r) ≡ []
-unfolding columnsFrom zeros
-columns-zeros j zero = refl
-columns-zeros j (suc r) = columns-zeros (suc j) r
-
-stored-zeros : (l r : ℕ) (lc lv : List ℕ) → Stored 0 l (zeros r) lc lv lc lv l
-stored-zeros l r lc lv =
-    record {
-      place = omega (arith, ap length (nonzeros-zeros r));
-      columns = rw (columns-zeros 0 r);
-      values = rw (nonzeros-zeros r);
-    }
-
-module _ (p i c r at l total : ℕ) (A : Compressed) (w lc lv uc uv : List ℕ) (h : PairReady p i c r at l total A w lc lv uc uv) (row : List ℕ) (e : row ≡ tabulate (length w) (matrix A i)) where
-  loaded : StandsFor p (length w) (matrix A i) row
-  loaded =
-      record {
-        long = ap length e ∙ length-tabulate (length w) (matrix A i);
-        cells = λ j b. ap (λ (l : List ℕ). getD l j 0 % p) e
-            ∙ ap (λ (x : ℕ). x % p) (tabulate-at (length w) (matrix A i) j b)
-            ∙ mod-eq-of-lt (form-below p (length w) (A .starts) (A .cols) (A .vals) (h .row .formed) i j (omega (arith, h .prime .two)));
-      }
-
-  pub pair-pivot : PivotReady p c r at l total row lc lv uc uv
-  pair-pivot =
-      record {
-        prime = h .prime;
-        column = omega (arith, h .column, loaded .long);
-        here = λ z. h .here (sym (loaded .cells c (h .column)) ∙ z);
-        lists = subst (λ (m : ℕ). ListsReady m r at l total lc lv uc uv) (sym (loaded .long)) (h .lists);
-      }
-
-  pub pair-taken : (row′ lc′ lv′ uc′ uv′ : List ℕ) (over : Bool) (found at′ l′ total′ : ℕ) → found ≡ c → PivotOutcome p c r at l total row lc lv uc uv row′ lc′ lv′ uc′ uv′ over at′ l′ total′
-      → RowFound p (length w) at l total (zeros r) (matrix A i) c lc lv uc uv lc′ lv′ uc′ uv′ row′ over found at′ l′ total′
-  pair-taken row′ lc′ lv′ uc′ uv′ over found at′ l′ total′ ec d =
-      record {
-        pivot = λ b. pivot-taken p (length w) r at l total (zeros r) (matrix A i) c lc lv uc uv row lc lv l (h .prime) (length-zeros r) b (h .here) loaded (stored-zeros l r lc lv)
-            total (omega (arith, ap length (nonzeros-zeros r))) row′ lc′ lv′ uc′ uv′ over at′ l′ total′ d;
-        dependent = λ b. absurd (omega (arith, h .column));
-        column = λ z. ec;
-        clear = λ z. d .put z .upper .cleared ∙ ap zeros (loaded .long);
-      }
 
 -- ---- a row that is reduced first
 

@@ -19,7 +19,7 @@ pub struct Step {
 }
 
 // Whether one entry more of L and k entries more of U fit.
-fn fits(lower: usize, total: usize, upper: usize, at: usize, k: usize) -> bool
+pub fn fits(lower: usize, total: usize, upper: usize, at: usize, k: usize) -> bool
     requires { ⌜ (total ≤ lower) × (at ≤ upper) ⌝ }
     ensures { λ r. ⌜ r ≡ (leb (total + 1) lower && leb (at + k) upper) ⌝ }
 {

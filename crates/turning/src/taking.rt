@@ -7,14 +7,16 @@ ghost use Rattle.sparse.specs.Matrix.{compressed, matrix};
 ghost use Rattle.turning.specs.Gathering.{cut, multiplesBy, remainderBy};
 ghost use Rattle.turning.specs.Taking.{PairReady, OtherReady, RowFound};
 use crate::gathering::gather_row;
-use crate::loading::load_row;
+use crate::pivot_copy::copy_pivot;
 use crate::pivot_row::Step;
 use crate::pivot_row::store_pivot;
 use lists::clear_row;
+use lists::index;
+use lists::part;
 use residue::Modulus;
 use sparse::dense::first_nonzero;
 
-// Row i becomes the pivot row of column c as it stands.
+// Row i becomes the pivot row of column c as it stands. It is copied; the working row, all zero, gives only its length.
 pub fn take_pair(
     q: Modulus,
     ss: &[u32],
@@ -35,8 +37,24 @@ pub fn take_pair(
     requires { ⌜ PairReady (q .p) i c r at l total (compressed (now ss) (now cols) (now vals)) (now work) (now lc) (now lv) (now uc) (now uv) ⌝ }
     ensures { λ s. ⌜ RowFound (q .p) (length (now (work .entry))) at l total (zeros r) (matrix (compressed (now (ss .entry)) (now (cols .entry)) (now (vals .entry))) i) c (now (lc .entry)) (now (lv .entry)) (now (uc .entry)) (now (uv .entry)) (now (lc .exit)) (now (lv .exit)) (now (uc .exit)) (now (uv .exit)) (now (work .exit)) (s .over) (s .column) (s .at) (s .l) (s .total) ⌝ }
 {
-    load_row(ss, cols, vals, i, q.p, work);
-    store_pivot(q, c, r, at, l, total, lc, lv, uc, uv, work)
+    let a = index(ss[i]);
+    let e = index(ss[i + 1]);
+    let m = work.len();
+    copy_pivot(
+        q,
+        part(cols, a, e),
+        part(vals, a, e),
+        m,
+        c,
+        r,
+        at,
+        l,
+        total,
+        lc,
+        lv,
+        uc,
+        uv,
+    )
 }
 
 // Row i is reduced by r rows of U with `at` entries; what remains gives a pivot row, or the row is dependent.
