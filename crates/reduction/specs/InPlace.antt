@@ -1,17 +1,20 @@
--- A vector y reduced in the working row by the rows of U, in order. The multiple of row k that is taken away is kept in the cell of its
--- pivot column C[k], where the remainder is 0 from then on.
+-- A vector y reduced in the working row by the rows of U, in order: the value that stands at pivot column C[k] when row k comes is the
+-- multiple of row k that is taken away.
 --   UpperReady p r C U w         r rows of U with their pivot columns: row k is 1 at C[k] and 0 at C[j] for j < k; cells below p * p
---   ReducedRow p k C U y w       y was reduced by the first k rows: cell C[l] holds the multiple of row l, every other cell stands for the remainder
---   takenRow k C w               the multiples, as a list: the cells at the first k pivot columns
---   RemainderRow p k C U y w     the multiples are cleared: every cell stands for the remainder
-use Prim.Native.Nat.{ℕ, _*_, _%_, _≤_, _<_}
+--   multiples p r C U y          the multiples of the first r rows that are taken away from y, in order: the row of L
+--   RemainderRow p m k C U y w   the m cells of the working row stand for what remains of y after the first k rows
+--   StepReady p k c U w          what taking a multiple of row k away needs, which is 1 at column c
+--   MultipleTaken p c u w₀ w x   x is the residue at column c, and x times the row u is taken away from every cell, modulo p
+use Prim.Native.Nat.{ℕ, _+_, _*_, _%_, _≤_, _<_}
 use mathlib.Core.Path.{_≡_}
 use mathlib.Core.Bool.{true}
 use mathlib.Core.List.{List}
 use lib.ListN.{length, getD}
 use Rattle.lists.specs.Tabulate.{tabulate}
+use Rattle.algebra.specs.Congruence.{_≈⟨_⟩_}
 use Rattle.algebra.specs.Matrix.{Vector, Matrix, Distinct, vector}
 use Rattle.algebra.specs.Reduction.{reduced}
+use Rattle.residue.specs.Arithmetic.{Residue}
 use Rattle.sparse.specs.Row.{Below}
 use Rattle.sparse.specs.Matrix.{Compressed, form, matrix}
 
@@ -25,14 +28,24 @@ pub record UpperReady (p r : ℕ) (C : List ℕ) (U : Compressed) (w : List ℕ)
   pub left : (k j : ℕ) → j < k → k < r → matrix U k (vector C j) ≡ 0
   pub below : Below (p * p) w
 
-pub record ReducedRow (p k : ℕ) (C : Vector) (U : Matrix) (y : Vector) (w : List ℕ) : Type 0 where
-  pub below : Below (p * p) w
-  pub taken : (l : ℕ) → l < k → getD w (C l) 0 ≡ reduced p C U l y (C l)
-  pub left : (j : ℕ) → j < length w → ((l : ℕ) → l < k → ¬ (C l ≡ j)) → getD w j 0 % p ≡ reduced p C U k y j
+unfoldable pub multiples : ℕ → ℕ → Vector → Matrix → Vector → List ℕ
+multiples p r C U y = tabulate r (λ k. reduced p C U k y (C k))
 
-unfoldable pub takenRow : ℕ → Vector → List ℕ → List ℕ
-takenRow k C w = tabulate k (λ l. getD w (C l) 0)
-
-pub record RemainderRow (p k : ℕ) (C : Vector) (U : Matrix) (y : Vector) (w : List ℕ) : Type 0 where
+pub record RemainderRow (p m k : ℕ) (C : Vector) (U : Matrix) (y : Vector) (w : List ℕ) : Type 0 where
+  pub long : length w ≡ m
   pub below : Below (p * p) w
-  pub cells : (j : ℕ) → j < length w → getD w j 0 % p ≡ reduced p C U k y j
+  pub cells : (j : ℕ) → j < m → getD w j 0 % p ≡ reduced p C U k y j
+
+pub record StepReady (p k c : ℕ) (U : Compressed) (w : List ℕ) : Type 0 where
+  pub positive : 0 < p
+  pub formed : form p (length w) U ≡ true
+  pub inside : k + 1 < length (U .starts)
+  pub column : c < length w
+  pub unit : matrix U k c ≡ 1
+  pub below : Below (p * p) w
+
+pub record MultipleTaken (p c : ℕ) (u : Vector) (w₀ w : List ℕ) (x : ℕ) : Type 0 where
+  pub multiple : Residue p (getD w₀ c 0 % p) x
+  pub long : length w ≡ length w₀
+  pub below : Below (p * p) w
+  pub cells : (j : ℕ) → j < length w₀ → getD w j 0 + x * u j ≈⟨ p ⟩ getD w₀ j 0

@@ -5,17 +5,11 @@ ghost use Rattle.algebra.specs.Reduction.{reduced};
 ghost use Rattle.sparse.specs.Matrix.{compressed, matrix};
 ghost use Rattle.turning.specs.Loading.{multiples};
 ghost use Rattle.turning.specs.Gathering.{cut, multiplesBy, remainderBy, GatherRowReady, RowGathered, GatherReadyFrom};
-use crate::loading::reduce_row;
+use crate::loading::load_row;
 use lists::part;
-use reduction::taken::count_taken;
-use reduction::taken::gather_taken;
+use reduction::gather::Gathered;
+use reduction::gather::gather_multiples;
 use residue::Modulus;
-
-// Whether the multiples of a row did not fit, and the place after them.
-pub struct Gathered {
-    pub over: bool,
-    pub next: usize,
-}
 
 // Reduces row i by the rows of U, stores the multiples that were taken away at place l, if they fit after `total` entries, and
 // leaves the remainder in the working row. The lists of U and its pivot columns are cut to their lengths.
@@ -38,19 +32,10 @@ fn gather_cut(
     requires { ⌜ GatherRowReady (q .p) i l total (compressed (now ss) (now cols) (now vals)) (now co) (compressed (now us) (now uc) (now uv)) (now work) (now lc) (now lv) ⌝ }
     ensures { λ g. ⌜ RowGathered (q .p) (length (now (work .entry))) l total (multiples (q .p) (length (now (co .entry))) (vector (now (co .entry))) (matrix (compressed (now (us .entry)) (now (uc .entry)) (now (uv .entry)))) (matrix (compressed (now (ss .entry)) (now (cols .entry)) (now (vals .entry))) i)) (reduced (q .p) (vector (now (co .entry))) (matrix (compressed (now (us .entry)) (now (uc .entry)) (now (uv .entry)))) (length (now (co .entry))) (matrix (compressed (now (ss .entry)) (now (cols .entry)) (now (vals .entry))) i)) (now (lc .entry)) (now (lv .entry)) (now (lc .exit)) (now (lv .exit)) (now (work .exit)) (g .over) (g .next) ⌝ }
 {
-    reduce_row(q, ss, cols, vals, i, co, us, uc, uv, work);
-    let t = count_taken(co, &[], co.len(), work);
-    if lc.len() - total < t {
-        return Gathered {
-            over: true,
-            next: l,
-        };
-    }
-    let next = gather_taken(co, &[], co.len(), l, work, lc, lv);
-    Gathered {
-        over: false,
-        next: next,
-    }
+    load_row(ss, cols, vals, i, q.p, work);
+    // `total` counts the entries of dependent rows too, which are stored later: their places are not free.
+    let limit = l + (lc.len() - total);
+    gather_multiples(q, us, uc, uv, co, l, limit, work, lc, lv)
 }
 
 // The same by r rows of U with `at` entries, whose lists and pivot columns are cut here.
