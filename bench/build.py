@@ -35,8 +35,8 @@ def compiled(source, target, *words):
     """Compile unless the program is newer than its sources; None if it fails."""
     target.mkdir(parents=True, exist_ok=True)
     program = target / source.stem
-    sources = [source, *source.parent.glob("*.h"), *(w for w in words if isinstance(w, Path))]
-    files = [path for path in sources if path.is_file()]
+    headers = [*HERE.glob("*.h"), *HERE.glob("peers/*.h")]
+    files = [source, *headers, *(w for w in words if isinstance(w, Path) and w.is_file())]
     if program.exists() and all(p.stat().st_mtime < program.stat().st_mtime for p in files):
         return program
     done = subprocess.run(

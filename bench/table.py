@@ -6,6 +6,12 @@
 
 from typing import NamedTuple
 
+# The tools of ours that are set beside each peer, plan by plan.
+COMPARED = (
+    ("report", "our report program, its start included"),
+    ("in process", "our whole report in process"),
+)
+
 
 class Measured(NamedTuple):
     """Times by tool; a tool that was skipped is missing."""
@@ -16,6 +22,12 @@ class Measured(NamedTuple):
     rank: int
     sparse: bool
     times: dict
+
+    def over(self, peer, tool):
+        """The peer's time divided by our tool's; None where one is missing."""
+        if peer in self.times and tool in self.times:
+            return self.times[peer] / self.times[tool]
+        return None
 
 
 def milliseconds(seconds):
@@ -28,7 +40,11 @@ def ratio(value):
     return f"{value:.2f}" if value < 10 else f"{value:.0f}"
 
 
-def _lines(header, rows):
+def _cell(write, value):
+    return "" if value is None else write(value)
+
+
+def _markdown(header, rows):
     yield "| " + " | ".join(header) + " |"
     yield "|" + "|".join("---" if i == 0 else "---:" for i in range(len(header))) + "|"
     for cells in rows:
@@ -36,56 +52,63 @@ def _lines(header, rows):
 
 
 def _times(measured, tools):
-    for one in measured:
-        times = [milliseconds(one.times[tool]) if tool in one.times else "" for tool in tools]
-        yield [one.plan, one.size, str(one.entries), str(one.rank), *times]
+    yield "Milliseconds, medians."
+    yield ""
+    rows = (
+        [one.plan, one.size, str(one.entries), str(one.rank)]
+        + [_cell(milliseconds, one.times.get(tool)) for tool in tools]
+        for one in measured
+    )
+    yield from _markdown(["plan", "size", "entries", "rank", *tools], rows)
 
 
-def _ratios(measured, peers, own):
-    for one in measured:
-        cells = [
-            ratio(one.times[peer] / one.times[tool]) if {peer, tool} <= set(one.times) else ""
-            for tool in own
-            for peer in peers
-        ]
-        yield [one.plan, *cells]
+def _ratios(measured, tool, words, peers):
+    yield f"The peer's bare rank divided by {words}; above 1 we are ahead."
+    yield ""
+    rows = (
+        [one.plan] + [_cell(ratio, one.over(peer, tool)) for peer in peers] for one in measured
+    )
+    yield from _markdown(["plan", *(f"{peer} / {tool}" for peer in peers)], rows)
+
+
+def _least_ratio(measured, tool, peers):
+    """(ratio, peer, plan) where a peer takes least beside our tool, if any."""
+    ratios = [
+        (one.over(peer, tool), peer, one.plan)
+        for one in measured
+        for peer in peers
+        if one.over(peer, tool) is not None
+    ]
+    return min(ratios, default=None)
 
 
 def _least_ratios(measured, own, peers):
-    """For the sparse plans and for the dense ones, the least that any peer
-    takes beside each of our tools, with the plan and the peer."""
+    yield "The least that any peer takes, divided by each of our times:"
+    yield ""
     for words, sparse in (("sparse", True), ("dense", False)):
+        plans = [one for one in measured if one.sparse == sparse]
         for tool in own:
-            ratios = [
-                (one.times[peer] / one.times[tool], peer, one.plan)
-                for one in measured
-                for peer in peers
-                if one.sparse == sparse and {peer, tool} <= set(one.times)
-            ]
-            if ratios:
-                least, peer, plan = min(ratios)
-                yield f"- {words} plans, {tool}: {ratio(least)} ({peer} on {plan})"
+            least = _least_ratio(plans, tool, peers)
+            if least:
+                value, peer, plan = least
+                yield f"- {words} plans, {tool}: {ratio(value)} ({peer} on {plan})"
+
+
+def _checking(measured):
+    shares = [one.over("check", "make") for one in measured if "check" in one.times]
+    if shares:
+        yield f"Checking takes at most {ratio(max(shares))} times as long as making."
 
 
 def table(measured, own, peers):
-    """Times in milliseconds, then each peer's bare rank divided by our tools'
-    time: above 1 we are ahead."""
-    yield "Milliseconds, medians."
-    yield ""
-    yield from _lines(
-        ["plan", "size", "entries", "rank", *own, *peers], _times(measured, [*own, *peers])
-    )
+    """Times in milliseconds, each peer's bare rank divided by our times, and
+    checking beside making."""
+    parts = [_times(measured, [*own, *peers])]
     if own and peers:
-        yield ""
-        yield "The peer's bare rank divided by our time; above 1 we are ahead."
-        yield ""
-        header = ["plan", *(f"{peer} / {tool}" for tool in own for peer in peers)]
-        yield from _lines(header, _ratios(measured, peers, own))
-        yield ""
-        yield "The least of these ratios:"
-        yield ""
-        yield from _least_ratios(measured, own, peers)
-    slowest = [one.times["check"] / one.times["make"] for one in measured if "check" in one.times]
-    if slowest:
-        yield ""
-        yield f"Checking takes at most {ratio(max(slowest))} times as long as making."
+        parts += [_ratios(measured, tool, words, peers) for tool, words in COMPARED if tool in own]
+        parts.append(_least_ratios(measured, own, peers))
+    parts.append(_checking(measured))
+    for index, lines in enumerate(map(list, parts)):
+        if lines and index > 0:
+            yield ""
+        yield from lines

@@ -9,11 +9,7 @@
 #ifndef MATRIX_H
 #define MATRIX_H
 
-#include <stdio.h>
-#include <stdlib.h>
-#include <time.h>
-
-enum { MOST_RUNS = 1000 };
+#include "../timed.h"
 
 struct entry {
     long row, column;
@@ -37,35 +33,28 @@ static inline int read_matrix(struct matrix *a) {
     return 1;
 }
 
-static inline double now(void) {
-    struct timespec t;
-    clock_gettime(CLOCK_MONOTONIC, &t);
-    return t.tv_sec + 1e-9 * t.tv_nsec;
-}
-
-static inline int compare_doubles(const void *a, const void *b) {
-    double x = *(const double *)a, y = *(const double *)b;
-    return (x > y) - (x < y);
-}
-
 /* `once` leaves the rank and returns the seconds that it took. */
 typedef double rank_once(const struct matrix *, long *rank);
 
+struct peer_run {
+    rank_once *once;
+    const struct matrix *matrix;
+    long rank;
+};
+
+static inline double run_once(void *given) {
+    struct peer_run *run = (struct peer_run *)given;
+    return run->once(run->matrix, &run->rank);
+}
+
 static inline int run_peer(int argc, char **argv, rank_once *once) {
-    int most = argc > 1 ? atoi(argv[1]) : 1;
-    double seconds[MOST_RUNS];
+    int most = argc > 1 ? runs_asked(argv[1]) : 1;
     struct matrix a;
-    if (most < 1 || most > MOST_RUNS) return 2;
+    if (most == 0) return 2;
     while (read_matrix(&a)) {
-        long rank = -1;
-        int runs = 0;
-        double total = 0;
-        while (runs < most && (runs < 1 || total < 1.0)) {
-            seconds[runs] = once(&a, &rank);
-            total += seconds[runs++];
-        }
-        qsort(seconds, runs, sizeof *seconds, compare_doubles);
-        printf("%ld %.9f\n", rank, seconds[runs / 2]);
+        struct peer_run run = {once, &a, -1};
+        double seconds = median_seconds(run_once, &run, most, 1.0);
+        printf("%ld %.9f\n", run.rank, seconds);
         fflush(stdout);
         free(a.entries);
     }

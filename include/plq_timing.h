@@ -1,0 +1,36 @@
+/* What the benchmark times within one process: two calls that serve measuring alone.
+ *
+ * Link with target/staticlib/libtiming.a, which `rt staticlib timing` writes, and not with libplq.a too: both hold the same functions.
+ *
+ * A call needs about 460 KiB of stack, whatever the plan, and no other memory; the library keeps nothing between calls.
+ */
+#ifndef PLQ_TIMING_H
+#define PLQ_TIMING_H
+
+#include <stddef.h>
+#include <stdint.h>
+
+#ifdef __cplusplus
+extern "C" {
+#endif
+
+/* Reads a plan's text and factors the plan.
+ *   takes    a plan text
+ *   gives    the plan's rank; 0 where reading or factoring refuses
+ *   leaves   nothing: the text is only read */
+uint64_t plq_time_factoring(const uint8_t *text, size_t text_length);
+
+/* The bytes that hold any report. */
+#define PLQ_REPORT_ROOM 65536
+
+/* Writes the report of a text: what the report program prints for it, refusals too.
+ *   takes    a text, and a buffer of any length and content
+ *   gives    the length of the report, which stands in the buffer; 0 for a buffer of fewer than PLQ_REPORT_ROOM bytes
+ *   leaves   the buffer zero past the report; the text is only read */
+uint64_t plq_time_report(const uint8_t *text, size_t text_length, uint8_t *out, size_t out_length);
+
+#ifdef __cplusplus
+}
+#endif
+
+#endif
