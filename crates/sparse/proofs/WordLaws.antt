@@ -43,6 +43,12 @@ pub view-stored : (l b : List ℕ) → length b ≡ 0 → view l b ≡ l
 view-stored l [] e = view-list l
 view-stored l (x ∷ b) e = absurd (omega arith)
 
+-- and where there are only bytes, it is the numbers that they hold
+pub view-bytes : (l b : List ℕ) → length l ≡ 0 → view l b ≡ words b
+unfolding view
+view-bytes [] b e = refl
+view-bytes (x ∷ l) b e = absurd (omega arith)
+
 pub length-view : (l b : List ℕ) → length (view l b) ≡ length l + length b / 4
 unfolding view
 length-view l b = length-append l (words b) ∙ ap (λ (n : ℕ). length l + n) (length-words b)

@@ -2,7 +2,7 @@
 ghost use mathlib.Core.Path.{_≡_};
 ghost use Prim.Native.Nat.{_*_, _<_};
 ghost use Rattle.residue.specs.Arithmetic.{Residues};
-ghost use Rattle.sparse.specs.Words.{view};
+ghost use Rattle.sparse.specs.Words.{words, view};
 ghost use Rattle.sparse.specs.Row.{entry};
 ghost use Rattle.sparse.specs.Matrix.{compressed, viewed, matrix};
 ghost use Rattle.sparse.specs.WorkingRow.{Lessened, Subtracted, RowReady, MatrixReady};
@@ -10,6 +10,7 @@ use crate::words::bytes_part;
 use crate::words::count;
 use crate::words::list_part;
 use crate::words::word;
+use crate::words::word_at;
 use lists::index;
 use lists::part;
 use residue::Modulus;
@@ -44,6 +45,21 @@ fn subtract_list(q: Modulus, cols: &[u32], vals: &[u32], c: u32, work: &mut [u64
     }
 }
 
+// work - c row, where the row is given by the numbers that bytes hold.
+fn subtract_bytes(q: Modulus, cb: &[u8], vb: &[u8], c: u32, work: &mut [u64])
+    requires { ⌜ RowReady (q .p) c (words (now cb)) (words (now vb)) (now work) ⌝ }
+    ensures { λ _. ⌜ Subtracted (q .p) (λ j. c * entry (words (now (cb .entry))) (words (now (vb .entry))) j) (now (work .entry)) (now (work .exit)) ⌝ }
+{
+    let n = cb.len() / 4;
+    let mut t = 0;
+    while t < n {
+        let j = index(word_at(cb, t));
+        let v = word_at(vb, t);
+        work[j] = minus(q, work[j], c, v);
+        t += 1;
+    }
+}
+
 // work - c row, where the row is given by its columns and values, of which some may stand in bytes.
 fn subtract_words(
     q: Modulus,
@@ -67,7 +83,7 @@ fn subtract_words(
     }
 }
 
-// The same, by the loop without bytes where there are none: it asks of no number where it stands.
+// The same, by a loop that asks of no number where it stands, where all stand in lists or all in bytes.
 pub fn subtract(
     q: Modulus,
     cols: &[u32],
@@ -82,6 +98,10 @@ pub fn subtract(
 {
     if cb.len() + vb.len() == 0 {
         subtract_list(q, cols, vals, c, work);
+        return;
+    }
+    if cols.len() + vals.len() == 0 {
+        subtract_bytes(q, cb, vb, c, work);
         return;
     }
     subtract_words(q, cols, cb, vals, vb, c, work);

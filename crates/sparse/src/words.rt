@@ -12,7 +12,7 @@ fn wide(x: u8) -> u32
 }
 
 // The 32-bit number at place k of the bytes.
-fn word_at(bytes: &[u8], k: usize) -> u32
+pub fn word_at(bytes: &[u8], k: usize) -> u32
     requires { ⌜ 4 * k + 4 ≤ length (now bytes) ⌝ }
     ensures { λ r. ⌜ r ≡ getD (words (now (bytes .entry))) k 0 ⌝ }
 {
