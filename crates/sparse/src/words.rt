@@ -31,12 +31,18 @@ pub fn count(list: &[u32], bytes: &[u8]) -> usize
     list.len() + bytes.len() / 4
 }
 
-// The number at place i.
+// The number at place i. The first two tests do not depend on i: of a loop over i the compiler makes one loop for lists and one for bytes.
 pub fn word(list: &[u32], bytes: &[u8], i: usize) -> u32
     requires { ⌜ i < length (view (now list) (now bytes)) ⌝ }
     ensures { λ r. ⌜ r ≡ getD (view (now (list .entry)) (now (bytes .entry))) i 0 ⌝ }
 {
     let n = list.len();
+    if bytes.len() == 0 {
+        return list[i];
+    }
+    if n == 0 {
+        return word_at(bytes, i);
+    }
     if i < n {
         return list[i];
     }
