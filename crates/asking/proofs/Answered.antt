@@ -5,7 +5,7 @@ use mathlib.Core.List.{List, _++_}
 use Prim.Native.Nat.{ℕ, _≤_}
 use native.Mathlib.Omega.{arith}
 use lib.Dec.{leb}
-use lib.ListN.{length, take, drop, length-append}
+use lib.ListN.{length, take, drop}
 use lib.Seq.{length-take-le, take-at}
 use Rattle.lists.specs.Filled.{filled}
 use Rattle.lists.specs.Tabulate.{tabulate}
@@ -13,7 +13,6 @@ use Rattle.lists.specs.Refusals.{detailOf}
 use Rattle.lists.specs.declared.Outcome.{Outcome}
 use Rattle.lists.proofs.Filled.{length-zeros, filled-whole}
 use Rattle.lists.proofs.Tabulate.{length-tabulate}
-use Rattle.byte_buffer.specs.Stored.{Fills}
 use Rattle.algebra.specs.Sum.{δ, place}
 use Rattle.algebra.specs.Matrix.{Vector, vector}
 use Rattle.sparse.specs.Matrix.{Compressed, matrix}
@@ -30,7 +29,7 @@ use Rattle.stages.specs.Stages.{heldPlan}
 use Rattle.stages.specs.Staged.{heldSet}
 use Rattle.stages.specs.declared.Stages.{Stages}
 use Rattle.asking.specs.Asking.{isOpenAnswer, givenLine}
-use Rattle.asking.specs.Held.{lineOf, LineReady, heldAnswer, Answerable, Prints}
+use Rattle.asking.specs.Held.{lineOf, heldAnswer, Answerable, Answered}
 use Rattle.asking.proofs.Details.{question-small}
 
 -- ---- the lists of an answer have their lengths
@@ -81,7 +80,7 @@ module _ (p n m : ℕ) (A : Compressed) (s : Set) (y : List ℕ) where
 
 -- ---- the call on beginnings of x and z
 
-module _ (s : Stages) (A : Compressed) (R C : List ℕ) (L U : Compressed) (y x z out w : List ℕ) (d : Answerable s A R C L U y x z out w) where
+module _ (s : Stages) (A : Compressed) (R C : List ℕ) (L U : Compressed) (y x z w : List ℕ) (d : Answerable s A R C L U y x z w) where
   abbrev p : ℕ
   p = s .reading .p
 
@@ -114,7 +113,7 @@ module _ (s : Stages) (A : Compressed) (R C : List ℕ) (L U : Compressed) (y x 
     held : Answers (heldAnswer s A R C L U y) a (take n x) x′ (take m z) z′ w w′
     held =
         subst (λ (g : Given). Answers g a (take n x) x′ (take m z) z′ w w′)
-        (λ t. answerFactorsOf p n m plan set y (x-part t) (z-part t) (d .asked .work-length t)) h
+        (λ t. answerFactorsOf p n m plan set y (x-part t) (z-part t) (d .work-length t)) h
 
     x-cut : take n (x′ ++ drop n x) ≡ x′
     x-cut = take-at x′ (drop n x) n (x-same ∙ x-part)
@@ -122,34 +121,16 @@ module _ (s : Stages) (A : Compressed) (R C : List ℕ) (L U : Compressed) (y x 
     z-cut : take m (z′ ++ drop m z) ≡ z′
     z-cut = take-at z′ (drop m z) m (z-same ∙ z-part)
 
-    -- x and z as they are read again
-    pub x-fits-again : n ≤ length (x′ ++ drop n x)
-    x-fits-again = omega (arith, length-append x′ (drop n x), x-same, x-part)
-
-    pub z-fits-again : m ≤ length (z′ ++ drop m z)
-    z-fits-again = omega (arith, length-append z′ (drop m z), z-same, z-part)
-
-    pub x-again : length (take n (x′ ++ drop n x)) ≡ n
-    x-again = ap length x-cut ∙ x-same ∙ x-part
-
-    pub z-again : length (take m (z′ ++ drop m z)) ≡ m
-    z-again = ap length z-cut ∙ z-same ∙ z-part
-
-    pub line-ready : LineReady a (take n (x′ ++ drop n x)) (take m (z′ ++ drop m z)) out
-    line-ready =
-        record {
-          detail-small = omega (arith, held .detail, factors-detail p n m plan set y 2049 (omega (arith, d .rows-small)) (d .asked .few));
-          x-few = omega (arith, x-again, d .rows-small);
-          z-few = omega (arith, z-again, d .columns-small);
-          room = d .asked .room;
-        }
-
     the-line : lineOf a (take n (x′ ++ drop n x)) (take m (z′ ++ drop m z)) ≡ givenLine (heldAnswer s A R C L U y)
     the-line =
         let g = heldAnswer s A R C L U y in
         (λ t. lineOf (held .answer t) ((x-cut ∙ held .x-is ∙ ap (λ (k : ℕ). filled k (g .x)) x-part) t) ((z-cut ∙ held .z-is ∙ ap (λ (k : ℕ). filled k (g .z)) z-part) t))
         ∙ factors-line p n m plan set y
 
-    pub prints : (size : ℕ) (out′ : List ℕ) → Fills out out′ size (lineOf a (take n (x′ ++ drop n x)) (take m (z′ ++ drop m z)))
-        → Prints (givenLine (heldAnswer s A R C L U y)) size out out′ w w′
-    prints size out′ f = record { line-is = subst (Fills out out′ size) the-line f; cleared = held .cleared }
+    pub answered : Answered (heldAnswer s A R C L U y) a n m (x′ ++ drop n x) (z′ ++ drop m z) w w′
+    answered =
+        record {
+          line-is = the-line;
+          detail-small = omega (arith, held .detail, factors-detail p n m plan set y 2049 (omega (arith, d .rows-small)) (d .few));
+          cleared = held .cleared;
+        }

@@ -1,21 +1,24 @@
--- One law for each way out of asking: the reading refused, factoring refused, or the answer.
+-- One law for each way out of asking: the refusal that the stages ended with, or the answer.
 use mathlib.Core.Path.{_≡_, refl, sym, ap, _∙_, subst}
 use mathlib.Core.Bool.{Bool, true, false}
 use mathlib.Core.List.{List}
 use Prim.Native.Nat.{ℕ, _≤_, _<_}
 use native.Mathlib.Omega.{arith}
 use lib.Dec.{eqb}
-use lib.ListN.{length}
+use lib.ListN.{length, take}
 use borrow.Author.Tests.{eqb-true, eq-eqb, ne-eqb}
 use Rattle.lists.specs.Filled.{zeros}
-use Rattle.lists.specs.Refusals.{unless}
+use Rattle.lists.specs.Refusals.{unless, _▷_}
 use Rattle.lists.proofs.Filled.{length-zeros}
+use Rattle.lists.specs.declared.Outcome.{Outcome}
+use Rattle.lists.specs.declared.Outcome.the-variants.{Passed, Refused}
 use Rattle.byte_buffer.specs.Stored.{Fills}
 use Rattle.sparse.specs.Matrix.{Compressed}
 use Rattle.plan_text.specs.Call.{ReadAnswer}
 use Rattle.plan_text.specs.declared.Reading.{Reading}
-use Rattle.factoring.specs.Outcome.{Outcome}
-use Rattle.call_tests.specs.Limits.{workLength}
+use Rattle.factoring.specs.Outcome.{Outcome as Factoring}
+use Rattle.call_tests.specs.Limits.{largestSize, workLength}
+use Rattle.answer_calls.specs.declared.Answer.{Answer}
 use Rattle.answer_calls.specs.Calls.{answerFactorsOf}
 use Rattle.report_text.specs.Report.{refusalText}
 use Rattle.report_text.specs.Printed.{detailFromOne, countedFromOne, printed}
@@ -23,48 +26,101 @@ use Rattle.report_text.proofs.Room.{refusal-room}
 use Rattle.stages.specs.Stages.{reading, readOutcome, factoredOf, factorOutcome}
 use Rattle.stages.specs.Staged.{FactorsHeld, Staged}
 use Rattle.stages.specs.declared.Stages.{Stages}
-use Rattle.asking.specs.Asking.{answerFor, givenLine, askReadOf, askOf, Asks}
-use Rattle.asking.specs.Held.{heldAnswer, Answerable, Prints, stagedLine, StagedReady, InLists}
+use Rattle.asking.specs.Asking.{answerFor, givenLine, askReadOf, askOf, AskLists, Asks}
+use Rattle.asking.specs.Held.{lineOf, LineReady, heldAnswer, Answerable, Answered, Prints, stagesRefusal, stagedLine, StagedReady}
+
+-- ---- the refusal that the stages ended with
+
+module _ (s : Stages) where
+  abbrev factoringTold : Bool → Outcome
+  factoringTold b = countedFromOne 7 (unless b (s .factored .number) (s .factored .detail))
+
+  abbrev told : Bool → Bool → Outcome
+  told a b = unless a (s .reading .number) (s .reading .detail) ▷ factoringTold b
+
+  pub refused-reading : (s .reading .number ≡ 0 → ⊥) → Refused (s .reading .number) (s .reading .detail) ≡ stagesRefusal s
+  unfolding stagesRefusal
+  refused-reading z = ap (λ (a : Bool). told a (eqb (s .factored .number) 0)) (sym (ne-eqb (s .reading .number) 0 z))
+
+  pub refused-factoring : s .reading .number ≡ 0 → (s .factored .number ≡ 0 → ⊥) → (counted : ℕ) → counted ≡ detailFromOne 7 (s .factored .number) (s .factored .detail)
+      → Refused (s .factored .number) counted ≡ stagesRefusal s
+  unfolding stagesRefusal
+  refused-factoring done z counted e =
+      ap (Refused (s .factored .number)) e
+      ∙ (λ t. told (sym (eq-eqb (s .reading .number) 0 done) t) (sym (ne-eqb (s .factored .number) 0 z) t))
+
+  pub refused-nothing : s .reading .number ≡ 0 → s .factored .number ≡ 0 → Passed ≡ stagesRefusal s
+  unfolding stagesRefusal
+  refused-nothing done z = λ t. told (sym (eq-eqb (s .reading .number) 0 done) t) (sym (eq-eqb (s .factored .number) 0 z) t)
+
+  not-refused : (k d : ℕ) → Refused k d ≡ Passed → ⊥
+  not-refused k d e = subst (λ (o : Outcome). passes o) (sym e) tt
+    where
+      passes : Outcome → Type 0
+      passes Passed = Unit {0}
+      passes (Refused k d) = ⊥
+
+  read-done : stagesRefusal s ≡ Passed → s .reading .number ≡ 0
+  unfolding stagesRefusal
+  read-done = go (eqb (s .reading .number) 0) refl
+    where
+      go : (a : Bool) → eqb (s .reading .number) 0 ≡ a → told a (eqb (s .factored .number) 0) ≡ Passed → s .reading .number ≡ 0
+      go true q e = eqb-true (s .reading .number) 0 q
+      go false q e = absurd (not-refused (s .reading .number) (s .reading .detail) e)
 
 -- ---- the line of what the stages came to
 
-module _ (s : Stages) (A : Compressed) (R C : List ℕ) (L U : Compressed) (y x z out w : List ℕ) (d : StagedReady s A R C L U y x z out w) where
+printed-then : (o next : Outcome) (text : List ℕ) → printed o (printed next text) ≡ printed (o ▷ next) text
+printed-then Passed next text = refl
+printed-then (Refused k d) next text = refl
+
+module _ (s : Stages) (A : Compressed) (R C : List ℕ) (L U : Compressed) (y out w : List ℕ) (d : StagedReady s A R C L U y out w) (o : Outcome) (told-is : o ≡ stagesRefusal s) where
   abbrev answer : List ℕ
   answer = givenLine (heldAnswer s A R C L U y)
 
-  abbrev afterReading : List ℕ
-  afterReading = let f = s .factored in printed (countedFromOne 7 (unless (eqb (f .number) 0) (f .number) (f .detail))) answer
+  staged-is : printed o answer ≡ stagedLine s A R C L U y
+  unfolding stagedLine stagesRefusal
+  staged-is =
+      ap (λ (u : Outcome). printed u answer) told-is
+      ∙ sym (printed-then (readOutcome (s .reading)) (factoringTold s (eqb (s .factored .number) 0)) answer)
 
-  pub refusal-fits : (k e : ℕ) → length (refusalText k e) ≤ length out
-  refusal-fits k e = refusal-room k e out (d .room)
+  pub refused : (k e size : ℕ) (b : List ℕ) → o ≡ Refused k e → Fills out b size (refusalText k e) → Prints (stagedLine s A R C L U y) size out b w w
+  refused k e size b q g = record { line-is = subst (Fills out b size) (ap (λ (u : Outcome). printed u answer) (sym q) ∙ staged-is) g; cleared = d .clear }
 
-  read-line : (s .reading .number ≡ 0 → ⊥) → refusalText (s .reading .number) (s .reading .detail) ≡ stagedLine s A R C L U y
-  unfolding stagedLine
-  read-line z = ap (λ (b : Bool). printed (unless b (s .reading .number) (s .reading .detail)) afterReading) (sym (ne-eqb (s .reading .number) 0 z))
+  module _ (passed : o ≡ Passed) where
+    done : s .reading .number ≡ 0
+    done = read-done s (sym told-is ∙ passed)
 
-  pub read-refused : (s .reading .number ≡ 0 → ⊥) → (size : ℕ) (b : List ℕ) → Fills out b size (refusalText (s .reading .number) (s .reading .detail)) → Prints (stagedLine s A R C L U y) size out b w w
-  read-refused z size b g = record { line-is = subst (Fills out b size) (read-line z) g; cleared = d .clear }
+    pub answerable : (x z : List ℕ) → length x ≡ largestSize → length z ≡ largestSize → Answerable s A R C L U y x z w
+    answerable x z x-length z-length =
+        record {
+          fits = d .fits done;
+          rows-small = d .rows-small done;
+          columns-small = d .columns-small done;
+          x-length = x-length;
+          z-length = z-length;
+          few = d .asked .few;
+          work-length = d .asked .work-length;
+        }
 
-  module _ (done : s .reading .number ≡ 0) where
-    read-on : afterReading ≡ stagedLine s A R C L U y
-    unfolding stagedLine
-    read-on = ap (λ (b : Bool). printed (unless b (s .reading .number) (s .reading .detail)) afterReading) (sym (eq-eqb (s .reading .number) 0 done))
+    module _ (a : Answer) (x z w′ : List ℕ) (h : Answered (heldAnswer s A R C L U y) a (s .reading .n) (s .reading .m) x z w w′) where
+      pub line-ready : length x ≡ largestSize → length z ≡ largestSize → LineReady a (s .reading .n) (s .reading .m) x z out
+      line-ready x-length z-length =
+          record {
+            detail-small = h .detail-small;
+            x-few = d .rows-small done;
+            z-few = d .columns-small done;
+            x-length = x-length;
+            z-length = z-length;
+            room = d .asked .room;
+          }
 
-    pub detail-counts : s .factored .detail < 4294967295
-    detail-counts = omega (arith, d .detail-small done)
-
-    factor-line : (s .factored .number ≡ 0 → ⊥) → refusalText (s .factored .number) (detailFromOne 7 (s .factored .number) (s .factored .detail)) ≡ stagedLine s A R C L U y
-    factor-line z = ap (λ (b : Bool). printed (countedFromOne 7 (unless b (s .factored .number) (s .factored .detail))) answer) (sym (ne-eqb (s .factored .number) 0 z)) ∙ read-on
-
-    pub factor-refused : (s .factored .number ≡ 0 → ⊥) → (counted : ℕ) → counted ≡ detailFromOne 7 (s .factored .number) (s .factored .detail)
-        → (size : ℕ) (b : List ℕ) → Fills out b size (refusalText (s .factored .number) counted) → Prints (stagedLine s A R C L U y) size out b w w
-    factor-refused z counted e size b g = record { line-is = subst (Fills out b size) (ap (refusalText (s .factored .number)) e ∙ factor-line z) g; cleared = d .clear }
-
-    answer-line : s .factored .number ≡ 0 → answer ≡ stagedLine s A R C L U y
-    answer-line z = ap (λ (b : Bool). printed (countedFromOne 7 (unless b (s .factored .number) (s .factored .detail))) answer) (sym (eq-eqb (s .factored .number) 0 z)) ∙ read-on
-
-    pub answered : s .factored .number ≡ 0 → (size : ℕ) (b w′ : List ℕ) → Prints answer size out b w w′ → Prints (stagedLine s A R C L U y) size out b w w′
-    answered z size b w′ g = record { line-is = subst (Fills out b size) (answer-line z) (g .line-is); cleared = g .cleared }
+      pub answered : (size : ℕ) (b : List ℕ) → Fills out b size (lineOf a (take (s .reading .n) x) (take (s .reading .m) z)) → Prints (stagedLine s A R C L U y) size out b w w′
+      answered size b g =
+          record {
+            line-is = subst (Fills out b size) (h .line-is ∙ ap (λ (u : Outcome). printed u answer) (sym passed) ∙ staged-is) g;
+            cleared = h .cleared;
+          }
 
 -- ---- it is the text's
 
@@ -72,7 +128,7 @@ module _ (text y : List ℕ) (s : Stages) (A : Compressed) (R C : List ℕ) (L U
   abbrev r : ReadAnswer
   r = reading text
 
-  abbrev f : Outcome
+  abbrev f : Factoring
   f = factoredOf r
 
   abbrev ofText : List ℕ
@@ -116,23 +172,13 @@ module _ (text y : List ℕ) (s : Stages) (A : Compressed) (R C : List ℕ) (L U
   asks size b₀ b w′ g = record { answer = subst (Fills b₀ b size) same-line (g .line-is); cleared = g .cleared ∙ ap zeros work-length }
 
   -- what writing the line needs
-  module _ (A₀ : Compressed) (R₀ C₀ : List ℕ) (L₀ U₀ : Compressed) (x z out : List ℕ) (d : InLists A₀ R₀ C₀ L₀ U₀ y x z out w₀) (R-same : length R ≡ length R₀) (C-same : length C ≡ length C₀) where
-    answerable : s .reading .number ≡ 0 → Answerable s A R C L U y x z out w
-    answerable done =
-        record {
-          fits = factors done .fits;
-          rows-small = omega (arith, factors done .fits .R-fits, R-same, d .lists .set .R-length);
-          columns-small = omega (arith, factors done .fits .C-fits, C-same, d .lists .set .C-length);
-          x-length = d .x-length;
-          z-length = d .z-length;
-          asked = record { few = d .asked .few; room = d .asked .room; work-length = work-length ∙ d .asked .work-length };
-        }
-
-    pub staged-ready : StagedReady s A R C L U y x z out w
-    staged-ready =
-        record {
-          detail-small = λ done. factors done .detail-small;
-          answerable = answerable;
-          room = d .asked .room;
-          clear = h .cleared ∙ ap zeros (sym work-length);
-        }
+  pub staged-ready : (out : List ℕ) → AskLists y out w₀ → length R ≡ largestSize → length C ≡ largestSize → StagedReady s A R C L U y out w
+  staged-ready out d R-length C-length =
+      record {
+        countable = record { detail-small = λ done. factors done .detail-small };
+        fits = λ done. factors done .fits;
+        rows-small = λ done. omega (arith, factors done .fits .R-fits, R-length);
+        columns-small = λ done. omega (arith, factors done .fits .C-fits, C-length);
+        asked = record { few = d .few; room = d .room; work-length = work-length ∙ d .work-length };
+        clear = h .cleared ∙ ap zeros (sym work-length);
+      }

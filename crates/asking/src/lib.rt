@@ -1,21 +1,26 @@
 // The answer to a question about a plan's text.
+ghost use mathlib.Core.Path.{_≡_};
+ghost use lib.ListN.{take};
 ghost use Rattle.byte_buffer.specs.Stored.{Fills};
 ghost use Rattle.sparse.specs.Matrix.{compressed};
-ghost use Rattle.asking.specs.Asking.{givenLine, AskLists, Asks};
-ghost use Rattle.asking.specs.Held.{lineOf, LineReady, heldAnswer, Answerable, Prints, stagedLine, StagedReady, InLists};
+ghost use Rattle.asking.specs.Asking.{AskLists, Asks};
+ghost use Rattle.asking.specs.Held.{lineOf, LineReady, heldAnswer, Answerable, Answered, Prints, Countable, stagesRefusal, stagedLine, StagedReady};
 use answer_calls::Answer;
 use answer_calls::from_factors::answer_from_factors;
+use lists::Outcome;
 use report_text::answer::write_answer;
 use report_text::report::from_one;
 use report_text::report::write_refusal;
 use stages::Stages;
 use stages::factor_text;
 
-// Writes the line of an answer: of a refusal, whose index counts from 1 in print, or the verdict with x or z.
-fn write_line(answer: Answer, x: &[u32], z: &[u32], out: &mut [u8]) -> usize
-    requires { ⌜ LineReady answer (now x) (now z) (now out) ⌝ }
-    ensures { λ size. ⌜ Fills (now (out .entry)) (now (out .exit)) size (lineOf answer (now (x .entry)) (now (z .entry))) ⌝ }
+// Writes the line of an answer: of a refusal, whose index counts from 1 in print, or the verdict with the n values of x or the m of z.
+fn write_line(answer: Answer, n: u32, m: u32, xs: &[u32], zs: &[u32], out: &mut [u8]) -> usize
+    requires { ⌜ LineReady answer n m (now xs) (now zs) (now out) ⌝ }
+    ensures { λ size. ⌜ Fills (now (out .entry)) (now (out .exit)) size (lineOf answer (take n (now (xs .entry))) (take m (now (zs .entry)))) ⌝ }
 {
+    let x = &xs[..n as usize];
+    let z = &zs[..m as usize];
     match answer {
         Answer::Refused(number, detail) => {
             let counted = from_one(15, number, detail);
@@ -26,8 +31,23 @@ fn write_line(answer: Answer, x: &[u32], z: &[u32], out: &mut [u8]) -> usize
     }
 }
 
-// Answers from the plan and the set that the stages left in lists, and writes the answer's line.
-fn ask_held(
+// The refusal that the stages ended with, if any, as it is printed: a row counts from 1.
+fn refusal(s: Stages) -> Outcome
+    requires { ⌜ Countable s ⌝ }
+    ensures { λ o. ⌜ o ≡ stagesRefusal s ⌝ }
+{
+    if s.reading.number != 0 {
+        return Outcome::Refused(s.reading.number, s.reading.detail);
+    }
+    if s.factored.number != 0 {
+        let counted = from_one(7, s.factored.number, s.factored.detail);
+        return Outcome::Refused(s.factored.number, counted);
+    }
+    Outcome::Passed
+}
+
+// Answers from the plan and the set that the stages left in lists.
+fn answer_held(
     s: Stages,
     starts: &[u32],
     columns: &[u32],
@@ -43,11 +63,10 @@ fn ask_held(
     y: &[u32],
     x: &mut [u32],
     z: &mut [u32],
-    out: &mut [u8],
     work: &mut [u64],
-) -> usize
-    requires { ⌜ Answerable s (compressed (now starts) (now columns) (now values)) (now rows) (now cols) (compressed (now ls) (now lc) (now lv)) (compressed (now us) (now uc) (now uv)) (now y) (now x) (now z) (now out) (now work) ⌝ }
-    ensures { λ size. ⌜ Prints (givenLine (heldAnswer s (compressed (now (starts .entry)) (now (columns .entry)) (now (values .entry))) (now (rows .entry)) (now (cols .entry)) (compressed (now (ls .entry)) (now (lc .entry)) (now (lv .entry))) (compressed (now (us .entry)) (now (uc .entry)) (now (uv .entry))) (now (y .entry)))) size (now (out .entry)) (now (out .exit)) (now (work .entry)) (now (work .exit)) ⌝ }
+) -> Answer
+    requires { ⌜ Answerable s (compressed (now starts) (now columns) (now values)) (now rows) (now cols) (compressed (now ls) (now lc) (now lv)) (compressed (now us) (now uc) (now uv)) (now y) (now x) (now z) (now work) ⌝ }
+    ensures { λ a. ⌜ Answered (heldAnswer s (compressed (now (starts .entry)) (now (columns .entry)) (now (values .entry))) (now (rows .entry)) (now (cols .entry)) (compressed (now (ls .entry)) (now (lc .entry)) (now (lv .entry))) (compressed (now (us .entry)) (now (uc .entry)) (now (uv .entry))) (now (y .entry))) a (s .reading .n) (s .reading .m) (now (x .exit)) (now (z .exit)) (now (work .entry)) (now (work .exit)) ⌝ }
 {
     let n = s.reading.n as usize;
     let m = s.reading.m as usize;
@@ -55,7 +74,7 @@ fn ask_held(
     let rank = s.factored.rank as usize;
     let lower = s.lower as usize;
     let upper = s.upper as usize;
-    let answer = answer_from_factors(
+    answer_from_factors(
         s.reading.p,
         s.reading.n,
         s.reading.m,
@@ -75,8 +94,7 @@ fn ask_held(
         &mut x[..n],
         &mut z[..m],
         work,
-    );
-    write_line(answer, &x[..n], &z[..m], out)
+    )
 }
 
 // Writes the line of what the stages came to: of the refusal that they ended with, or of the answer.
@@ -94,22 +112,19 @@ fn ask_staged(
     uc: &[u32],
     uv: &[u32],
     y: &[u32],
-    x: &mut [u32],
-    z: &mut [u32],
     out: &mut [u8],
     work: &mut [u64],
 ) -> usize
-    requires { ⌜ StagedReady s (compressed (now starts) (now columns) (now values)) (now rows) (now cols) (compressed (now ls) (now lc) (now lv)) (compressed (now us) (now uc) (now uv)) (now y) (now x) (now z) (now out) (now work) ⌝ }
+    requires { ⌜ StagedReady s (compressed (now starts) (now columns) (now values)) (now rows) (now cols) (compressed (now ls) (now lc) (now lv)) (compressed (now us) (now uc) (now uv)) (now y) (now out) (now work) ⌝ }
     ensures { λ size. ⌜ Prints (stagedLine s (compressed (now (starts .entry)) (now (columns .entry)) (now (values .entry))) (now (rows .entry)) (now (cols .entry)) (compressed (now (ls .entry)) (now (lc .entry)) (now (lv .entry))) (compressed (now (us .entry)) (now (uc .entry)) (now (uv .entry))) (now (y .entry))) size (now (out .entry)) (now (out .exit)) (now (work .entry)) (now (work .exit)) ⌝ }
 {
-    if s.reading.number != 0 {
-        return write_refusal(s.reading.number, s.reading.detail, out);
+    let refused = refusal(s);
+    if let Outcome::Refused(number, detail) = refused {
+        return write_refusal(number, detail, out);
     }
-    if s.factored.number != 0 {
-        let counted = from_one(7, s.factored.number, s.factored.detail);
-        return write_refusal(s.factored.number, counted, out);
-    }
-    ask_held(
+    let mut x = [0u32; 2048];
+    let mut z = [0u32; 2048];
+    let answer = answer_held(
         s,
         starts,
         columns,
@@ -123,70 +138,11 @@ fn ask_staged(
         uc,
         uv,
         y,
-        x,
-        z,
-        out,
-        work,
-    )
-}
-
-// Reads a plan's text, factors the plan and answers, in lists of the largest lengths.
-fn ask_in(
-    text: &[u8],
-    y: &[u32],
-    starts: &mut [u32],
-    columns: &mut [u32],
-    values: &mut [u32],
-    rows: &mut [u32],
-    cols: &mut [u32],
-    ls: &mut [u32],
-    lc: &mut [u32],
-    lv: &mut [u32],
-    us: &mut [u32],
-    uc: &mut [u32],
-    uv: &mut [u32],
-    x: &mut [u32],
-    z: &mut [u32],
-    out: &mut [u8],
-    work: &mut [u64],
-) -> usize
-    requires { ⌜ InLists (compressed (now starts) (now columns) (now values)) (now rows) (now cols) (compressed (now ls) (now lc) (now lv)) (compressed (now us) (now uc) (now uv)) (now y) (now x) (now z) (now out) (now work) ⌝ }
-    ensures { λ size. ⌜ Asks (now (text .entry)) (now (y .entry)) size (now (out .entry)) (now (out .exit)) (now (work .entry)) (now (work .exit)) ⌝ }
-{
-    let s = factor_text(
-        text,
-        starts,
-        columns,
-        values,
-        rows,
-        cols,
-        ls,
-        lc,
-        lv,
-        us,
-        uc,
-        uv,
+        &mut x,
+        &mut z,
         work,
     );
-    ask_staged(
-        s,
-        starts,
-        columns,
-        values,
-        rows,
-        cols,
-        ls,
-        lc,
-        lv,
-        us,
-        uc,
-        uv,
-        y,
-        x,
-        z,
-        out,
-        work,
-    )
+    write_line(answer, s.reading.n, s.reading.m, &x, &z, out)
 }
 
 // Reads a plan's text, factors the plan, answers a question, and writes what the question program prints.
@@ -208,11 +164,8 @@ pub fn ask(text: &[u8], y: &[u32], out: &mut [u8], work: &mut [u64]) -> usize
     let mut us = [0u32; 2049];
     let mut uc = [0u32; 16384];
     let mut uv = [0u32; 16384];
-    let mut x = [0u32; 2048];
-    let mut z = [0u32; 2048];
-    ask_in(
+    let s = factor_text(
         text,
-        y,
         &mut starts,
         &mut columns,
         &mut values,
@@ -224,8 +177,22 @@ pub fn ask(text: &[u8], y: &[u32], out: &mut [u8], work: &mut [u64]) -> usize
         &mut us,
         &mut uc,
         &mut uv,
-        &mut x,
-        &mut z,
+        work,
+    );
+    ask_staged(
+        s,
+        &starts,
+        &columns,
+        &values,
+        &rows,
+        &cols,
+        &ls,
+        &lc,
+        &lv,
+        &us,
+        &uc,
+        &uv,
+        y,
         out,
         work,
     )

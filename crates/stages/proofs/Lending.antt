@@ -1,9 +1,9 @@
 -- Beginnings of the lists are lent to factoring: they have the lengths that it takes, and what it leaves in them is found there.
-use mathlib.Core.Path.{_≡_, sym, _∙_, subst}
+use mathlib.Core.Path.{_≡_, sym, ap, _∙_, subst}
 use mathlib.Core.List.{List, _++_}
 use Prim.Native.Nat.{ℕ, _+_}
 use native.Mathlib.Omega.{arith}
-use lib.ListN.{length, take, drop}
+use lib.ListN.{length, take, drop, length-append, take-append-drop}
 use lib.Seq.{length-take-le, take-at}
 use Rattle.sparse.specs.Matrix.{Compressed, compressed}
 use Rattle.plan_text.specs.declared.Reading.{Reading}
@@ -13,6 +13,14 @@ use Rattle.factor_calls.specs.Calls.{factorCallOf}
 use Rattle.factor_calls.specs.declared.Lent.{Lent}
 use Rattle.stages.specs.Stages.{heldPlan, lentFor}
 use Rattle.stages.specs.Lists.{Lendable}
+
+-- a list has its length again when a beginning that was lent comes back
+pub back : (n : ℕ) (l l′ : List ℕ) → length l′ ≡ length (take n l) → length (l′ ++ drop n l) ≡ length l
+back n l l′ e =
+    length-append l′ (drop n l)
+    ∙ ap (λ (k : ℕ). k + length (drop n l)) e
+    ∙ sym (length-append (take n l) (drop n l))
+    ∙ ap length (take-append-drop n l)
 
 module _ (r : Reading) (A : Compressed) (R C : List ℕ) (L U : Compressed) (w : List ℕ) (d : Lendable r A R C L U w) where
   pub R-part : length (take (r .n) R) ≡ r .n

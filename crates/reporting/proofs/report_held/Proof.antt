@@ -17,13 +17,13 @@ write-refusal-requires : tie.Need-write-refusal-requires
 write-refusal-requires c κs = let s = c .before .before .before .before .before .before .before .before .before .before .before .before .before .before .before .before .before .before .before .before .before .before .before .before .before in refusal-room _ _ (s .args .out .now) (s .pre .room)
 
 same-length : tie.Need-same-length
-same-length c = search needs
+same-length c = c .before .before .before .before .before .before .before .before .before .before .before .list-held .kept .1 .1 .1 .1 .1 .1 .1 .1 .1 .1 .1 .1 .0
 
 same-length-2 : tie.Need-same-length-2
-same-length-2 c = search needs
+same-length-2 c = c .before .before .write-refusal .kept .1 .1 .0
 
 same-length-3 : tie.Need-same-length-3
-same-length-3 c = search needs
+same-length-3 c = c .before .before .before .before .before .before .before .before .before .before .before .list-held .kept .1 .1 .1 .1 .1 .1 .1 .1 .1 .1 .1 .1 .1 .0
 
 returns : tie.Need-returns
 returns c = let s = c .before .before .before .before .before .before .before .before .before .before .before .before .before .before .before .before .before .before .before .before .before .before .before .before .before .before .before .before in let x = c .before .before .before .before .before .before .before .before .before .before .before .list-held in columns-refused _ (compressed _ _ _) _ _ (compressed _ _ _) (compressed _ _ _) _ _ _ (s .pre) (x .result) _ _ (x .ensures) _ _ _ _ (c .before .before .before .before .before .listed .given .1) (c .before .before .write-refusal .ensures)
@@ -38,13 +38,13 @@ write-report-requires : tie.Need-write-report-requires
 write-report-requires c κs = let s = c .before .before .before .before .before .before .before .before .before .before .before .before .before .before .before .before .before .before .before .before .before .before .before .before .before .before in report-room _ _ _ (omega (arith, s .pre .marks-length, s .pre .columns-small, c .before .before .before .before .before .before .before .before .before .list-held .kept .1 .1 .1 .1 .1 .1 .1 .1 .1 .1 .1 .1 .0)) (s .pre .room)
 
 same-length-4 : tie.Need-same-length-4
-same-length-4 c = search needs
+same-length-4 c = c .before .before .before .before .before .before .before .before .before .before .before .before .list-held .kept .1 .1 .1 .1 .1 .1 .1 .1 .1 .1 .1 .1 .0
 
 same-length-5 : tie.Need-same-length-5
-same-length-5 c = search needs
+same-length-5 c = c .before .before .write-report .kept .1 .1 .0
 
 same-length-6 : tie.Need-same-length-6
-same-length-6 c = search needs
+same-length-6 c = c .before .before .before .before .before .before .before .before .before .before .before .before .list-held .kept .1 .1 .1 .1 .1 .1 .1 .1 .1 .1 .1 .1 .1 .0
 
 returns-2 : tie.Need-returns-2
 returns-2 c = let s = c .before .before .before .before .before .before .before .before .before .before .before .before .before .before .before .before .before .before .before .before .before .before .before .before .before .before .before .before .before in let x = c .before .before .before .before .before .before .before .before .before .before .before .before .list-held in columns-listed _ (compressed _ _ _) _ _ (compressed _ _ _) (compressed _ _ _) _ _ _ (s .pre) (x .result) _ _ (x .ensures) _ _ _ (c .before .before .before .before .before .before .enum-told .given .1) (c .before .before .before .before .before .summary .ensures) (c .before .before .write-report .ensures)

@@ -4,6 +4,7 @@ use native.Mathlib.Omega.{arith}
 use lib.Seq.{length-take-le}
 use Rattle.sparse.specs.Matrix.{compressed}
 use Rattle.report_text.proofs.Room.{refusal-room}
+use Rattle.stages.proofs.Lending.{back}
 use Rattle.reporting.proofs.Printing.{read-refused, factoring-refused, factoring-done}
 use borrow.Author.Needs.{needs}
 use Rattle.reporting.proofs.report_staged.Statement.{statement}
@@ -13,7 +14,7 @@ write-refusal-requires : tie.Need-write-refusal-requires
 write-refusal-requires c κs = let s = c .before .before .before .before .before .before .before .before .before .before .before .before .before .before .before .before .before .before .before in refusal-room _ _ (s .args .out .now) (s .pre .room)
 
 same-length : tie.Need-same-length
-same-length c = search needs
+same-length c = c .before .before .write-refusal .kept .1 .1 .0
 
 returns : tie.Need-returns
 returns c = let s = c .before .before .before .before .before .before .before .before .before .before .before .before .before .before .before .before .before .before .before .before .before .before in read-refused _ (compressed _ _ _) _ _ (compressed _ _ _) (compressed _ _ _) _ _ _ _ (c .before .before .before .before .if1 .taken) (s .pre .clear) (c .before .before .write-refusal .ensures)
@@ -25,7 +26,7 @@ write-refusal-requires-2 : tie.Need-write-refusal-requires-2
 write-refusal-requires-2 c κs = let s = c .before .before .before .before .before .before .before .before .before .before .before .before .before .before .before .before .before .before .before .before .before .before in refusal-room _ _ (s .args .out .now) (s .pre .room)
 
 same-length-2 : tie.Need-same-length-2
-same-length-2 c = search needs
+same-length-2 c = c .before .before .write-refusal2 .kept .1 .1 .0
 
 returns-2 : tie.Need-returns-2
 returns-2 c = let s = c .before .before .before .before .before .before .before .before .before .before .before .before .before .before .before .before .before .before .before .before .before .before .before .before .before in factoring-refused _ (compressed _ _ _) _ _ (compressed _ _ _) (compressed _ _ _) _ _ _ _ _ (c .before .before .before .before .before .before .before .if1 .left) (c .before .before .before .before .before .if2 .taken) (s .pre .clear) (c .before .before .before .before .from-one .ensures) (c .before .before .write-refusal2 .ensures)
@@ -43,13 +44,13 @@ report-held-requires : tie.Need-report-held-requires
 report-held-requires c κs = let s = c .before .before .before .before .before .before .before .before .before .before .before .before .before .before .before .before .before .before .before .before .before .before .before .before in let z = c .before .before .before .before .before .before .if1 .left in record { fits = s .pre .fits z; columns-small = s .pre .columns-small z; marks-length = length-take-le _ _ (omega (arith, s .pre .marks-length, s .pre .columns-small z)); room = s .pre .room; work-length = s .pre .work-length }
 
 same-length-3 : tie.Need-same-length-3
-same-length-3 c = search needs
+same-length-3 c = let s = c .before .before .before .before .before .before .before .before .before .before .before .before .before .before .before .before .before .before .before .before .before .before .before .before .before .before .before .before .before .before .before in let x = c .before .before .before .before .before .before .report-held in back (s .args .s .reading .m) (s .args .marks .now) (x .last .1 .1 .1 .1 .1 .1 .1 .1 .1 .1 .1 .1 .0) (x .kept .1 .1 .1 .1 .1 .1 .1 .1 .1 .1 .1 .1 .0)
 
 same-length-4 : tie.Need-same-length-4
-same-length-4 c = search needs
+same-length-4 c = c .before .before .before .before .before .before .report-held .kept .1 .1 .1 .1 .1 .1 .1 .1 .1 .1 .1 .1 .1 .0
 
 same-length-5 : tie.Need-same-length-5
-same-length-5 c = search needs
+same-length-5 c = c .before .before .before .before .before .before .report-held .kept .1 .1 .1 .1 .1 .1 .1 .1 .1 .1 .1 .1 .1 .1 .0
 
 returns-3 : tie.Need-returns-3
 returns-3 c = factoring-done _ (compressed _ _ _) _ _ (compressed _ _ _) (compressed _ _ _) _ _ _ _ _ (c .before .before .before .before .before .before .before .before .before .before .before .before .before .if1 .left) (c .before .before .before .before .before .before .before .before .before .before .before .if2 .left) (c .before .before .before .before .before .before .report-held .ensures)
