@@ -74,23 +74,24 @@ fn answer_parts(
     let g = places.ucols;
     let h = places.uvals;
     let i = places.end;
+    let none: &[u32] = &[];
     answer(
         q,
-        &[],
+        none,
         &cert[a..b],
-        &[],
+        none,
         &cert[b..c],
-        &[],
+        none,
         &cert[c..d],
-        &[],
+        none,
         &cert[d..e],
-        &[],
+        none,
         &cert[e..f],
-        &[],
+        none,
         &cert[f..g],
-        &[],
+        none,
         &cert[g..h],
-        &[],
+        none,
         &cert[h..i],
         r as usize,
         y,

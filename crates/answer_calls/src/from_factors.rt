@@ -92,24 +92,25 @@ fn answer_stored(
     ensures { λ v. ⌜ Answered (solve p (length (now (x .entry))) (length (now (z .entry))) (setOf r (now (ro .entry)) (now (co .entry)) (compressed (now (ls .entry)) (now (lc .entry)) (now (lv .entry))) (compressed (now (us .entry)) (now (uc .entry)) (now (uv .entry)))) (vector (now (y .entry)))) v (now (x .exit)) (now (z .exit)) (now (work .exit)) ⌝ }
 {
     let q = Modulus { p };
+    let none: &[u8] = b"";
     answer(
         q,
         ro,
-        b"",
+        none,
         co,
-        b"",
+        none,
         ls,
-        b"",
+        none,
         lc,
-        b"",
+        none,
         lv,
-        b"",
+        none,
         us,
-        b"",
+        none,
         uc,
-        b"",
+        none,
         uv,
-        b"",
+        none,
         r as usize,
         y,
         x,

@@ -1,5 +1,5 @@
 -- One law for each way out of the tests that come before the set, and what a plan that passed them is.
-use mathlib.Core.Path.{_≡_, refl, sym, ap, _∙_}
+use mathlib.Core.Path.{_≡_, refl, sym, subst, ap, _∙_}
 use mathlib.Core.Bool.{Bool, true, false, _&&_}
 use mathlib.Core.List.{List}
 use Prim.Native.Nat.{ℕ, _+_, _≤_, _<_}
@@ -151,6 +151,10 @@ checkable p n m A s w g z wide clear =
       columns-fit = omega (arith, g .few-columns);
       cleared = clear;
     }
+
+-- a plan and a set that are equal to such
+pub checkable-as : (p n m : ℕ) (A A′ : Compressed) (s s′ : Set) (w : List ℕ) → A ≡ A′ → s ≡ s′ → Checkable p n m A′ s′ w → Checkable p n m A s w
+checkable-as p n m A A′ s s′ w e f h = subst (λ (B : Compressed). Checkable p n m B s w) (sym e) (subst (λ (t : Set). Checkable p n m A′ t w) (sym f) h)
 
 pub factors-good : (p n m : ℕ) (A : Compressed) (s : Set) (w : ℕ) → factorsOutcome p n m A s w ≡ Passed → GoodPlan p n m A × Sized n m s × (w ≡ workLength)
 unfolding factorsOutcome

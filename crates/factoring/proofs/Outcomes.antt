@@ -2,7 +2,7 @@
 use mathlib.Core.Path.{_≡_, refl, sym, ap, _∙_}
 use mathlib.Core.Bool.{Bool, true, false}
 use mathlib.Core.List.{List, _++_}
-use Prim.Native.Nat.{ℕ, _≤_, _<_}
+use Prim.Native.Nat.{ℕ, _<_, _^_}
 use native.Mathlib.Omega.{arith}
 use lib.ListN.{length}
 use Rattle.lists.specs.Filled.{zeros, filled}
@@ -90,6 +90,10 @@ module _ (p s : ℕ) (A : Compressed) (R C : List ℕ) (L U : Compressed) (w : L
   abbrev outcome : ℕ → ℕ → Outcome
   outcome roomL roomU = factoringFrom p n m (matrix A) roomL roomU pairs
 
+  -- the number of pairs fits 32 bits
+  pub from-pairs : s < 2 ^ 32
+  from-pairs = omega (arith, h .lists .n-narrow, h .rows-inside)
+
   small : (i j : ℕ) → i < n → j < m → matrix A i j < p
   small i j a b = form-below p m (A .starts) (A .cols) (A .vals) (h .lists .formed) i j (omega (arith, h .lists .prime .two))
 
@@ -136,5 +140,5 @@ module _ (p s : ℕ) (A : Compressed) (R C : List ℕ) (L U : Compressed) (w : L
             (leaves-done s m r f R₂ C₂ L₂ U₁ w₂ (q .state e .rank) (rw eC at (d f total (found eR eC (el ∙ sym elc))))
             (holds-filled (uppersOf f) at U₁ (q .state e .upper) (q .state e .U-entries ∙ entries-values (uppersOf f))) (zeros-self w₂ (length w₁) z))
 
-      pub from-rank : r ≤ m
-      from-rank = omega (arith, q .state e .rank, rank-most p n m (matrix A) f (schedule-holds p n m (matrix A) (h .lists .prime) small pairs (h .pairs)))
+      pub from-rank : r < 2 ^ 32
+      from-rank = omega (arith, h .lists .m-narrow, q .state e .rank, rank-most p n m (matrix A) f (schedule-holds p n m (matrix A) (h .lists .prime) small pairs (h .pairs)))

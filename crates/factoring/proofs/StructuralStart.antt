@@ -58,6 +58,9 @@ module _ (p n m : ℕ) (A : Compressed) (R C : List ℕ) (L U : Compressed) (w :
     again : part ++ drop m w ≡ w
     again = whole-again w (h .lists .clear) m m-fits part (d .cleared ∙ ap zeros (h .m-columns))
 
+    pub start-long : length (part ++ drop m w) ≡ length w
+    start-long = ap length again
+
     rows-many : s ≡ length (pairRows ps)
     rows-many = d .count ∙ sym (length-map ps (λ q. q .row))
 

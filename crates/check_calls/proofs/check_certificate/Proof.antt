@@ -17,7 +17,7 @@ use Rattle.certificate.proofs.Views.{header-fits, set-of-parts, part}
 use Rattle.call_tests.specs.Limits.{workLength}
 use Rattle.call_tests.proofs.Lists.{viewed-lists}
 use Rattle.check_calls.specs.Calls.{certificateOutcome, checkCertificateOf}
-use Rattle.check_calls.proofs.Tested.{GoodPlan, checkable, certificate-good}
+use Rattle.check_calls.proofs.Tested.{GoodPlan, checkable, checkable-as, certificate-good}
 use borrow.Author.Needs.{needs}
 use Rattle.check_calls.proofs.check_certificate.Statement.{statement}
 use Rattle.check_calls.proofs.check_certificate.Tie as tie
@@ -61,7 +61,7 @@ enum-told-2 : tie.Need-enum-told-2
 enum-told-2 c = search needs
 
 same-length : tie.Need-same-length
-same-length c = search needs
+same-length c = c .before .before .before .before .before .clear-row .kept .0
 
 returns : tie.Need-returns
 unfolding checkCertificateOf
@@ -77,122 +77,95 @@ places-in-requires c κs = let s = start (c .before .before) in headed (s .args 
 number-requires : tie.Need-number-requires
 number-requires c κs = let t = c .before in let s = start (t .before .before) in (omega arith, header-fits (s .args .n) (s .args .m) (s .args .cert .now) (headed (s .args .p) (s .args .n) (s .args .m) (s .args .cert .now) (good t .1) .long))
 
-slice-aggregate-check : tie.Need-slice-aggregate-check
-slice-aggregate-check c = search needs
+slice-aggregate-none : tie.Need-slice-aggregate-none
+slice-aggregate-none c = search needs
 
-slice-aggregate-check-2 : tie.Need-slice-aggregate-check-2
-slice-aggregate-check-2 c = search needs
-
-slice-aggregate-check-3 : tie.Need-slice-aggregate-check-3
-slice-aggregate-check-3 c = search needs
-
-slice-aggregate-check-4 : tie.Need-slice-aggregate-check-4
-slice-aggregate-check-4 c = search needs
+slice-aggregate-empty : tie.Need-slice-aggregate-empty
+slice-aggregate-empty c = search needs
 
 sub-check : tie.Need-sub-check
-sub-check c = search needs
+sub-check c = c .before .before .before .places-in .ensures .rows
 
 part-check-start : tie.Need-part-check-start
-part-check-start c = search needs
+part-check-start c = c .before .before .before .places-in .ensures .rows
 
 part-check-end : tie.Need-part-check-end
-part-check-end c = search needs
-
-slice-aggregate-check-5 : tie.Need-slice-aggregate-check-5
-slice-aggregate-check-5 c = search needs
+part-check-end c = let q = c .before .before .before .places-in .ensures in omega (arith, q .cols, q .lstarts, q .lcols, q .lvals, q .ustarts, q .ucols, q .uvals, q .end)
 
 sub-check-2 : tie.Need-sub-check-2
-sub-check-2 c = search needs
+sub-check-2 c = c .before .before .before .before .places-in .ensures .cols
 
 part-check-start-2 : tie.Need-part-check-start-2
-part-check-start-2 c = search needs
+part-check-start-2 c = c .before .before .before .before .places-in .ensures .cols
 
 part-check-end-2 : tie.Need-part-check-end-2
-part-check-end-2 c = search needs
-
-slice-aggregate-check-6 : tie.Need-slice-aggregate-check-6
-slice-aggregate-check-6 c = search needs
+part-check-end-2 c = let q = c .before .before .before .before .places-in .ensures in omega (arith, q .lstarts, q .lcols, q .lvals, q .ustarts, q .ucols, q .uvals, q .end)
 
 sub-check-3 : tie.Need-sub-check-3
-sub-check-3 c = search needs
+sub-check-3 c = c .before .before .before .before .before .places-in .ensures .lstarts
 
 part-check-start-3 : tie.Need-part-check-start-3
-part-check-start-3 c = search needs
+part-check-start-3 c = c .before .before .before .before .before .places-in .ensures .lstarts
 
 part-check-end-3 : tie.Need-part-check-end-3
-part-check-end-3 c = search needs
-
-slice-aggregate-check-7 : tie.Need-slice-aggregate-check-7
-slice-aggregate-check-7 c = search needs
+part-check-end-3 c = let q = c .before .before .before .before .before .places-in .ensures in omega (arith, q .lcols, q .lvals, q .ustarts, q .ucols, q .uvals, q .end)
 
 sub-check-4 : tie.Need-sub-check-4
-sub-check-4 c = search needs
+sub-check-4 c = c .before .before .before .before .before .before .places-in .ensures .lcols
 
 part-check-start-4 : tie.Need-part-check-start-4
-part-check-start-4 c = search needs
+part-check-start-4 c = c .before .before .before .before .before .before .places-in .ensures .lcols
 
 part-check-end-4 : tie.Need-part-check-end-4
-part-check-end-4 c = search needs
-
-slice-aggregate-check-8 : tie.Need-slice-aggregate-check-8
-slice-aggregate-check-8 c = search needs
+part-check-end-4 c = let q = c .before .before .before .before .before .before .places-in .ensures in omega (arith, q .lvals, q .ustarts, q .ucols, q .uvals, q .end)
 
 sub-check-5 : tie.Need-sub-check-5
-sub-check-5 c = search needs
+sub-check-5 c = c .before .before .before .before .before .before .before .places-in .ensures .lvals
 
 part-check-start-5 : tie.Need-part-check-start-5
-part-check-start-5 c = search needs
+part-check-start-5 c = c .before .before .before .before .before .before .before .places-in .ensures .lvals
 
 part-check-end-5 : tie.Need-part-check-end-5
-part-check-end-5 c = search needs
-
-slice-aggregate-check-9 : tie.Need-slice-aggregate-check-9
-slice-aggregate-check-9 c = search needs
+part-check-end-5 c = let q = c .before .before .before .before .before .before .before .places-in .ensures in omega (arith, q .ustarts, q .ucols, q .uvals, q .end)
 
 sub-check-6 : tie.Need-sub-check-6
-sub-check-6 c = search needs
+sub-check-6 c = c .before .before .before .before .before .before .before .before .places-in .ensures .ustarts
 
 part-check-start-6 : tie.Need-part-check-start-6
-part-check-start-6 c = search needs
+part-check-start-6 c = c .before .before .before .before .before .before .before .before .places-in .ensures .ustarts
 
 part-check-end-6 : tie.Need-part-check-end-6
-part-check-end-6 c = search needs
-
-slice-aggregate-check-10 : tie.Need-slice-aggregate-check-10
-slice-aggregate-check-10 c = search needs
+part-check-end-6 c = let q = c .before .before .before .before .before .before .before .before .places-in .ensures in omega (arith, q .ucols, q .uvals, q .end)
 
 sub-check-7 : tie.Need-sub-check-7
-sub-check-7 c = search needs
+sub-check-7 c = c .before .before .before .before .before .before .before .before .before .places-in .ensures .ucols
 
 part-check-start-7 : tie.Need-part-check-start-7
-part-check-start-7 c = search needs
+part-check-start-7 c = c .before .before .before .before .before .before .before .before .before .places-in .ensures .ucols
 
 part-check-end-7 : tie.Need-part-check-end-7
-part-check-end-7 c = let l = c .before .before .before .before .before .before .before .before .before .before .before .before .before .before .before .before .before .places-in .ensures in omega (arith, l .uvals, l .end)
-
-slice-aggregate-check-11 : tie.Need-slice-aggregate-check-11
-slice-aggregate-check-11 c = search needs
+part-check-end-7 c = let q = c .before .before .before .before .before .before .before .before .before .places-in .ensures in omega (arith, q .uvals, q .end)
 
 sub-check-8 : tie.Need-sub-check-8
-sub-check-8 c = search needs
+sub-check-8 c = c .before .before .before .before .before .before .before .before .before .before .places-in .ensures .uvals
 
 part-check-start-8 : tie.Need-part-check-start-8
-part-check-start-8 c = search needs
+part-check-start-8 c = c .before .before .before .before .before .before .before .before .before .before .places-in .ensures .uvals
 
 part-check-end-8 : tie.Need-part-check-end-8
-part-check-end-8 c = let l = c .before .before .before .before .before .before .before .before .before .before .before .before .before .before .before .before .before .before .before .places-in .ensures in omega (arith, l .end)
+part-check-end-8 c = let q = c .before .before .before .before .before .before .before .before .before .before .places-in .ensures in omega (arith, q .end)
 
 check-requires : tie.Need-check-requires
-check-requires c κs = let k = c .before .before .before .before .before .before .before .before .before .before .before .before .before .before .before .before .before .before .before .before in let t = k .before .before in let o = t .before .before in let s = start o in let (g, h, w) = good t in
-    rw (viewed-lists (s .args .ss .now) (s .args .cols .now) (s .args .vals .now), meant k)
+check-requires c κs = let k = c .before .before .before .before .before .before .before .before .before .before .before in let t = k .before .before in let o = t .before .before in let s = start o in let (g, h, w) = good t in
+    checkable-as (s .args .p) (s .args .n) (s .args .m) _ (plan s) _ (setOfCertificate (s .args .n) (s .args .m) (s .args .cert .now)) _ (viewed-lists (s .args .ss .now) (s .args .cols .now) (s .args .vals .now)) (meant k)
     (checkable (s .args .p) (s .args .n) (s .args .m) (plan s) (setOfCertificate (s .args .n) (s .args .m) (s .args .cert .now)) (o .before .before .before .clear-row .last .0) g (passed-sized (s .args .p) (s .args .n) (s .args .m) (s .args .cert .now) h) (wide o ∙ w) (o .before .before .before .clear-row .ensures ∙ ap zeros (sym (wide o))))
 
 same-length-2 : tie.Need-same-length-2
-same-length-2 c = let k = c .before .before in let o = k .before .before .before .before .before .before .before .before .before .before .before .before .before .before .before .before .before .before .before .before .before .before .before .before .before in ap length (k .check .ensures .1) ∙ wide o
+same-length-2 c = let k = c .before .before in ap length (k .check .ensures .1) ∙ wide (k .before .before .before .before .before .before .before .before .before .before .before .before .before .before .before .before)
 
 returns-2 : tie.Need-returns-2
 unfolding checkCertificateOf
-returns-2 c = let k = c .before .before in let u = k .before .before .before .before .before .before .before .before .before .before .before .before .before .before .before .before .before .before .before .before .before in let t = u .before .before in let o = t .before .before in let s = start o in
+returns-2 c = let k = c .before .before in let u = k .before .before .before .before .before .before .before .before .before .before .before .before in let t = u .before .before in let o = t .before .before in let s = start o in
     record {
       outcome =
           passed (o .certificate-outcome .result) (certificateOutcome (s .args .p) (s .args .n) (s .args .m) (plan s) (s .args .cert .now) (length (s .args .work .now))) (judge (s .args .p) (s .args .n) (s .args .m) (plan s) (setOfCertificate (s .args .n) (s .args .m) (s .args .cert .now))) (k .check .result) (t .enum-told .given .1) (tested o)
@@ -213,38 +186,29 @@ check-certificate-spec =
     returns
     places-in-requires
     number-requires
-    slice-aggregate-check
-    slice-aggregate-check-2
-    slice-aggregate-check-3
-    slice-aggregate-check-4
+    slice-aggregate-none
+    slice-aggregate-empty
     sub-check
     part-check-start
     part-check-end
-    slice-aggregate-check-5
     sub-check-2
     part-check-start-2
     part-check-end-2
-    slice-aggregate-check-6
     sub-check-3
     part-check-start-3
     part-check-end-3
-    slice-aggregate-check-7
     sub-check-4
     part-check-start-4
     part-check-end-4
-    slice-aggregate-check-8
     sub-check-5
     part-check-start-5
     part-check-end-5
-    slice-aggregate-check-9
     sub-check-6
     part-check-start-6
     part-check-end-6
-    slice-aggregate-check-10
     sub-check-7
     part-check-start-7
     part-check-end-7
-    slice-aggregate-check-11
     sub-check-8
     part-check-start-8
     part-check-end-8

@@ -44,7 +44,7 @@ enum-told-2 : tie.Need-enum-told-2
 enum-told-2 c = search needs
 
 same-length : tie.Need-same-length
-same-length c = search needs
+same-length c = c .before .before .before .before .before .clear-row .kept .0
 
 returns : tie.Need-returns
 unfolding checkFactorsOf
@@ -54,51 +54,21 @@ returns c = let o = c .before .before in let s = start o in
       cleared = o .before .before .before .clear-row .ensures;
     }
 
-slice-aggregate-check : tie.Need-slice-aggregate-check
-slice-aggregate-check c = search needs
-
-slice-aggregate-check-2 : tie.Need-slice-aggregate-check-2
-slice-aggregate-check-2 c = search needs
-
-slice-aggregate-check-3 : tie.Need-slice-aggregate-check-3
-slice-aggregate-check-3 c = search needs
-
-slice-aggregate-check-4 : tie.Need-slice-aggregate-check-4
-slice-aggregate-check-4 c = search needs
-
-slice-aggregate-check-5 : tie.Need-slice-aggregate-check-5
-slice-aggregate-check-5 c = search needs
-
-slice-aggregate-check-6 : tie.Need-slice-aggregate-check-6
-slice-aggregate-check-6 c = search needs
-
-slice-aggregate-check-7 : tie.Need-slice-aggregate-check-7
-slice-aggregate-check-7 c = search needs
-
-slice-aggregate-check-8 : tie.Need-slice-aggregate-check-8
-slice-aggregate-check-8 c = search needs
-
-slice-aggregate-check-9 : tie.Need-slice-aggregate-check-9
-slice-aggregate-check-9 c = search needs
-
-slice-aggregate-check-10 : tie.Need-slice-aggregate-check-10
-slice-aggregate-check-10 c = search needs
-
-slice-aggregate-check-11 : tie.Need-slice-aggregate-check-11
-slice-aggregate-check-11 c = search needs
+slice-aggregate-none : tie.Need-slice-aggregate-none
+slice-aggregate-none c = search needs
 
 check-requires : tie.Need-check-requires
-check-requires c κs = let t = c .before .before .before .before .before .before .before .before .before .before .before .before in let o = t .before .before in let s = start o in
+check-requires c κs = let t = c .before .before in let o = t .before .before in let s = start o in
     let (g, z, w) = factors-good (s .args .p) (s .args .n) (s .args .m) (plan s) (set s) (length (s .args .work .now)) (sym (tested o) ∙ t .enum-told .given .1) in
     from-lists (λ A s′. Checkable (s .args .p) (s .args .n) (s .args .m) A s′ (o .before .before .before .clear-row .last .0)) (s .args .ss .now) (s .args .cols .now) (s .args .vals .now) (s .args .r) (s .args .ro .now) (s .args .co .now) (s .args .ls .now) (s .args .lc .now) (s .args .lv .now) (s .args .us .now) (s .args .uc .now) (s .args .uv .now)
     (checkable (s .args .p) (s .args .n) (s .args .m) (plan s) (set s) (o .before .before .before .clear-row .last .0) g z (wide o ∙ w) (o .before .before .before .clear-row .ensures ∙ ap zeros (sym (wide o))))
 
 same-length-2 : tie.Need-same-length-2
-same-length-2 c = search needs
+same-length-2 c = let k = c .before .before in ap length (k .check .ensures .1) ∙ wide (k .before .before .before .before .before)
 
 returns-2 : tie.Need-returns-2
 unfolding checkFactorsOf
-returns-2 c = let k = c .before .before in let t = k .before .before .before .before .before .before .before .before .before .before .before .before .before in let o = t .before .before in let s = start o in
+returns-2 c = let k = c .before .before in let t = k .before .before .before in let o = t .before .before in let s = start o in
     record {
       outcome =
           passed (o .factors-outcome .result) (factorsOutcome (s .args .p) (s .args .n) (s .args .m) (plan s) (set s) (length (s .args .work .now))) (judge (s .args .p) (s .args .n) (s .args .m) (plan s) (set s)) (k .check .result) (t .enum-told .given .1) (tested o)
@@ -116,17 +86,7 @@ check-factors-spec =
     enum-told-2
     same-length
     returns
-    slice-aggregate-check
-    slice-aggregate-check-2
-    slice-aggregate-check-3
-    slice-aggregate-check-4
-    slice-aggregate-check-5
-    slice-aggregate-check-6
-    slice-aggregate-check-7
-    slice-aggregate-check-8
-    slice-aggregate-check-9
-    slice-aggregate-check-10
-    slice-aggregate-check-11
+    slice-aggregate-none
     check-requires
     same-length-2
     returns-2)

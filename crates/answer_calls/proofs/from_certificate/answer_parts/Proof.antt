@@ -32,120 +32,99 @@ places-in-requires c κs = c .before .before .before .before .before .pre .long
 number-requires : tie.Need-number-requires
 number-requires c κs = let s = c .before .before .before .before .before .before in (omega arith, header-fits (s .args .n) (s .args .m) (s .args .cert .now) (s .pre .long))
 
-slice-aggregate-answer : tie.Need-slice-aggregate-answer
-slice-aggregate-answer c = search needs
+slice-aggregate-none : tie.Need-slice-aggregate-none
+slice-aggregate-none c = search needs
 
 sub-answer : tie.Need-sub-answer
-sub-answer c = search needs
+sub-answer c = c .before .before .places-in .ensures .rows
 
 part-answer-start : tie.Need-part-answer-start
-part-answer-start c = search needs
+part-answer-start c = c .before .before .places-in .ensures .rows
 
 part-answer-end : tie.Need-part-answer-end
-part-answer-end c = search needs
-
-slice-aggregate-answer-2 : tie.Need-slice-aggregate-answer-2
-slice-aggregate-answer-2 c = search needs
+part-answer-end c = let q = c .before .before .places-in .ensures in omega (arith, q .cols, q .lstarts, q .lcols, q .lvals, q .ustarts, q .ucols, q .uvals, q .end)
 
 sub-answer-2 : tie.Need-sub-answer-2
-sub-answer-2 c = search needs
+sub-answer-2 c = c .before .before .before .places-in .ensures .cols
 
 part-answer-start-2 : tie.Need-part-answer-start-2
-part-answer-start-2 c = search needs
+part-answer-start-2 c = c .before .before .before .places-in .ensures .cols
 
 part-answer-end-2 : tie.Need-part-answer-end-2
-part-answer-end-2 c = search needs
-
-slice-aggregate-answer-3 : tie.Need-slice-aggregate-answer-3
-slice-aggregate-answer-3 c = search needs
+part-answer-end-2 c = let q = c .before .before .before .places-in .ensures in omega (arith, q .lstarts, q .lcols, q .lvals, q .ustarts, q .ucols, q .uvals, q .end)
 
 sub-answer-3 : tie.Need-sub-answer-3
-sub-answer-3 c = search needs
+sub-answer-3 c = c .before .before .before .before .places-in .ensures .lstarts
 
 part-answer-start-3 : tie.Need-part-answer-start-3
-part-answer-start-3 c = search needs
+part-answer-start-3 c = c .before .before .before .before .places-in .ensures .lstarts
 
 part-answer-end-3 : tie.Need-part-answer-end-3
-part-answer-end-3 c = search needs
-
-slice-aggregate-answer-4 : tie.Need-slice-aggregate-answer-4
-slice-aggregate-answer-4 c = search needs
+part-answer-end-3 c = let q = c .before .before .before .before .places-in .ensures in omega (arith, q .lcols, q .lvals, q .ustarts, q .ucols, q .uvals, q .end)
 
 sub-answer-4 : tie.Need-sub-answer-4
-sub-answer-4 c = search needs
+sub-answer-4 c = c .before .before .before .before .before .places-in .ensures .lcols
 
 part-answer-start-4 : tie.Need-part-answer-start-4
-part-answer-start-4 c = search needs
+part-answer-start-4 c = c .before .before .before .before .before .places-in .ensures .lcols
 
 part-answer-end-4 : tie.Need-part-answer-end-4
-part-answer-end-4 c = search needs
-
-slice-aggregate-answer-5 : tie.Need-slice-aggregate-answer-5
-slice-aggregate-answer-5 c = search needs
+part-answer-end-4 c = let q = c .before .before .before .before .before .places-in .ensures in omega (arith, q .lvals, q .ustarts, q .ucols, q .uvals, q .end)
 
 sub-answer-5 : tie.Need-sub-answer-5
-sub-answer-5 c = search needs
+sub-answer-5 c = c .before .before .before .before .before .before .places-in .ensures .lvals
 
 part-answer-start-5 : tie.Need-part-answer-start-5
-part-answer-start-5 c = search needs
+part-answer-start-5 c = c .before .before .before .before .before .before .places-in .ensures .lvals
 
 part-answer-end-5 : tie.Need-part-answer-end-5
-part-answer-end-5 c = search needs
-
-slice-aggregate-answer-6 : tie.Need-slice-aggregate-answer-6
-slice-aggregate-answer-6 c = search needs
+part-answer-end-5 c = let q = c .before .before .before .before .before .before .places-in .ensures in omega (arith, q .ustarts, q .ucols, q .uvals, q .end)
 
 sub-answer-6 : tie.Need-sub-answer-6
-sub-answer-6 c = search needs
+sub-answer-6 c = c .before .before .before .before .before .before .before .places-in .ensures .ustarts
 
 part-answer-start-6 : tie.Need-part-answer-start-6
-part-answer-start-6 c = search needs
+part-answer-start-6 c = c .before .before .before .before .before .before .before .places-in .ensures .ustarts
 
 part-answer-end-6 : tie.Need-part-answer-end-6
-part-answer-end-6 c = search needs
-
-slice-aggregate-answer-7 : tie.Need-slice-aggregate-answer-7
-slice-aggregate-answer-7 c = search needs
+part-answer-end-6 c = let q = c .before .before .before .before .before .before .before .places-in .ensures in omega (arith, q .ucols, q .uvals, q .end)
 
 sub-answer-7 : tie.Need-sub-answer-7
-sub-answer-7 c = search needs
+sub-answer-7 c = c .before .before .before .before .before .before .before .before .places-in .ensures .ucols
 
 part-answer-start-7 : tie.Need-part-answer-start-7
-part-answer-start-7 c = search needs
+part-answer-start-7 c = c .before .before .before .before .before .before .before .before .places-in .ensures .ucols
 
 part-answer-end-7 : tie.Need-part-answer-end-7
-part-answer-end-7 c = search needs
-
-slice-aggregate-answer-8 : tie.Need-slice-aggregate-answer-8
-slice-aggregate-answer-8 c = search needs
+part-answer-end-7 c = let q = c .before .before .before .before .before .before .before .before .places-in .ensures in omega (arith, q .uvals, q .end)
 
 sub-answer-8 : tie.Need-sub-answer-8
-sub-answer-8 c = search needs
+sub-answer-8 c = c .before .before .before .before .before .before .before .before .before .places-in .ensures .uvals
 
 part-answer-start-8 : tie.Need-part-answer-start-8
-part-answer-start-8 c = search needs
+part-answer-start-8 c = c .before .before .before .before .before .before .before .before .before .places-in .ensures .uvals
 
 part-answer-end-8 : tie.Need-part-answer-end-8
-part-answer-end-8 c = omega (arith, c .before .before .before .before .before .before .before .before .before .before .before .before .before .before .before .before .places-in .ensures .end)
+part-answer-end-8 c = let q = c .before .before .before .before .before .before .before .before .before .places-in .ensures in omega (arith, q .end)
 
 cast-answer : tie.Need-cast-answer
-cast-answer c = search needs
+cast-answer c = omega (arith, c .before .before .before .before .before .before .before .before .before .number .ok)
 
 answer-requires : tie.Need-answer-requires
-answer-requires c κs = let k = c .before .before .before .before .before .before .before .before .before .before .before .before .before .before .before .before .before .before .before in let s = start k in
+answer-requires c κs = let k = c .before .before .before .before .before .before .before .before .before .before .before .before in let s = start k in
     subst (λ (t : Set). AnswerReady (s .args .p) t (s .args .y .now) (s .args .x .now) (s .args .z .now) (s .args .work .now)) (sym (meant k)) (s .pre .ready)
 
 same-length : tie.Need-same-length
-same-length c = search needs
+same-length c = c .before .before .before .before .before .before .answer .kept .1 .1 .1 .1 .1 .1 .1 .1 .1 .1 .1 .1 .1 .1 .1 .1 .1 .1 .1 .0
 
 same-length-2 : tie.Need-same-length-2
-same-length-2 c = search needs
+same-length-2 c = c .before .before .before .before .before .before .answer .kept .1 .1 .1 .1 .1 .1 .1 .1 .1 .1 .1 .1 .1 .1 .1 .1 .1 .1 .1 .1 .0
 
 same-length-3 : tie.Need-same-length-3
-same-length-3 c = search needs
+same-length-3 c = c .before .before .before .before .before .before .answer .kept .1 .1 .1 .1 .1 .1 .1 .1 .1 .1 .1 .1 .1 .1 .1 .1 .1 .1 .1 .1 .1 .0
 
 returns : tie.Need-returns
-returns c = let k = c .before .before .before .before .before .before .before .before .before .before .before .before .before .before .before .before .before .before .before .before .before .before .before .before .before .before in let s = start k in
+returns c = let k = c .before .before .before .before .before .before .before .before .before .before .before .before .before .before .before .before .before .before .before in let s = start k in
     from-set (s .args .p) (length (s .args .x .now)) (length (s .args .z .now)) _ _ (s .args .y .now) _ _ _ _ (meant k) (c .before .before .before .before .before .before .answer .ensures)
 
 pub answer-parts-spec : {M : Type 1} → statement M
@@ -154,35 +133,28 @@ answer-parts-spec =
     (tie.spec
     places-in-requires
     number-requires
-    slice-aggregate-answer
+    slice-aggregate-none
     sub-answer
     part-answer-start
     part-answer-end
-    slice-aggregate-answer-2
     sub-answer-2
     part-answer-start-2
     part-answer-end-2
-    slice-aggregate-answer-3
     sub-answer-3
     part-answer-start-3
     part-answer-end-3
-    slice-aggregate-answer-4
     sub-answer-4
     part-answer-start-4
     part-answer-end-4
-    slice-aggregate-answer-5
     sub-answer-5
     part-answer-start-5
     part-answer-end-5
-    slice-aggregate-answer-6
     sub-answer-6
     part-answer-start-6
     part-answer-end-6
-    slice-aggregate-answer-7
     sub-answer-7
     part-answer-start-7
     part-answer-end-7
-    slice-aggregate-answer-8
     sub-answer-8
     part-answer-start-8
     part-answer-end-8

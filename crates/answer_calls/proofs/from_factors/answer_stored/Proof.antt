@@ -9,59 +9,31 @@ use Rattle.answer_calls.proofs.Ways.{from-set}
 use Rattle.answer_calls.proofs.from_factors.answer_stored.Statement.{statement}
 use Rattle.answer_calls.proofs.from_factors.answer_stored.Tie as tie
 
-slice-aggregate-answer : tie.Need-slice-aggregate-answer
-slice-aggregate-answer c = search needs
-
-slice-aggregate-answer-2 : tie.Need-slice-aggregate-answer-2
-slice-aggregate-answer-2 c = search needs
-
-slice-aggregate-answer-3 : tie.Need-slice-aggregate-answer-3
-slice-aggregate-answer-3 c = search needs
-
-slice-aggregate-answer-4 : tie.Need-slice-aggregate-answer-4
-slice-aggregate-answer-4 c = search needs
-
-slice-aggregate-answer-5 : tie.Need-slice-aggregate-answer-5
-slice-aggregate-answer-5 c = search needs
-
-slice-aggregate-answer-6 : tie.Need-slice-aggregate-answer-6
-slice-aggregate-answer-6 c = search needs
-
-slice-aggregate-answer-7 : tie.Need-slice-aggregate-answer-7
-slice-aggregate-answer-7 c = search needs
-
-slice-aggregate-answer-8 : tie.Need-slice-aggregate-answer-8
-slice-aggregate-answer-8 c = search needs
+slice-aggregate-none : tie.Need-slice-aggregate-none
+slice-aggregate-none c = search needs
 
 answer-requires : tie.Need-answer-requires
-answer-requires c κs = let s = c .before .before .before .before .before .before .before .before .before .before .before .before .before .before .before .before .before .before .before .before .before .before .before in
+answer-requires c κs = let s = c .before .before .before .before .before .before .before .before .before .before .before .before .before .before .before .before in
     subst (λ (t : Set). AnswerReady (s .args .p) t (s .args .y .now) (s .args .x .now) (s .args .z .now) (s .args .work .now)) (sym (set-lists (s .args .r) (s .args .ro .now) (s .args .co .now) (s .args .ls .now) (s .args .lc .now) (s .args .lv .now) (s .args .us .now) (s .args .uc .now) (s .args .uv .now))) (s .pre)
 
 same-length : tie.Need-same-length
-same-length c = search needs
+same-length c = c .before .before .before .before .before .before .answer .kept .1 .1 .1 .1 .1 .1 .1 .1 .1 .1 .1 .1 .1 .1 .1 .1 .1 .1 .1 .0
 
 same-length-2 : tie.Need-same-length-2
-same-length-2 c = search needs
+same-length-2 c = c .before .before .before .before .before .before .answer .kept .1 .1 .1 .1 .1 .1 .1 .1 .1 .1 .1 .1 .1 .1 .1 .1 .1 .1 .1 .1 .0
 
 same-length-3 : tie.Need-same-length-3
-same-length-3 c = search needs
+same-length-3 c = c .before .before .before .before .before .before .answer .kept .1 .1 .1 .1 .1 .1 .1 .1 .1 .1 .1 .1 .1 .1 .1 .1 .1 .1 .1 .1 .1 .0
 
 returns : tie.Need-returns
-returns c = let k = c .before .before .before .before .before .before in let s = c .before .before .before .before .before .before .before .before .before .before .before .before .before .before .before .before .before .before .before .before .before .before .before .before .before .before .before .before .before .before in
+returns c = let k = c .before .before .before .before .before .before in let s = c .before .before .before .before .before .before .before .before .before .before .before .before .before .before .before .before .before .before .before .before .before .before .before in
     from-set (s .args .p) (length (s .args .x .now)) (length (s .args .z .now)) _ _ (s .args .y .now) _ _ _ _ (set-lists (s .args .r) (s .args .ro .now) (s .args .co .now) (s .args .ls .now) (s .args .lc .now) (s .args .lv .now) (s .args .us .now) (s .args .uc .now) (s .args .uv .now)) (k .answer .ensures)
 
 pub answer-stored-spec : {M : Type 1} → statement M
 answer-stored-spec =
     tie.close
     (tie.spec
-    slice-aggregate-answer
-    slice-aggregate-answer-2
-    slice-aggregate-answer-3
-    slice-aggregate-answer-4
-    slice-aggregate-answer-5
-    slice-aggregate-answer-6
-    slice-aggregate-answer-7
-    slice-aggregate-answer-8
+    slice-aggregate-none
     answer-requires
     same-length
     same-length-2

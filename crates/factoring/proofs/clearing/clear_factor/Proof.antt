@@ -14,13 +14,13 @@ clear-requires-3 : tie.Need-clear-requires-3
 clear-requires-3 c κs = search needs
 
 same-length : tie.Need-same-length
-same-length c = search needs
+same-length c = c .before .before .before .before .before .before .before .before .before .before .clear .kept .0
 
 same-length-2 : tie.Need-same-length-2
-same-length-2 c = search needs
+same-length-2 c = c .before .before .before .before .before .before .clear2 .kept .0
 
 same-length-3 : tie.Need-same-length-3
-same-length-3 c = search needs
+same-length-3 c = c .before .before .clear3 .kept .0
 
 returns : tie.Need-returns
 returns c = record { starts = zeros-self _ _ (c .before .before .before .before .before .before .before .before .before .before .clear .ensures); columns = zeros-self _ _ (c .before .before .before .before .before .before .clear2 .ensures); values = zeros-self _ _ (c .before .before .clear3 .ensures) }

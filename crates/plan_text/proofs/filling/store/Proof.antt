@@ -17,7 +17,7 @@ extend-starts-requires : tie.Need-extend-starts-requires
 extend-starts-requires c κs = search needs
 
 same-length : tie.Need-same-length
-same-length c = search needs
+same-length c = c .before .before .before .extend-starts .kept .0
 
 returns : tie.Need-returns
 returns c seen h = let s = c .before .before .before .before .before .before .before .before in stored-zero seen h _ (s .pre .order) (c .before .before .before .extend-starts .ensures (kept seen) (h .rows) (h .number) (h .starts-are)) (c .if1 .taken)
