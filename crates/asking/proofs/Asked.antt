@@ -21,13 +21,13 @@ use Rattle.call_tests.specs.Limits.{largestSize, workLength}
 use Rattle.answer_calls.specs.declared.Answer.{Answer}
 use Rattle.answer_calls.specs.Calls.{answerFactorsOf}
 use Rattle.report_text.specs.Report.{refusalText}
-use Rattle.report_text.specs.Printed.{detailFromOne, countedFromOne, printed}
+use Rattle.report_text.specs.Printed.{detailFromOne, countedFromOne, printed, Prints}
 use Rattle.report_text.proofs.Room.{refusal-room}
 use Rattle.stages.specs.Stages.{reading, readOutcome, factoredOf, factorOutcome}
 use Rattle.stages.specs.Staged.{FactorsHeld, Staged}
 use Rattle.stages.specs.declared.Stages.{Stages}
 use Rattle.asking.specs.Asking.{answerFor, givenLine, askReadOf, askOf, AskLists, Asks}
-use Rattle.asking.specs.Held.{lineOf, LineReady, heldAnswer, Answerable, Answered, Prints, stagesRefusal, stagedLine, StagedReady}
+use Rattle.asking.specs.Held.{lineOf, LineReady, heldAnswer, Answerable, Answered, stagesRefusal, stagedLine, StagedReady}
 
 -- ---- the refusal that the stages ended with
 
@@ -85,7 +85,7 @@ module _ (s : Stages) (A : Compressed) (R C : List ℕ) (L U : Compressed) (y ou
       ∙ sym (printed-then (readOutcome (s .reading)) (factoringTold s (eqb (s .factored .number) 0)) answer)
 
   pub refused : (k e size : ℕ) (b : List ℕ) → o ≡ Refused k e → Fills out b size (refusalText k e) → Prints (stagedLine s A R C L U y) size out b w w
-  refused k e size b q g = record { line-is = subst (Fills out b size) (ap (λ (u : Outcome). printed u answer) (sym q) ∙ staged-is) g; cleared = d .clear }
+  refused k e size b q g = record { text-is = subst (Fills out b size) (ap (λ (u : Outcome). printed u answer) (sym q) ∙ staged-is) g; cleared = d .clear }
 
   module _ (passed : o ≡ Passed) where
     done : s .reading .number ≡ 0
@@ -118,7 +118,7 @@ module _ (s : Stages) (A : Compressed) (R C : List ℕ) (L U : Compressed) (y ou
       pub answered : (size : ℕ) (b : List ℕ) → Fills out b size (lineOf a (take (s .reading .n) x) (take (s .reading .m) z)) → Prints (stagedLine s A R C L U y) size out b w w′
       answered size b g =
           record {
-            line-is = subst (Fills out b size) (h .line-is ∙ ap (λ (u : Outcome). printed u answer) (sym passed) ∙ staged-is) g;
+            text-is = subst (Fills out b size) (h .line-is ∙ ap (λ (u : Outcome). printed u answer) (sym passed) ∙ staged-is) g;
             cleared = h .cleared;
           }
 
@@ -169,7 +169,7 @@ module _ (text y : List ℕ) (s : Stages) (A : Compressed) (R C : List ℕ) (L U
   work-length = ap length (h .cleared) ∙ length-zeros (length w₀)
 
   pub asks : (size : ℕ) (b₀ b w′ : List ℕ) → Prints (stagedLine s A R C L U y) size b₀ b w w′ → Asks text y size b₀ b w₀ w′
-  asks size b₀ b w′ g = record { answer = subst (Fills b₀ b size) same-line (g .line-is); cleared = g .cleared ∙ ap zeros work-length }
+  asks size b₀ b w′ g = record { answer = subst (Fills b₀ b size) same-line (g .text-is); cleared = g .cleared ∙ ap zeros work-length }
 
   -- what writing the line needs
   pub staged-ready : (out : List ℕ) → AskLists y out w₀ → length R ≡ largestSize → length C ≡ largestSize → StagedReady s A R C L U y out w

@@ -4,7 +4,6 @@
 --   heldAnswer s ..        the answer from the plan and the set that stand in lists
 --   Answerable s ..        what that needs: the lists have the plan and the set, and room for x and z
 --   Answered g a n m ..    what it leaves: with the first n values of x and m of z, the answer's line is that of g
---   Prints line ..         the contract: the length, every byte of the buffer, and the working row left all zero
 --   stagesRefusal s        the refusal that the stages ended with, as it is printed
 --   Countable s            its row can be counted from 1
 --   stagedLine s ..        the line of what the stages came to: of a refusal by reading or by factoring, else of the answer
@@ -19,7 +18,6 @@ use Rattle.lists.specs.Filled.{zeros}
 use Rattle.lists.specs.Table.{storageTooShort, questionTooLarge}
 use Rattle.lists.specs.Refusals.{unless, _▷_}
 use Rattle.lists.specs.declared.Outcome.{Outcome}
-use Rattle.byte_buffer.specs.Stored.{Fills}
 use Rattle.sparse.specs.Matrix.{Compressed}
 use Rattle.call_tests.specs.Limits.{largestSize, workLength}
 use Rattle.answer_calls.specs.Calls.{Given, answerDetail, answerFactorsOf}
@@ -66,10 +64,6 @@ pub record Answerable (s : Stages) (A : Compressed) (R C : List ℕ) (L U : Comp
 pub record Answered (g : Given) (a : Answer) (n m : ℕ) (x z w₀ w : List ℕ) : Type 0 where
   pub line-is : lineOf a (take n x) (take m z) ≡ givenLine g
   pub detail-small : answerDetail a ≤ 2049
-  pub cleared : w ≡ zeros (length w₀)
-
-pub record Prints (line : List ℕ) (size : ℕ) (b₀ b w₀ w : List ℕ) : Type 0 where
-  pub line-is : Fills b₀ b size line
   pub cleared : w ≡ zeros (length w₀)
 
 -- ---- what the stages came to

@@ -2,12 +2,17 @@
 --   detailFromOne k c d    a detail as it is printed: rows and indexes, the details of number k, count from 1
 --   countedFromOne k o     the outcome with its detail so
 --   printed o text         the one line of a refusal, else the text
+--   Prints text size ..    the contract of whoever prints: the length, every byte of the buffer, and the working row left all zero
 use Prim.Native.Nat.{ℕ, _+_}
+use mathlib.Core.Path.{_≡_}
 use mathlib.Core.Bool.{cond}
 use mathlib.Core.List.{List}
 use lib.Dec.{eqb}
+use lib.ListN.{length}
+use Rattle.lists.specs.Filled.{zeros}
 use Rattle.lists.specs.declared.Outcome.{Outcome}
 use Rattle.lists.specs.declared.Outcome.the-variants.{Passed, Refused}
+use Rattle.byte_buffer.specs.Stored.{Fills}
 use Rattle.report_text.specs.Report.{refusalText}
 
 abbrev pub detailFromOne : (k c d : ℕ) → ℕ
@@ -20,3 +25,7 @@ countedFromOne k (Refused c d) = Refused c (detailFromOne k c d)
 abbrev pub printed : Outcome → List ℕ → List ℕ
 printed Passed text = text
 printed (Refused c d) text = refusalText c d
+
+pub record Prints (text : List ℕ) (size : ℕ) (b₀ b w₀ w : List ℕ) : Type 0 where
+  pub text-is : Fills b₀ b size text
+  pub cleared : w ≡ zeros (length w₀)

@@ -21,11 +21,11 @@ use Rattle.check_calls.specs.Calls.{checkFactorsOf}
 use Rattle.column_calls.specs.Calls.{Listed, listed, columnsAfter, openFactorsOf, Lists}
 use Rattle.report_text.specs.declared.lines.Summary.{Summary}
 use Rattle.report_text.specs.Report.{reportText, refusalText}
-use Rattle.report_text.specs.Printed.{detailFromOne, countedFromOne, printed}
+use Rattle.report_text.specs.Printed.{detailFromOne, countedFromOne, printed, Prints}
 use Rattle.stages.specs.declared.Stages.{Stages}
 use Rattle.stages.specs.Stages.{heldPlan}
 use Rattle.stages.specs.Staged.{heldSet}
-use Rattle.reporting.specs.Held.{heldSummary, heldList, heldText, stagedText, HeldReady, Prints}
+use Rattle.reporting.specs.Held.{heldSummary, heldList, heldText, stagedText, HeldReady}
 
 -- ---- a list of open columns that is not refused has a cell for each column
 
@@ -63,7 +63,7 @@ module _ (s : Stages) (A : Compressed) (R C : List ℕ) (L U : Compressed) where
     unfolding heldText
     columns-refused k d size out′ e f =
         record {
-          report = subst (Fills out out′ size) (ap (λ (u : Outcome). printed u (reportText (heldSummary s) (list .list))) (sym e ∙ outcome-is)) f;
+          text-is = subst (Fills out out′ size) (ap (λ (u : Outcome). printed u (reportText (heldSummary s) (list .list))) (sym e ∙ outcome-is)) f;
           cleared = q .cleared;
         }
 
@@ -77,7 +77,7 @@ module _ (s : Stages) (A : Compressed) (R C : List ℕ) (L U : Compressed) where
     unfolding heldText
     columns-listed size out′ z e same f =
         record {
-          report =
+          text-is =
               subst (Fills out out′ size)
               ((λ t. reportText (same t) (marks-are e t))
               ∙ ap (λ (u : Outcome). printed u (reportText (heldSummary s) (list .list))) (sym e ∙ outcome-is))
@@ -98,7 +98,7 @@ module _ (s : Stages) (A : Compressed) (R C : List ℕ) (L U : Compressed) where
     unfolding stagedText
     read-refused size out′ n clear f =
         record {
-          report =
+          text-is =
               subst (Fills out out′ size)
               (ap (λ (b : Bool). printed (unless b (s .reading .number) (s .reading .detail)) after-reading) (sym (ne-eqb (s .reading .number) 0 n)))
               f;
@@ -114,7 +114,7 @@ module _ (s : Stages) (A : Compressed) (R C : List ℕ) (L U : Compressed) where
         → d ≡ detailFromOne storageTooShort (s .factored .number) (s .factored .detail) → Fills out out′ size (refusalText (s .factored .number) d) → Prints (stagedText s A R C L U) size out out′ w w
     factoring-refused size out′ d z n clear e f =
         record {
-          report =
+          text-is =
               subst (Fills out out′ size)
               (ap (refusalText (s .factored .number)) e
               ∙ ap (λ (b : Bool). printed (countedFromOne storageTooShort (unless b (s .factored .number) (s .factored .detail))) (heldText s A R C L U)) (sym (ne-eqb (s .factored .number) 0 n))

@@ -16,11 +16,11 @@ use Rattle.plan_text.specs.declared.Reading.{Reading}
 use Rattle.call_tests.specs.Limits.{largestSize, workLength}
 use Rattle.column_calls.specs.Calls.{openFactorsOf}
 use Rattle.report_text.specs.Report.{reportText}
-use Rattle.report_text.specs.Printed.{countedFromOne, printed}
+use Rattle.report_text.specs.Printed.{countedFromOne, printed, Prints}
 use Rattle.stages.specs.declared.Stages.{Stages}
 use Rattle.stages.specs.Stages.{reading, readOutcome, factoredOf, factorOutcome}
 use Rattle.stages.specs.Staged.{FactorsHeld, Staged}
-use Rattle.reporting.specs.Held.{heldSummary, heldList, heldText, stagedText, StagedReady, Prints}
+use Rattle.reporting.specs.Held.{heldSummary, heldList, heldText, stagedText, StagedReady}
 use Rattle.reporting.specs.Reporting.{summaryOf, openListOf, reportReadOf, reportOf, ReportLists, Reports}
 
 -- what follows a test counts only where it passes
@@ -92,6 +92,6 @@ module _ (text : List ℕ) (s : Stages) (A : Compressed) (R C : List ℕ) (L U :
   unfolding reportOf
   reported size out out′ w′ p =
       record {
-        report = subst (λ (ys : List ℕ). Prints ys size out out′ w w′) (staged-is (reading text) s A R C L U (h .reading-is) (h .factors)) p .report;
+        report = subst (λ (ys : List ℕ). Prints ys size out out′ w w′) (staged-is (reading text) s A R C L U (h .reading-is) (h .factors)) p .text-is;
         cleared = p .cleared ∙ ap zeros (ap length (h .cleared) ∙ length-zeros (length w₀));
       }

@@ -5,7 +5,6 @@
 --   stagedText s ..        what is printed of any stages: the first refusal, or the above
 --   HeldReady s ..         what printing needs once reading and factoring were done
 --   StagedReady s ..       what printing any stages needs
---   Prints text size ..    the contract of whoever prints: the length, every byte of the buffer, and the working row left all zero
 use Prim.Native.Nat.{ℕ, _≤_}
 use mathlib.Core.Path.{_≡_}
 use mathlib.Core.List.{List}
@@ -15,7 +14,6 @@ use Rattle.lists.specs.Filled.{zeros}
 use Rattle.lists.specs.Refusals.{unless}
 use Rattle.lists.specs.Table.{storageTooShort}
 use Rattle.sparse.specs.Matrix.{Compressed}
-use Rattle.byte_buffer.specs.Stored.{Fills}
 use Rattle.call_tests.specs.Limits.{largestSize, workLength}
 use Rattle.column_calls.specs.Calls.{Listed, openFactorsOf}
 use Rattle.report_text.specs.declared.lines.Summary.{Summary}
@@ -69,7 +67,3 @@ pub record StagedReady (s : Stages) (A : Compressed) (R C : List ℕ) (L U : Com
   pub room : 65536 ≤ length out
   pub work-length : length w ≡ workLength
   pub clear : w ≡ zeros (length w)
-
-pub record Prints (text : List ℕ) (size : ℕ) (b₀ b w₀ w : List ℕ) : Type 0 where
-  pub report : Fills b₀ b size text
-  pub cleared : w ≡ zeros (length w₀)
