@@ -95,14 +95,16 @@ def _least_ratios(measured, own, peers):
 
 
 def _checking(measured):
-    shares = [one.over("check", "make") for one in measured if "check" in one.times]
-    if shares:
-        yield f"Checking takes at most {ratio(max(shares))} times as long as making."
+    for tool, words in (("make", "making"), ("factoring", "factoring alone")):
+        shares = [one.over("check", tool) for one in measured]
+        most = max((share for share in shares if share is not None), default=None)
+        if most is not None:
+            yield f"Checking takes at most {ratio(most)} times as long as {words}."
 
 
 def table(measured, own, peers):
     """Times in milliseconds, each peer's bare rank divided by our times, and
-    checking beside making."""
+    checking beside making and factoring."""
     parts = [_times(measured, [*own, *peers])]
     if own and peers:
         parts += [_ratios(measured, tool, words, peers) for tool, words in COMPARED if tool in own]
