@@ -91,11 +91,12 @@ def _append(rng, text):
 
 
 def _with_lines(change):
-    """A damage of the list of lines as a damage of the text."""
+    """A damage of the list of lines as a damage of the text; a text without
+    a whole line stays as it is."""
 
     def damage(rng, text):
         *lines, rest = text.split(b"\n")
-        return b"\n".join([*change(rng, lines), rest])
+        return b"\n".join([*change(rng, lines), rest]) if lines else text
 
     damage.__name__ = change.__name__
     return damage
