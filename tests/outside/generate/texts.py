@@ -7,6 +7,8 @@
     question_text     such numbers as text, now and then with something changed
 """
 
+import re
+
 from model.limits import GREATEST_TEXT, GREATEST_VALUE, LEAST_VALUE
 from model.storage import row
 
@@ -142,7 +144,7 @@ def _nearby_field(rng, lines):
     place = rng.randrange(len(lines))
     fields = lines[place].split(b" ")
     which = rng.randrange(len(fields))
-    if fields[which].lstrip(b"-").isdigit():
+    if re.fullmatch(b"-?[0-9]+", fields[which]):
         fields[which] = b"%d" % (int(fields[which]) + rng.choice((-2, -1, 1, 2)))
     return [*lines[:place], b" ".join(fields), *lines[place + 1 :]]
 
