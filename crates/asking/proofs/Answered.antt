@@ -29,7 +29,7 @@ use Rattle.stages.specs.Stages.{heldPlan}
 use Rattle.stages.specs.Staged.{heldSet}
 use Rattle.stages.specs.declared.Stages.{Stages}
 use Rattle.asking.specs.Asking.{isOpenAnswer, givenLine}
-use Rattle.asking.specs.Held.{lineOf, heldAnswer, Answerable, Answered}
+use Rattle.asking.specs.Held.{lineOf, heldAnswer, Answerable, AnswerHeld}
 use Rattle.asking.proofs.Details.{question-small}
 
 -- ---- the lists of an answer have their lengths
@@ -127,7 +127,7 @@ module _ (s : Stages) (A : Compressed) (R C : List ℕ) (L U : Compressed) (y x 
         (λ t. lineOf (held .answer t) ((x-cut ∙ held .x-is ∙ ap (λ (k : ℕ). filled k (g .x)) x-part) t) ((z-cut ∙ held .z-is ∙ ap (λ (k : ℕ). filled k (g .z)) z-part) t))
         ∙ factors-line p n m plan set y
 
-    pub answered : Answered (heldAnswer s A R C L U y) a n m (x′ ++ drop n x) (z′ ++ drop m z) w w′
+    pub answered : AnswerHeld (heldAnswer s A R C L U y) a n m (x′ ++ drop n x) (z′ ++ drop m z) w w′
     answered =
         record {
           line-is = the-line;

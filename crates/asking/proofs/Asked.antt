@@ -27,7 +27,7 @@ use Rattle.stages.specs.Stages.{reading, readOutcome, factoredOf, factorOutcome
 use Rattle.stages.specs.Staged.{FactorsHeld, Staged}
 use Rattle.stages.specs.declared.Stages.{Stages}
 use Rattle.asking.specs.Asking.{answerFor, givenLine, askReadOf, askOf, AskLists, Asks}
-use Rattle.asking.specs.Held.{lineOf, LineReady, heldAnswer, Answerable, Answered, stagesRefusal, stagedLine, StagedReady}
+use Rattle.asking.specs.Held.{lineOf, LineReady, heldAnswer, Answerable, AnswerHeld, stagesRefusal, stagedLine, StagedReady}
 
 -- ---- the refusal that the stages ended with
 
@@ -103,7 +103,7 @@ module _ (s : Stages) (A : Compressed) (R C : List ℕ) (L U : Compressed) (y ou
           work-length = d .asked .work-length;
         }
 
-    module _ (a : Answer) (x z w′ : List ℕ) (h : Answered (heldAnswer s A R C L U y) a (s .reading .n) (s .reading .m) x z w w′) where
+    module _ (a : Answer) (x z w′ : List ℕ) (h : AnswerHeld (heldAnswer s A R C L U y) a (s .reading .n) (s .reading .m) x z w w′) where
       pub line-ready : length x ≡ largestSize → length z ≡ largestSize → LineReady a (s .reading .n) (s .reading .m) x z out
       line-ready x-length z-length =
           record {

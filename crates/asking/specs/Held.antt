@@ -3,7 +3,7 @@
 --   LineReady a n m ..     what writing it needs: a detail that can be counted from 1, n and m values within the limit, and room
 --   heldAnswer s ..        the answer from the plan and the set that stand in lists
 --   Answerable s ..        what that needs: the lists have the plan and the set, and room for x and z
---   Answered g a n m ..    what it leaves: with the first n values of x and m of z, the answer's line is that of g
+--   AnswerHeld g a n m ..  what it leaves: with the first n values of x and m of z, the answer's line is that of g
 --   stagesRefusal s        the refusal that the stages ended with, as it is printed
 --   Countable s            its row can be counted from 1
 --   stagedLine s ..        the line of what the stages came to: of a refusal by reading or by factoring, else of the answer
@@ -61,7 +61,7 @@ pub record Answerable (s : Stages) (A : Compressed) (R C : List ℕ) (L U : Comp
   pub few : length y ≤ 2049
   pub work-length : length w ≡ workLength
 
-pub record Answered (g : Given) (a : Answer) (n m : ℕ) (x z w₀ w : List ℕ) : Type 0 where
+pub record AnswerHeld (g : Given) (a : Answer) (n m : ℕ) (x z w₀ w : List ℕ) : Type 0 where
   pub line-is : lineOf a (take n x) (take m z) ≡ givenLine g
   pub detail-small : answerDetail a ≤ 2049
   pub cleared : w ≡ zeros (length w₀)

@@ -5,7 +5,7 @@ ghost use Rattle.byte_buffer.specs.Stored.{Fills};
 ghost use Rattle.sparse.specs.Matrix.{compressed};
 ghost use Rattle.asking.specs.Asking.{AskLists, Asks};
 ghost use Rattle.report_text.specs.Printed.{Prints};
-ghost use Rattle.asking.specs.Held.{lineOf, LineReady, heldAnswer, Answerable, Answered, Countable, stagesRefusal, stagedLine, StagedReady};
+ghost use Rattle.asking.specs.Held.{lineOf, LineReady, heldAnswer, Answerable, AnswerHeld, Countable, stagesRefusal, stagedLine, StagedReady};
 use answer_calls::Answer;
 use answer_calls::from_factors::answer_from_factors;
 use lists::Outcome;
@@ -67,7 +67,7 @@ fn answer_held(
     work: &mut [u64],
 ) -> Answer
     requires { ⌜ Answerable s (compressed (now starts) (now columns) (now values)) (now rows) (now cols) (compressed (now ls) (now lc) (now lv)) (compressed (now us) (now uc) (now uv)) (now y) (now x) (now z) (now work) ⌝ }
-    ensures { λ a. ⌜ Answered (heldAnswer s (compressed (now (starts .entry)) (now (columns .entry)) (now (values .entry))) (now (rows .entry)) (now (cols .entry)) (compressed (now (ls .entry)) (now (lc .entry)) (now (lv .entry))) (compressed (now (us .entry)) (now (uc .entry)) (now (uv .entry))) (now (y .entry))) a (s .reading .n) (s .reading .m) (now (x .exit)) (now (z .exit)) (now (work .entry)) (now (work .exit)) ⌝ }
+    ensures { λ a. ⌜ AnswerHeld (heldAnswer s (compressed (now (starts .entry)) (now (columns .entry)) (now (values .entry))) (now (rows .entry)) (now (cols .entry)) (compressed (now (ls .entry)) (now (lc .entry)) (now (lv .entry))) (compressed (now (us .entry)) (now (uc .entry)) (now (uv .entry))) (now (y .entry))) a (s .reading .n) (s .reading .m) (now (x .exit)) (now (z .exit)) (now (work .entry)) (now (work .exit)) ⌝ }
 {
     let n = s.reading.n as usize;
     let m = s.reading.m as usize;

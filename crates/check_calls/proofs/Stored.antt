@@ -6,7 +6,8 @@ use Rattle.lists.specs.declared.Outcome.{Outcome}
 use Rattle.sparse.specs.Words.{view}
 use Rattle.sparse.specs.Matrix.{Compressed, compressed, viewed}
 use Rattle.sparse.specs.Set.{Set, setOf}
-use Rattle.call_tests.proofs.Lists.{view-list, viewed-lists}
+use Rattle.sparse.proofs.WordLaws.{view-list}
+use Rattle.call_tests.proofs.Lists.{viewed-lists}
 
 pub set-lists : (r : ℕ) (R C Ls Lc Lv Us Uc Uv : List ℕ)
     → setOf r (view R []) (view C []) (viewed Ls [] Lc [] Lv []) (viewed Us [] Uc [] Uv []) ≡ setOf r R C (compressed Ls Lc Lv) (compressed Us Uc Uv)

@@ -19,10 +19,7 @@ fn still_zero(q: Modulus, zero: bool, x: u64) -> bool
     if !zero {
         return false;
     }
-    if x == 0 {
-        return true;
-    }
-    q.reduce(x) == 0
+    q.reduce_cell(x) == 0
 }
 
 // Whether every cell stands for 0; all cells are set to 0.
