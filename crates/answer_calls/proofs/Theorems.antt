@@ -1,91 +1,292 @@
--- What a call with a question that is not refused says of the plan A: whatever set it was given, whoever made it.
---   factors-open            from stored factors: open exactly if some x has x A = y
---   factors-closed          and closed exactly if none has
---   certificate-open        the same from a certificate
---   certificate-closed
-use mathlib.Core.Path.{_≡_, refl, sym, ap, _∙_}
+-- What a call with a question says, with what it returned and left (`Answers`), whatever set it was given, whoever made it.
+--   stored-answered, bytes-answered    a question is answered exactly if the set passes the check, y holds m residues, and x and z have their lengths
+--   stored-right, bytes-right          and then the answer is right (`AnswersRight`): open exactly if some x has x A = y, with the x or z described; one value
+--                                      where it is open, every value where it is closed
+--   stored-judged, bytes-judged        after the tests of lengths and plan, none of 10 to 14 is returned exactly if shape and product are right
+--   stored-by, bytes-by                the numbers of the table by which it refuses
+--   stored-cleared, bytes-cleared      a refusal leaves x and z all zero
+--   right-agree                        two answers that are right, from whatever sets, have one verdict
+use mathlib.Core.Path.{_≡_, refl, sym, ap, subst, _∙_}
 use mathlib.Core.Logic.{_↔_}
-use mathlib.Core.List.{List}
-use Prim.Native.Nat.{ℕ}
+use mathlib.Core.Bool.{Bool, true, false, _&&_}
+use mathlib.Core.List.{List, [], _∷_, _++_}
+use Prim.Native.Nat.{ℕ, _<_}
 use native.Mathlib.Omega.{arith}
+use lib.Dec.{eqb, leb, ltb}
+use lib.ListN.{length, getD}
+use borrow.Author.Tests.{eq-eqb, le-leb, lt-ltb}
+use Rattle.lists.specs.Tests.{among, first}
+use Rattle.lists.specs.Table.{planFaults, setFaults, wrongLength, questionTooLarge}
+use Rattle.lists.specs.Filled.{zeros, filled}
+use Rattle.lists.specs.Refusals.{_▷_, unless, numberOf, NumberFrom}
 use Rattle.lists.specs.declared.Outcome.{Outcome}
-use Rattle.answers.proofs.Passed.{question-passed}
+use Rattle.lists.proofs.Bools.{and-both}
+use Rattle.lists.proofs.Tests.{first-all}
+use Rattle.lists.proofs.Filled.{length-zeros, filled-none, filled-whole}
+use Rattle.lists.proofs.Refusals.{RefusedBy, number-from, after-passed, unless-holds, refused-unless, refused-then, zero-passed}
 use Rattle.algebra.specs.Matrix.{vector}
 use Rattle.algebra.specs.RowSpace.{InRowSpace}
+use Rattle.algebra.specs.Answer.{OpenAnswer, ClosedAnswer}
+use Rattle.algebra.specs.Congruence.{_≈⟨_⟩_}
+use Rattle.algebra.specs.Sum.{dot}
+use Rattle.sparse.specs.Row.{Below}
 use Rattle.sparse.specs.Matrix.{Compressed, matrix}
 use Rattle.sparse.specs.Set.{Set}
-use Rattle.row_space.specs.Solve.{Solved, solve}
+use Rattle.pluq.specs.Judge.{Passes}
+use Rattle.row_space.specs.Question.{questionOutcome}
+use Rattle.row_space.specs.Solve.{Solved, solve, lowest}
 use Rattle.row_space.specs.declared.Verdict.{Verdict}
-use Rattle.row_space.proofs.Theorems.{open-exactly, closed-exactly}
-use Rattle.certificate.specs.Reading.{setOfCertificate}
+use Rattle.row_space.proofs.Theorems as sets
+use Rattle.answers.proofs.Passed.{question-passed}
+use Rattle.certificate.specs.Layout.{Sized}
+use Rattle.certificate.specs.Reading.{headerOk, setOfCertificate}
+use Rattle.call_tests.specs.Limits.{workLength}
+use Rattle.call_tests.specs.Accepted.{GoodPlan}
 use Rattle.check_calls.specs.Calls.{checkFactorsOf, checkCertificateOf}
-use Rattle.answer_calls.specs.Calls.{NotRefused, answerOf, questionAfter, Given, given, answerFactorsOf, answerCertificateOf}
+use Rattle.check_calls.specs.Passing.{StoredPasses, CertificatePasses}
+use Rattle.check_calls.proofs.Theorems.{factors-exactly, factors-numbers, factors-none, certificate-exactly, certificate-numbers, certificate-none}
+use Rattle.answer_calls.specs.Calls.{answerNumber, answerOf, questionLengths, questionAfter, given, answerFactorsOf, answerCertificateOf, Answers}
+use Rattle.answer_calls.specs.Meaning.{Askable, LeftOpen, LeftClosed, AnswersRight}
 use Rattle.answer_calls.specs.declared.Answer.{Answer}
 use Rattle.answer_calls.proofs.Checked.{Checked, factors-checked, certificate-checked}
 use Rattle.answer_calls.proofs.Ways.{asked-parts}
 
--- an answer that is not refused is the one from the set
-given-passed : (o : Outcome) (a : Solved) → NotRefused (given o a .answer) → o ≡ Outcome.Passed
-given-passed Outcome.Passed a h = refl
-given-passed (Outcome.Refused k d) a h = absurd (h k d refl)
+-- ---- verdicts and answers
 
-open-verdict : (v : Verdict) → (answerOf v ≡ Answer.Open) ↔ (v ≡ Verdict.Open)
-open-verdict v = (go v, ap answerOf)
+open-verdict : (v : Verdict) → answerOf v ≡ Answer.Open → v ≡ Verdict.Open
+open-verdict Verdict.Open e = refl
+open-verdict Verdict.Closed e = absurd (let z : _≡_ {A = ℕ} 0 1 = cc in omega arith)
+
+closed-verdict : (v : Verdict) → answerOf v ≡ Answer.Closed → v ≡ Verdict.Closed
+closed-verdict Verdict.Open e = absurd (let z : _≡_ {A = ℕ} 0 1 = cc in omega arith)
+closed-verdict Verdict.Closed e = refl
+
+given-outcome : (o : Outcome) (a : Solved) → given o a .outcome ≡ o
+given-outcome Outcome.Passed a = refl
+given-outcome (Outcome.Refused k d) a = refl
+
+-- ---- the tests of a question
+
+question-holds : (p : ℕ) (y : List ℕ) → Below p y → questionOutcome p y ≡ Outcome.Passed
+unfolding questionOutcome
+question-holds p y h =
+    let f = first (length y) (λ j. ltb (getD y j 0) p) in
+    let all : f ≡ length y = first-all (length y) (λ j. ltb (getD y j 0) p) (λ i g. lt-ltb (getD y i 0) p (h i g)) in
+    ap (λ (b : Bool). unless b 15 f) (le-leb (length y) f (omega (arith, all)))
+
+question-numbers : (p : ℕ) (y : List ℕ) → RefusedBy (questionTooLarge ∷ []) (questionOutcome p y)
+unfolding questionOutcome among
+question-numbers p y = let f = first (length y) (λ j. ltb (getD y j 0) p) in refused-unless (15 ∷ []) (leb (length y) f) 15 f refl
+
+question-none : (p : ℕ) (y : List ℕ) → among (numberOf (questionOutcome p y)) setFaults ≡ false
+unfolding questionOutcome among
+question-none p y = let f = first (length y) (λ j. ltb (getD y j 0) p) in go (leb (length y) f) f
   where
-    go : (v : Verdict) → answerOf v ≡ Answer.Open → v ≡ Verdict.Open
-    go Verdict.Open e = refl
-    go Verdict.Closed e = absurd (let z : _≡_ {A = ℕ} 0 1 = cc in omega arith)
+    go : (b : Bool) (f : ℕ) → among (numberOf (unless b 15 f)) setFaults ≡ false
+    go true f = refl
+    go false f = refl
 
-closed-verdict : (v : Verdict) → (answerOf v ≡ Answer.Closed) ↔ (v ≡ Verdict.Closed)
-closed-verdict v = (go v, ap answerOf)
-  where
-    go : (v : Verdict) → answerOf v ≡ Answer.Closed → v ≡ Verdict.Closed
-    go Verdict.Open e = absurd (let z : _≡_ {A = ℕ} 0 1 = cc in omega arith)
-    go Verdict.Closed e = refl
+askable-lengths : (p n m : ℕ) (y : List ℕ) (a b : ℕ) → Askable p n m y a b → questionLengths n m y a b ≡ true
+unfolding questionLengths
+askable-lengths p n m y a b h = and-both (eqb (length y) m) (eqb a n && eqb b m) (eq-eqb (length y) m (h .values)) (and-both (eqb a n) (eqb b m) (eq-eqb a n (h .rows)) (eq-eqb b m (h .columns)))
 
--- the theorems for any check of a set
-module _ (check : Outcome) (p n m : ℕ) (A : Compressed) (s : Set) (y : List ℕ) (a b w : ℕ) (checked : check ≡ Outcome.Passed → Checked p n m A s w) where
+-- the numbers by which a call with a question refuses
+abbrev faults : List ℕ
+faults = (wrongLength ∷ []) ++ ((planFaults ++ setFaults) ++ (questionTooLarge ∷ []))
+
+-- ---- for any check of a set, which passes exactly X
+
+module _ (check : Outcome) (X : Type 0) (exactly : (check ≡ Outcome.Passed) ↔ X) (numbers : RefusedBy (planFaults ++ setFaults) check)
+    (p n m : ℕ) (A : Compressed) (s : Set) (y : List ℕ) (r : Answer) (x₀ x z₀ z w₀ w : List ℕ) (checked : check ≡ Outcome.Passed → Checked p n m A s (length w₀))
+    (call : Answers (given (questionAfter check p n m y (length x₀) (length z₀)) (solve p n m s (vector y))) r x₀ x z₀ z w₀ w) where
   abbrev solved : Solved
   solved = solve p n m s (vector y)
 
-  abbrev result : Given
-  result = given (questionAfter check p n m y a b) solved
+  abbrev asked : Outcome
+  asked = questionAfter check p n m y (length x₀) (length z₀)
 
-  module _ (done : NotRefused (result .answer)) where
-    passed : questionAfter check p n m y a b ≡ Outcome.Passed
-    passed = given-passed (questionAfter check p n m y a b) solved done
+  asked-numbers : RefusedBy faults asked
+  unfolding questionAfter among
+  asked-numbers =
+      refused-then (9 ∷ []) ((planFaults ++ setFaults) ++ (15 ∷ [])) (unless (questionLengths n m y (length x₀) (length z₀)) 9 0) (check ▷ questionOutcome p y)
+      (refused-unless (9 ∷ []) (questionLengths n m y (length x₀) (length z₀)) 9 0 refl)
+      (refused-then (planFaults ++ setFaults) (15 ∷ []) check (questionOutcome p y) numbers (question-numbers p y))
 
-    answer-is : result .answer ≡ answerOf (solved .verdict)
-    answer-is = ap (λ (o : Outcome). given o solved .answer) passed
+  number-is : answerNumber r ≡ numberOf asked
+  number-is = call .number ∙ ap numberOf (given-outcome asked solved)
 
-    open-says : (result .answer ≡ Answer.Open) ↔ InRowSpace p n m (matrix A) (vector y)
-    open-says =
-        let (long, judged, small) = asked-parts check p n m y a b passed in
-        let c = checked judged in
-        let (there, back) = open-exactly (c .prime) n m A s (c .sized .row-order) (c .sized .column-order) (c .judged) y (λ j h. question-passed p y small j (omega (arith, long .values))) in
-        (λ e. there (open-verdict (solved .verdict) .0 (sym answer-is ∙ e)), λ x. answer-is ∙ ap answerOf (back x))
+  asked-passed : (answerNumber r ≡ 0) ↔ (asked ≡ Outcome.Passed)
+  unfolding among
+  asked-passed =
+      let (there, back) = zero-passed faults asked asked-numbers refl in
+      ((λ e. there (sym number-is ∙ e)), λ e. number-is ∙ back e)
 
-    closed-says : (result .answer ≡ Answer.Closed) ↔ (¬ InRowSpace p n m (matrix A) (vector y))
-    closed-says =
-        let (long, judged, small) = asked-parts check p n m y a b passed in
-        let c = checked judged in
-        let (there, back) = closed-exactly (c .prime) n m A s (c .sized .row-order) (c .sized .column-order) (c .judged) y (λ j h. question-passed p y small j (omega (arith, long .values))) in
-        (λ e. there (closed-verdict (solved .verdict) .0 (sym answer-is ∙ e)), λ x. answer-is ∙ ap answerOf (back x))
+  by : NumberFrom faults (answerNumber r)
+  by = subst (NumberFrom faults) (sym number-is) (number-from faults asked asked-numbers)
 
-module _ (p n m : ℕ) (A : Compressed) (s : Set) (y : List ℕ) (a b w : ℕ) (done : NotRefused (answerFactorsOf p n m A s y a b w .answer)) where
-  pub factors-open : (answerFactorsOf p n m A s y a b w .answer ≡ Answer.Open) ↔ InRowSpace p n m (matrix A) (vector y)
+  answered : (answerNumber r ≡ 0) ↔ (X × Askable p n m y (length x₀) (length z₀))
+  unfolding questionAfter
+  answered = (
+    (λ e.
+        let (long, judged, small) = asked-parts check p n m y (length x₀) (length z₀) (asked-passed .0 e) in
+        (exactly .0 judged, record { values = long .values; rows = long .rows; columns = long .columns; residues = question-passed p y small })),
+    λ h.
+        asked-passed .1
+        (unless-holds (questionLengths n m y (length x₀) (length z₀)) 9 0 (check ▷ questionOutcome p y) (askable-lengths p n m y (length x₀) (length z₀) (h .1))
+        (after-passed check (questionOutcome p y) (exactly .1 (h .0)) ∙ question-holds p y (h .1 .residues))),
+  )
+
+  cleared : ¬ (answerNumber r ≡ 0) → (x ≡ zeros (length x₀)) × (z ≡ zeros (length z₀))
+  cleared f = go asked refl
+    where
+      go : (o : Outcome) → asked ≡ o → (x ≡ zeros (length x₀)) × (z ≡ zeros (length z₀))
+      go Outcome.Passed e = absurd (f (asked-passed .1 e))
+      go (Outcome.Refused k d) e = (
+        call .x-is ∙ ap (λ (o : Outcome). filled (length x₀) (given o solved .x)) e ∙ filled-none (length x₀),
+        call .z-is ∙ ap (λ (o : Outcome). filled (length z₀) (given o solved .z)) e ∙ filled-none (length z₀),
+      )
+
+  -- what follows the check gives none of its numbers
+  judged-none : (Y : Type 0) → Askable p n m y (length x₀) (length z₀) → ((among (numberOf (check ▷ questionOutcome p y)) setFaults ≡ false) ↔ Y) → (among (answerNumber r) setFaults ≡ false) ↔ Y
+  unfolding questionAfter
+  judged-none Y h k =
+      subst (λ (i : ℕ). (among i setFaults ≡ false) ↔ Y)
+      (sym (number-is ∙ ap (λ (b : Bool). numberOf (unless b 9 0 ▷ check ▷ questionOutcome p y)) (askable-lengths p n m y (length x₀) (length z₀) h))) k
+
+  -- ---- the answer
+
+  module _ (done : answerNumber r ≡ 0) where
+    passed : asked ≡ Outcome.Passed
+    passed = asked-passed .0 done
+
+    ask : Askable p n m y (length x₀) (length z₀)
+    ask = answered .0 done .1
+
+    c : Checked p n m A s (length w₀)
+    c = checked (asked-parts check p n m y (length x₀) (length z₀) passed .1)
+
+    inside : (j : ℕ) → j < m → vector y j < p
+    inside j h = ask .residues j (omega (arith, ask .values))
+
+    answer-is : r ≡ answerOf (solved .verdict)
+    answer-is = call .answer ∙ ap (λ (o : Outcome). given o solved .answer) passed
+
+    opened : r ≡ Answer.Open → solved .verdict ≡ Verdict.Open
+    opened e = open-verdict (solved .verdict) (sym answer-is ∙ e)
+
+    closed : r ≡ Answer.Closed → solved .verdict ≡ Verdict.Closed
+    closed e = closed-verdict (solved .verdict) (sym answer-is ∙ e)
+
+    x-left : length (solved .x) ≡ n → x ≡ solved .x
+    x-left long = call .x-is ∙ ap (λ (o : Outcome). filled (length x₀) (given o solved .x)) passed ∙ filled-whole (length x₀) (solved .x) (long ∙ sym (ask .rows))
+
+    z-left : length (solved .z) ≡ m → z ≡ solved .z
+    z-left long = call .z-is ∙ ap (λ (o : Outcome). filled (length z₀) (given o solved .z)) passed ∙ filled-whole (length z₀) (solved .z) (long ∙ sym (ask .columns))
+
+    open-left : r ≡ Answer.Open → LeftOpen p n m A s y x z
+    open-left e =
+        let (long, right, none) = sets.open-answer (c .prime) n m A s (c .sized .row-order) (c .sized .column-order) (c .judged) y inside (opened e) in
+        let is-x = x-left long in
+        record {
+          length-x = ap length is-x ∙ long;
+          answer = subst (λ (l : List ℕ). OpenAnswer p n m (s .r) (matrix A) (vector (s .R)) (vector y) (vector l)) (sym is-x) right;
+          z-is = z-left (ap length none ∙ length-zeros m) ∙ none;
+        }
+
+    closed-left : r ≡ Answer.Closed → LeftClosed p n m A s y x z
+    closed-left e =
+        let (long, right, none) = sets.closed-answer (c .prime) n m A s (c .sized .row-order) (c .sized .column-order) (c .judged) y inside (closed e) in
+        let is-z = z-left long in
+        record {
+          length-z = ap length is-z ∙ long;
+          answer = subst (λ (l : List ℕ). ClosedAnswer p n m (s .r) (matrix A) (vector (s .C)) (lowest p m s (vector y)) (vector l)) (sym is-z) right;
+          differs =
+              subst (λ (l : List ℕ). ¬ (dot m (vector y) (vector l) ≈⟨ p ⟩ 0)) (sym is-z)
+              (sets.closed-differs (c .prime) n m A s (c .sized .row-order) (c .sized .column-order) (c .judged) y inside (closed e));
+          x-is = x-left (ap length none ∙ length-zeros n) ∙ none;
+        }
+
+    right : AnswersRight p n m A s y r x z
+    right =
+        let (there, back) = sets.open-exactly (c .prime) n m A s (c .sized .row-order) (c .sized .column-order) (c .judged) y inside in
+        let (out, none) = sets.closed-exactly (c .prime) n m A s (c .sized .row-order) (c .sized .column-order) (c .judged) y inside in
+        record {
+          open-exactly = (λ e. there (opened e), λ q. answer-is ∙ ap answerOf (back q));
+          closed-exactly = (λ e. out (closed e), λ q. answer-is ∙ ap answerOf (none q));
+          open-left = open-left;
+          closed-left = closed-left;
+          one-value = λ e. sets.open-determined (c .prime) n m A s (c .sized .row-order) (c .sized .column-order) (c .judged) y inside (opened e);
+          every-value = λ e. sets.closed-undetermined (c .prime) n m A s (c .sized .row-order) (c .sized .column-order) (c .judged) y inside (closed e);
+        }
+
+-- ---- from stored factors
+
+module _ (p n m : ℕ) (A : Compressed) (s : Set) (y : List ℕ) (r : Answer) (x₀ x z₀ z w₀ w : List ℕ)
+    (call : Answers (answerFactorsOf p n m A s y (length x₀) (length z₀) (length w₀)) r x₀ x z₀ z w₀ w) where
+  pub stored-answered : (answerNumber r ≡ 0) ↔ (StoredPasses p n m A s (length w₀) × Askable p n m y (length x₀) (length z₀))
   unfolding answerFactorsOf
-  factors-open = open-says (checkFactorsOf p n m A s w) p n m A s y a b w (factors-checked p n m A w s) done
+  stored-answered =
+      answered (checkFactorsOf p n m A s (length w₀)) _ (factors-exactly p n m A s (length w₀)) (factors-numbers p n m A s (length w₀)) p n m A s y r x₀ x z₀ z w₀ w (factors-checked p n m A (length w₀) s) call
 
-  pub factors-closed : (answerFactorsOf p n m A s y a b w .answer ≡ Answer.Closed) ↔ (¬ InRowSpace p n m (matrix A) (vector y))
+  pub stored-right : answerNumber r ≡ 0 → AnswersRight p n m A s y r x z
   unfolding answerFactorsOf
-  factors-closed = closed-says (checkFactorsOf p n m A s w) p n m A s y a b w (factors-checked p n m A w s) done
+  stored-right =
+      right (checkFactorsOf p n m A s (length w₀)) _ (factors-exactly p n m A s (length w₀)) (factors-numbers p n m A s (length w₀)) p n m A s y r x₀ x z₀ z w₀ w (factors-checked p n m A (length w₀) s) call
 
-module _ (p n m : ℕ) (A : Compressed) (cert y : List ℕ) (a b w : ℕ) (done : NotRefused (answerCertificateOf p n m A cert y a b w .answer)) where
-  pub certificate-open : (answerCertificateOf p n m A cert y a b w .answer ≡ Answer.Open) ↔ InRowSpace p n m (matrix A) (vector y)
-  unfolding answerCertificateOf
-  certificate-open = open-says (checkCertificateOf p n m A cert w) p n m A (setOfCertificate n m cert) y a b w (certificate-checked p n m A w cert) done
+  pub stored-by : NumberFrom faults (answerNumber r)
+  unfolding answerFactorsOf
+  stored-by = by (checkFactorsOf p n m A s (length w₀)) _ (factors-exactly p n m A s (length w₀)) (factors-numbers p n m A s (length w₀)) p n m A s y r x₀ x z₀ z w₀ w (factors-checked p n m A (length w₀) s) call
 
-  pub certificate-closed : (answerCertificateOf p n m A cert y a b w .answer ≡ Answer.Closed) ↔ (¬ InRowSpace p n m (matrix A) (vector y))
+  pub stored-cleared : ¬ (answerNumber r ≡ 0) → (x ≡ zeros (length x₀)) × (z ≡ zeros (length z₀))
+  unfolding answerFactorsOf
+  stored-cleared =
+      cleared (checkFactorsOf p n m A s (length w₀)) _ (factors-exactly p n m A s (length w₀)) (factors-numbers p n m A s (length w₀)) p n m A s y r x₀ x z₀ z w₀ w (factors-checked p n m A (length w₀) s) call
+
+  pub stored-judged : GoodPlan p n m A → Sized n m s → length w₀ ≡ workLength → Askable p n m y (length x₀) (length z₀) → (among (answerNumber r) setFaults ≡ false) ↔ Passes p n m A s
+  unfolding answerFactorsOf
+  stored-judged g t l h =
+      judged-none (checkFactorsOf p n m A s (length w₀)) _ (factors-exactly p n m A s (length w₀)) (factors-numbers p n m A s (length w₀)) p n m A s y r x₀ x z₀ z w₀ w (factors-checked p n m A (length w₀) s) call (Passes p n m A s) h
+      (factors-none p n m A s (length w₀) g t l (questionOutcome p y) (question-none p y))
+
+-- ---- from a certificate
+
+module _ (p n m : ℕ) (A : Compressed) (cert y : List ℕ) (r : Answer) (x₀ x z₀ z w₀ w : List ℕ)
+    (call : Answers (answerCertificateOf p n m A cert y (length x₀) (length z₀) (length w₀)) r x₀ x z₀ z w₀ w) where
+  abbrev set : Set
+  set = setOfCertificate n m cert
+
+  pub bytes-answered : (answerNumber r ≡ 0) ↔ (CertificatePasses p n m A cert (length w₀) × Askable p n m y (length x₀) (length z₀))
   unfolding answerCertificateOf
-  certificate-closed = closed-says (checkCertificateOf p n m A cert w) p n m A (setOfCertificate n m cert) y a b w (certificate-checked p n m A w cert) done
+  bytes-answered =
+      answered (checkCertificateOf p n m A cert (length w₀)) _ (certificate-exactly p n m A cert (length w₀)) (certificate-numbers p n m A cert (length w₀)) p n m A set y r x₀ x z₀ z w₀ w (certificate-checked p n m A (length w₀) cert) call
+
+  pub bytes-right : answerNumber r ≡ 0 → AnswersRight p n m A set y r x z
+  unfolding answerCertificateOf
+  bytes-right =
+      right (checkCertificateOf p n m A cert (length w₀)) _ (certificate-exactly p n m A cert (length w₀)) (certificate-numbers p n m A cert (length w₀)) p n m A set y r x₀ x z₀ z w₀ w (certificate-checked p n m A (length w₀) cert) call
+
+  pub bytes-by : NumberFrom faults (answerNumber r)
+  unfolding answerCertificateOf
+  bytes-by =
+      by (checkCertificateOf p n m A cert (length w₀)) _ (certificate-exactly p n m A cert (length w₀)) (certificate-numbers p n m A cert (length w₀)) p n m A set y r x₀ x z₀ z w₀ w (certificate-checked p n m A (length w₀) cert) call
+
+  pub bytes-cleared : ¬ (answerNumber r ≡ 0) → (x ≡ zeros (length x₀)) × (z ≡ zeros (length z₀))
+  unfolding answerCertificateOf
+  bytes-cleared =
+      cleared (checkCertificateOf p n m A cert (length w₀)) _ (certificate-exactly p n m A cert (length w₀)) (certificate-numbers p n m A cert (length w₀)) p n m A set y r x₀ x z₀ z w₀ w (certificate-checked p n m A (length w₀) cert) call
+
+  pub bytes-judged : GoodPlan p n m A → length w₀ ≡ workLength → Askable p n m y (length x₀) (length z₀) → (among (answerNumber r) setFaults ≡ false) ↔ ((headerOk p n m cert ≡ true) × Passes p n m A set)
+  unfolding answerCertificateOf
+  bytes-judged g l h =
+      judged-none (checkCertificateOf p n m A cert (length w₀)) _ (certificate-exactly p n m A cert (length w₀)) (certificate-numbers p n m A cert (length w₀)) p n m A set y r x₀ x z₀ z w₀ w (certificate-checked p n m A (length w₀) cert) call
+      ((headerOk p n m cert ≡ true) × Passes p n m A set) h
+      (certificate-none p n m A cert (length w₀) g l (questionOutcome p y) (question-none p y))
+
+-- ---- two answers to one question
+
+pub right-agree : (p n m : ℕ) (A : Compressed) (s s′ : Set) (y : List ℕ) (r r′ : Answer) (x z x′ z′ : List ℕ) → AnswersRight p n m A s y r x z → AnswersRight p n m A s′ y r′ x′ z′
+    → ((r ≡ Answer.Open) ↔ (r′ ≡ Answer.Open)) × ((r ≡ Answer.Closed) ↔ (r′ ≡ Answer.Closed))
+right-agree p n m A s s′ y r r′ x z x′ z′ a b = (
+  ((λ e. b .open-exactly .1 (a .open-exactly .0 e)), λ e. a .open-exactly .1 (b .open-exactly .0 e)),
+  ((λ e. b .closed-exactly .1 (a .closed-exactly .0 e)), λ e. a .closed-exactly .1 (b .closed-exactly .0 e)),
+)

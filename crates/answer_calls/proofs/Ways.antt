@@ -11,7 +11,7 @@ use Rattle.lists.specs.declared.Outcome.{Outcome}
 use Rattle.lists.proofs.Filled.{length-zeros, filled-none, filled-whole}
 use Rattle.lists.proofs.Refusals.{fails, holds, refused, passed, both-passed}
 use Rattle.answers.proofs.Passed.{question-passed}
-use Rattle.pluq.proofs.Judged.{unless-passed}
+use Rattle.lists.proofs.Refusals.{unless-passed}
 use Rattle.algebra.specs.Matrix.{vector}
 use Rattle.sparse.specs.Matrix.{Compressed}
 use Rattle.sparse.specs.Set.{Set}

@@ -19,7 +19,7 @@ use Rattle.sparse.specs.Set.{Set}
 use Rattle.pluq.specs.Order.{permutation}
 use Rattle.pluq.specs.Shape.{lower, upper}
 use Rattle.pluq.specs.Judge.{judge, judgeFactors}
-use Rattle.pluq.proofs.Judged.{unless-passed}
+use Rattle.lists.proofs.Refusals.{unless-passed}
 use Rattle.row_space.specs.Question.{questionOutcome}
 use Rattle.answers.specs.Answering.{SetReady}
 

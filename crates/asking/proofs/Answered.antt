@@ -25,7 +25,7 @@ use Rattle.check_calls.specs.Calls.{checkFactorsOf}
 use Rattle.answer_calls.specs.Calls.{Given, answerOf, questionAfter, given, answerFactorsOf, Answers}
 use Rattle.answer_calls.specs.declared.Answer.{Answer}
 use Rattle.report_text.specs.Answer.{answerLine, answerText}
-use Rattle.stages.specs.Stages.{heldPlan}
+use Rattle.plan_text.specs.Held.{heldPlan}
 use Rattle.stages.specs.Staged.{heldSet}
 use Rattle.stages.specs.declared.Stages.{Stages}
 use Rattle.asking.specs.Asking.{isOpenAnswer, givenLine}

@@ -21,7 +21,8 @@ use Rattle.answer_calls.specs.Calls.{Given, answerFactorsOf}
 use Rattle.answer_calls.specs.declared.Answer.{Answer}
 use Rattle.report_text.specs.Answer.{answerText}
 use Rattle.report_text.specs.Printed.{countedFromOne, printed}
-use Rattle.stages.specs.Stages.{reading, planOf, readOutcome, factoredOf, factorOutcome, setIn}
+use Rattle.stages.specs.Stages.{reading, readOutcome, factoredOf, factorOutcome, setIn}
+use Rattle.plan_text.specs.Held.{planOf}
 
 abbrev pub answerFor : ReadAnswer → Outcome → List ℕ → Given
 answerFor x f y = let r = x .result in answerFactorsOf (r .p) (r .n) (r .m) (planOf x) (setIn f) y (r .n) (r .m) workLength

@@ -25,7 +25,8 @@ use Rattle.answer_calls.specs.declared.Answer.{Answer}
 use Rattle.report_text.specs.Answer.{answerLine}
 use Rattle.report_text.specs.Report.{refusalText}
 use Rattle.report_text.specs.Printed.{detailFromOne, countedFromOne, printed}
-use Rattle.stages.specs.Stages.{heldPlan, readOutcome}
+use Rattle.stages.specs.Stages.{readOutcome}
+use Rattle.plan_text.specs.Held.{heldPlan}
 use Rattle.stages.specs.Staged.{Fits, heldSet}
 use Rattle.stages.specs.declared.Stages.{Stages}
 use Rattle.asking.specs.Asking.{givenLine, AskLists}

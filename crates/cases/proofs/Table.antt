@@ -23,7 +23,8 @@ use Rattle.sparse.specs.Matrix.{matrix}
 use Rattle.sparse.specs.Form.{startsFrom, starts, risesFrom, rowsFrom, values, wellFormed}
 use Rattle.sparse.specs.Row.{weigh}
 use Rattle.sparse.specs.Dense.{columnsFrom, nonzeros, startsAfter, allColumns, allValues, compress}
-use Rattle.pluq.specs.Order.{among, below, distinct, permutation}
+use Rattle.lists.specs.Tests.{among}
+use Rattle.pluq.specs.Order.{below, distinct, permutation}
 use Rattle.pluq.specs.Shape.{lowerRow, lower, upperRow, upper}
 use Rattle.pluq.specs.Judge.{agrees, productOutcome, judgeFactors, judge}
 use Rattle.row_space.specs.Substitution.{backL, backU}

@@ -7,7 +7,7 @@ use lib.ListN.{length}
 use Rattle.sparse.specs.Words.{le32, words}
 use Rattle.sparse.specs.Row.{Below}
 use Rattle.certificate.specs.Layout.{bytes}
-use Rattle.certificate.proofs.Bounds.{below-none, below-cons, below-tail}
+use Rattle.sparse.proofs.Bounds.{below-none, below-cons, below-tail}
 
 pub length-bytes : (xs : List ℕ) → length (bytes xs) ≡ 4 * length xs
 unfolding bytes

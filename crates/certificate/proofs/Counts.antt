@@ -11,7 +11,7 @@ use Rattle.lists.proofs.Bools.{and-left, and-right}
 use Rattle.sparse.specs.Form.{startsFrom, starts, wellFormed}
 use Rattle.sparse.specs.Matrix.{Compressed, form}
 use Rattle.sparse.specs.Row.{Below}
-use Rattle.certificate.proofs.Bounds.{below-tail}
+use Rattle.sparse.proofs.Bounds.{below-tail}
 
 last-below : (b count from : ℕ) (ss : List ℕ) → startsFrom count from ss ≡ true → from < b → Below b ss → count < b
 unfolding startsFrom

@@ -1,4 +1,3 @@
-pub mod Bounds
 pub mod Bytes
 pub mod Lengths
 pub mod Cuts

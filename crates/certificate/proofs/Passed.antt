@@ -17,7 +17,7 @@ use Rattle.sparse.specs.Row.{Below}
 use Rattle.sparse.proofs.WordLaws.{length-words}
 use Rattle.certificate.specs.Layout.{bytes, mark, version, factorNumbers, numbersOf, certificateOf, Sized}
 use Rattle.certificate.specs.Reading.{placesOf, placesIn, numbers, field, numbersIn, setIn, setOfCertificate, begins, lengthOk, sizesOk, headerOk}
-use Rattle.certificate.proofs.Bounds.{below-drop}
+use Rattle.sparse.proofs.Bounds.{below-drop}
 use Rattle.certificate.proofs.Bytes.{bytes-words, words-below}
 use Rattle.certificate.proofs.Beginnings.{begins-is}
 use Rattle.certificate.proofs.Cuts.{piece, factor-piece}

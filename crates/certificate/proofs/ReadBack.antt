@@ -14,7 +14,7 @@ use Rattle.sparse.specs.Matrix.{Compressed}
 use Rattle.sparse.specs.Set.{Set, setOf}
 use Rattle.certificate.specs.Layout.{mark, version, headerNumbers, factorNumbers, numbersOf, certificateOf, Sized}
 use Rattle.certificate.specs.Reading.{placesOf, numbers, field, setIn, setOfCertificate, begins, lengthOk, sizesOk, headerOk}
-use Rattle.certificate.proofs.Bounds.{below-none, below-cons, below-append}
+use Rattle.sparse.proofs.Bounds.{below-none, below-cons, below-append}
 use Rattle.certificate.proofs.Bytes.{words-bytes}
 use Rattle.certificate.proofs.Lengths.{length-certificate}
 use Rattle.certificate.proofs.Cuts.{reads-here, reads-next, factor-here, factor-next}

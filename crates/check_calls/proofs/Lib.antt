@@ -1,2 +1,4 @@
 pub mod Tested
 pub mod Stored
+pub mod Numbers
+pub mod Theorems

@@ -12,18 +12,19 @@ use Rattle.lists.specs.Refusals.{_▷_, unless}
 use Rattle.lists.specs.declared.Outcome.{Outcome}
 use Rattle.lists.specs.declared.Outcome.the-variants.{Passed, Refused}
 use Rattle.lists.proofs.Bools.{and-left, and-right, chain-false, chain-true, and-both}
-use Rattle.lists.proofs.Refusals.{fails, holds, passed}
+use Rattle.lists.proofs.Refusals.{fails, holds, passed, unless-true}
 use Rattle.algebra.specs.Prime.{Prime}
 use Rattle.residue.specs.Range.{isModulus}
 use Rattle.residue.proofs.Primes.{modulus-prime}
 use Rattle.sparse.specs.Matrix.{Compressed, form}
 use Rattle.sparse.specs.Set.{Set}
-use Rattle.pluq.proofs.Judged.{unless-passed}
 use Rattle.checker.specs.Needs.{Checkable}
 use Rattle.certificate.specs.Reading.{headerOk}
 use Rattle.certificate.specs.Layout.{Sized}
-use Rattle.call_tests.specs.Limits.{workLength, largestSize, largestEntries}
-use Rattle.call_tests.specs.Tests.{pairedLengths, planLengths, setLengths, limitsOk, planOutcome, callOutcome}
+use Rattle.call_tests.specs.Limits.{workLength}
+use Rattle.call_tests.specs.Tests.{pairedLengths, planLengths, setLengths, planOutcome, callOutcome}
+use Rattle.call_tests.specs.Accepted.{GoodPlan}
+use Rattle.call_tests.proofs.Plans.{good-plan, good-positive}
 use Rattle.check_calls.specs.Calls.{factorsOutcome, certificateOutcome}
 
 -- ---- the lengths
@@ -85,39 +86,7 @@ module _ (p n m : ℕ) (A : Compressed) (cert : List ℕ) (w : ℕ) where
   unfolding certificateOutcome
   certificate-header o f e x q = passed o plan header x f e q
 
--- ---- a plan that passed
-
-pub record GoodPlan (p n m : ℕ) (A : Compressed) : Type 0 where
-  pub modulus : isModulus p ≡ true
-  pub rows : length (A .starts) ≡ n + 1
-  pub few-rows : n ≤ largestSize
-  pub few-columns : m ≤ largestSize
-  pub formed : form p m A ≡ true
-
-pub prime-positive : (p : ℕ) → Prime p → 0 < p
-prime-positive p prime = omega (arith, prime .two)
-
-unless-true : (b : Bool) (k d : ℕ) → unless b k d ≡ Passed → b ≡ true
-unless-true true k d e = refl
-unless-true false k d e = absurd (let z : _≡_ {A = ℕ} 0 1 = cc in omega arith)
-
-pub good-plan : (p n m : ℕ) (A : Compressed) (lengths : Bool) → callOutcome lengths p n m A ≡ Passed → GoodPlan p n m A × (lengths ≡ true)
-unfolding planOutcome planLengths limitsOk
-good-plan p n m A lengths h =
-    let (long, h₁) = unless-passed (planLengths n A && lengths) 9 0 (planOutcome p n m A) h in
-    let (modulus, h₂) = unless-passed (isModulus p) 1 0 (unless (limitsOk n m A) 2 0 ▷ unless (form p m A) 8 0) h₁ in
-    let (limits, h₃) = unless-passed (limitsOk n m A) 2 0 (unless (form p m A) 8 0) h₂ in
-    let starts = and-left (eqb (length (A .starts)) (n + 1)) (pairedLengths (A .cols) (A .vals)) (and-left (planLengths n A) lengths long) in
-    let columns = and-right (leb n largestSize) (leb m largestSize && leb (length (A .cols)) largestEntries) limits in (
-      record {
-        modulus = modulus;
-        rows = eqb-true (length (A .starts)) (n + 1) starts;
-        few-rows = leb-true n largestSize (and-left (leb n largestSize) (leb m largestSize && leb (length (A .cols)) largestEntries) limits);
-        few-columns = leb-true m largestSize (and-left (leb m largestSize) (leb (length (A .cols)) largestEntries) columns);
-        formed = unless-true (form p m A) 8 0 h₃;
-      },
-      and-right (planLengths n A) lengths long,
-    )
+-- ---- a plan and a set that passed
 
 -- the lengths of a set's lists, as they are tested
 pub set-sized : (n m : ℕ) (s : Set) → setLengths n m s ≡ true → Sized n m s
@@ -140,7 +109,7 @@ set-sized n m s h =
 pub checkable : (p n m : ℕ) (A : Compressed) (s : Set) (w : List ℕ) → GoodPlan p n m A → Sized n m s → length w ≡ workLength → w ≡ zeros (length w) → Checkable p n m A s w
 checkable p n m A s w g z wide clear =
     record {
-      positive = prime-positive p (modulus-prime p (g .modulus));
+      positive = good-positive g;
       A-form = g .formed;
       A-rows = g .rows;
       order = z .row-order;

@@ -16,6 +16,7 @@ use Rattle.sparse.proofs.DenseLaws.{columns-length}
 use Rattle.elimination.specs.Structural.{Pair}
 use Rattle.elimination.specs.Pivots.{Pivot, Dependent, Found, uppersOf, withPivot, withDependent, Turn, pair, other, turn, turns}
 use Rattle.elimination.specs.Factoring.{schedule, nothing, lowersOf, entries, rowOfTurn, fits, firstOver, factored, factorFrom}
+use Rattle.elimination.specs.Overflow.{EntriesFit, Overflows}
 use Rattle.elimination.proofs.Turns.{other-either}
 
 -- ---- how many entries
@@ -77,12 +78,7 @@ module _ (p m : ℕ) (A : Matrix) where
 
 -- ---- the first row that overflows
 
--- the entries of L and of U are at most as many as there is room for
-pub record Fits (roomL roomU : ℕ) (f : Found) : Type 0 where
-  pub L : entries (lowersOf f) ≤ roomL
-  pub U : entries (uppersOf f) ≤ roomU
-
-fits-holds : (roomL roomU : ℕ) (f : Found) → fits roomL roomU f ≡ true → Fits roomL roomU f
+fits-holds : (roomL roomU : ℕ) (f : Found) → fits roomL roomU f ≡ true → EntriesFit roomL roomU f
 unfolding fits
 fits-holds roomL roomU f e =
     record {
@@ -90,50 +86,40 @@ fits-holds roomL roomU f e =
       U = leb-true (entries (uppersOf f)) roomU (and-right (leb (entries (lowersOf f)) roomL) (leb (entries (uppersOf f)) roomU) e);
     }
 
-holds-fits : (roomL roomU : ℕ) (f : Found) → Fits roomL roomU f → fits roomL roomU f ≡ true
+holds-fits : (roomL roomU : ℕ) (f : Found) → EntriesFit roomL roomU f → fits roomL roomU f ≡ true
 unfolding fits
 holds-fits roomL roomU f h = and-both (leb (entries (lowersOf f)) roomL) (leb (entries (uppersOf f)) roomU) (le-leb (entries (lowersOf f)) roomL (h .L)) (le-leb (entries (uppersOf f)) roomU (h .U))
 
 module _ (p m : ℕ) (A : Matrix) (roomL roomU : ℕ) where
   -- what fits later fitted before
-  pub fits-before : (f : Found) (ts : List Turn) → Fits roomL roomU (turns p m A f ts) → Fits roomL roomU f
+  pub fits-before : (f : Found) (ts : List Turn) → EntriesFit roomL roomU (turns p m A f ts) → EntriesFit roomL roomU f
   fits-before f ts h = let g = turns-grow p m A f ts in record { L = omega (arith, g .L, h .L); U = omega (arith, g .U, h .U) }
 
   -- where none overflows, the whole fits, and the other way about
-  pub none-over : (f : Found) (ts : List Turn) → Fits roomL roomU f → firstOver p m A roomL roomU f ts ≡ none → Fits roomL roomU (turns p m A f ts)
+  pub none-over : (f : Found) (ts : List Turn) → EntriesFit roomL roomU f → firstOver p m A roomL roomU f ts ≡ none → EntriesFit roomL roomU (turns p m A f ts)
   unfolding firstOver turns
   none-over f [] h e = h
   none-over f (t ∷ ts) h e = go (fits roomL roomU (turn p m A f t)) refl e (none-over (turn p m A f t) ts)
     where
       go : (b : Bool) → fits roomL roomU (turn p m A f t) ≡ b → cond b (firstOver p m A roomL roomU (turn p m A f t) ts) (some (rowOfTurn t)) ≡ none
-          → (Fits roomL roomU (turn p m A f t) → firstOver p m A roomL roomU (turn p m A f t) ts ≡ none → Fits roomL roomU (turns p m A (turn p m A f t) ts)) → Fits roomL roomU (turns p m A (turn p m A f t) ts)
+          → (EntriesFit roomL roomU (turn p m A f t) → firstOver p m A roomL roomU (turn p m A f t) ts ≡ none → EntriesFit roomL roomU (turns p m A (turn p m A f t) ts)) → EntriesFit roomL roomU (turns p m A (turn p m A f t) ts)
       go true q e ih = ih (fits-holds roomL roomU (turn p m A f t) q) e
       go false q e ih = let z : _≡_ {A = ℕ} 0 1 = cc in absurd (omega arith)
 
-  pub whole-fits : (f : Found) (ts : List Turn) → Fits roomL roomU (turns p m A f ts) → firstOver p m A roomL roomU f ts ≡ none
+  pub whole-fits : (f : Found) (ts : List Turn) → EntriesFit roomL roomU (turns p m A f ts) → firstOver p m A roomL roomU f ts ≡ none
   unfolding firstOver turns
   whole-fits f [] h = refl
   whole-fits f (t ∷ ts) h =
       ap (λ (b : Bool). cond b (firstOver p m A roomL roomU (turn p m A f t) ts) (some (rowOfTurn t))) (holds-fits roomL roomU (turn p m A f t) (fits-before (turn p m A f t) ts h))
       ∙ whole-fits (turn p m A f t) ts h
 
-  -- i is the row of the turn `at`: what is found before it fits, and with it no longer
-  pub record Overflows (f : Found) (ts : List Turn) (i : ℕ) : Type 0 where
-    pub before : List Turn
-    pub at : Turn
-    pub after : List Turn
-    pub split : ts ≡ before ++ (at ∷ after)
-    pub row : rowOfTurn at ≡ i
-    pub fitted : Fits roomL roomU (turns p m A f before)
-    pub over : ¬ Fits roomL roomU (turns p m A f (before ++ (at ∷ [])))
-
-  pub first-overflows : (f : Found) (ts : List Turn) (i : ℕ) → Fits roomL roomU f → firstOver p m A roomL roomU f ts ≡ some i → Overflows f ts i
+  pub first-overflows : (f : Found) (ts : List Turn) (i : ℕ) → EntriesFit roomL roomU f → firstOver p m A roomL roomU f ts ≡ some i → Overflows p m A roomL roomU f ts i
   unfolding firstOver turns
   first-overflows f [] i h e = let z : _≡_ {A = ℕ} 0 1 = cc in absurd (omega arith)
   first-overflows f (t ∷ ts) i h e = go (fits roomL roomU (turn p m A f t)) refl e (first-overflows (turn p m A f t) ts i)
     where
       go : (b : Bool) → fits roomL roomU (turn p m A f t) ≡ b → cond b (firstOver p m A roomL roomU (turn p m A f t) ts) (some (rowOfTurn t)) ≡ some i
-          → (Fits roomL roomU (turn p m A f t) → firstOver p m A roomL roomU (turn p m A f t) ts ≡ some i → Overflows (turn p m A f t) ts i) → Overflows f (t ∷ ts) i
+          → (EntriesFit roomL roomU (turn p m A f t) → firstOver p m A roomL roomU (turn p m A f t) ts ≡ some i → Overflows p m A roomL roomU (turn p m A f t) ts i) → Overflows p m A roomL roomU f (t ∷ ts) i
       go true q e ih =
           let o = ih (fits-holds roomL roomU (turn p m A f t) q) e in
           record {
@@ -162,7 +148,7 @@ module _ (p n m : ℕ) (A : Matrix) (pairs : List Pair) (roomL roomU : ℕ) wher
   abbrev finished : Set
   finished = factorFrom p n m A pairs
 
-  at-first : Fits roomL roomU nothing
+  at-first : EntriesFit roomL roomU nothing
   unfolding lowersOf uppersOf entries
   at-first = record { L = omega arith; U = omega arith }
 

@@ -2,3 +2,4 @@ pub mod Structural
 pub mod Pivots
 pub mod Factoring
 pub mod Pairs
+pub mod Overflow

@@ -8,6 +8,7 @@ use borrow.Author.Tests.{eqb-true, eq-eqb, ne-eqb}
 use Rattle.lists.proofs.Bools.{and-left, and-right, chain-false, chain-true}
 use Rattle.call_tests.specs.Limits.{workLength}
 use Rattle.factor_calls.specs.Lengths.{lentLengths}
+use Rattle.factor_calls.specs.Accepted.{LentRight}
 use Rattle.factor_calls.specs.declared.Lent.{Lent}
 
 -- a test of two numbers first, then others
@@ -80,17 +81,9 @@ module _ (n m : ℕ) (l : Lent) where
               pub upper-agrees : l .ucols ≡ l .uvals → eqb (l .work) workLength ≡ lentLengths n m l
               upper-agrees e = on-ustarts from-uvals (agrees (l .ucols) (l .uvals) from-uvals from-uvals e refl)
 
--- the lengths, as they are tested
-pub record Lengths (n m : ℕ) (l : Lent) : Type 0 where
-  pub rows : l .rows ≡ n
-  pub columns : l .columns ≡ m
-  pub lstarts : l .lstarts ≡ n + 1
-  pub lower : l .lcols ≡ l .lvals
-  pub ustarts : l .ustarts ≡ n + 1
-  pub upper : l .ucols ≡ l .uvals
-  pub work : l .work ≡ workLength
+-- ---- the lengths that are tested
 
-pub lent-right : (n m : ℕ) (l : Lent) → lentLengths n m l ≡ true → Lengths n m l
+pub lent-right : (n m : ℕ) (l : Lent) → lentLengths n m l ≡ true → LentRight n m l
 unfolding lentLengths
 lent-right n m l h₀ =
     let h₁ = and-right (eqb (l .rows) n) (from-columns n m l) h₀ in
@@ -107,3 +100,14 @@ lent-right n m l h₀ =
       upper = eqb-true (l .ucols) (l .uvals) (and-left (eqb (l .ucols) (l .uvals)) (from-uvals n m l) h₅);
       work = eqb-true (l .work) workLength (and-right (eqb (l .ucols) (l .uvals)) (from-uvals n m l) h₅);
     }
+
+pub right-lent : (n m : ℕ) (l : Lent) → LentRight n m l → lentLengths n m l ≡ true
+unfolding lentLengths
+right-lent n m l h =
+    rw (eq-eqb (l .rows) n (h .rows))
+    (rw (eq-eqb (l .columns) m (h .columns))
+    (rw (eq-eqb (l .lstarts) (n + 1) (h .lstarts))
+    (rw (eq-eqb (l .lcols) (l .lvals) (h .lower))
+    (rw (eq-eqb (l .ustarts) (n + 1) (h .ustarts))
+    (rw (eq-eqb (l .ucols) (l .uvals) (h .upper))
+    (eq-eqb (l .work) workLength (h .work)))))))

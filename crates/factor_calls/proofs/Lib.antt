@@ -1,2 +1,3 @@
 pub mod LentLists
 pub mod Ready
+pub mod Theorems

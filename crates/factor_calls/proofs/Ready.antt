@@ -2,8 +2,7 @@
 use mathlib.Core.Path.{_≡_, refl, sym, subst}
 use mathlib.Core.Bool.{true}
 use mathlib.Core.List.{List}
-use Prim.Native.Nat.{ℕ, _*_, _^_, _≤_, _<_}
-use native.Mathlib.Nat.{mul-le-mul-left}
+use Prim.Native.Nat.{ℕ, _≤_}
 use native.Mathlib.Omega.{arith}
 use lib.ListN.{length}
 use Rattle.lists.proofs.Filled.{cleared-filled}
@@ -12,13 +11,14 @@ use Rattle.lists.specs.declared.Outcome.the-variants.{Passed, Refused}
 use Rattle.residue.proofs.Primes.{modulus-prime}
 use Rattle.sparse.specs.Matrix.{Compressed, form}
 use Rattle.call_tests.specs.Limits.{largestSize}
-use Rattle.check_calls.proofs.Tested.{good-plan}
+use Rattle.call_tests.proofs.Plans.{good-plan, small-product}
 use Rattle.factoring.specs.Outcome.{Outcome, factoring, Leaves}
 use Rattle.factoring.specs.Needs.{AllClear, FactorReady}
 use Rattle.factor_calls.specs.Lengths.{lentOf, lentLengths, lentOutcome}
 use Rattle.factor_calls.specs.Calls.{refusal, unlessRefused, factorCallOf}
 use Rattle.factor_calls.specs.declared.Lent.{Lent}
-use Rattle.factor_calls.proofs.LentLists.{Lengths, lent-right}
+use Rattle.factor_calls.specs.Accepted.{LentRight}
+use Rattle.factor_calls.proofs.LentLists.{lent-right}
 
 -- the lists have the lengths of others
 pub record Kept (l l′ : Lent) : Type 0 where
@@ -46,15 +46,12 @@ kept-same l l′ h t =
       work = h .work t;
     }
 
-pub small-product : (a b : ℕ) → a ≤ largestSize → b ≤ largestSize → a * b < 2 ^ 32
-small-product a b h k = omega (arith, mul-le-mul-left {m = b} {n = 2048} a k, h)
-
 module _ (p n m : ℕ) (A : Compressed) (R C : List ℕ) (L U : Compressed) (w : List ℕ) where
   pub ready : lentOutcome p n m A (lentOf R C L U w) ≡ Passed → AllClear R C L U w → FactorReady p n m A R C L U w
   unfolding lentOutcome
   ready passed clear =
       let (g, right) = good-plan p n m A (lentLengths n m (lentOf R C L U w)) passed in
-      let l : Lengths n m (lentOf R C L U w) = lent-right n m (lentOf R C L U w) right in
+      let l : LentRight n m (lentOf R C L U w) = lent-right n m (lentOf R C L U w) right in
       let few-rows : length R ≤ largestSize = omega (arith, l .rows, g .few-rows) in
       let few-columns : length C ≤ largestSize = omega (arith, l .columns, g .few-columns) in
       record {

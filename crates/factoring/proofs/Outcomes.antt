@@ -13,7 +13,8 @@ use Rattle.sparse.proofs.Rows.{form-below}
 use Rattle.elimination.specs.Structural.{Pair}
 use Rattle.elimination.specs.Pivots.{Found, columnsOf, uppersOf, rankOf, turns}
 use Rattle.elimination.specs.Factoring.{rest, schedule, nothing, rowsOf, lowersOf, entries, factored, factorFrom}
-use Rattle.elimination.proofs.Room.{Fits, none-over}
+use Rattle.elimination.specs.Overflow.{EntriesFit}
+use Rattle.elimination.proofs.Room.{none-over}
 use Rattle.elimination.proofs.RowsFound.{rows-length, rows-permutation}
 use Rattle.elimination.proofs.Schedule.{schedule-holds}
 use Rattle.elimination.proofs.Order.{rows-rising}
@@ -103,7 +104,7 @@ module _ (p s : ℕ) (A : Compressed) (R C : List ℕ) (L U : Compressed) (w : L
     from-refused e R₂ C₂ L₂ U₂ w₂ z = rw (q .stopped e) (leaves-refused stop R₂ C₂ L₂ U₂ w₂ z)
 
     module _ (e : over ≡ false) where
-      fitted : Fits roomL roomU f
+      fitted : EntriesFit roomL roomU f
       unfolding lowersOf uppersOf entries
       fitted = none-over p m (matrix A) roomL roomU nothing (schedule n pairs) (record { L = omega arith; U = omega arith }) (q .fitted e)
 

@@ -1,23 +1,20 @@
--- The engine's own set is the definition's, and passes the check.
-use mathlib.Core.Path.{_≡_, refl, sym, ap, _∙_}
+-- The engine's own set is the definition's, so that it has the published shape and the product A, and its rank is the rank.
+use mathlib.Core.Path.{_≡_, refl, sym, ap, subst, _∙_}
 use mathlib.Core.Bool.{true}
 use mathlib.Core.List.{List}
 use mathlib.Core.Option.{Option, none, some}
 use Prim.Native.Nat.{ℕ, _+_, _-_, _<_}
 use native.Mathlib.Omega.{arith}
 use lib.ListN.{length, getD, take, List·getD-append}
-use lib.Seq.{take-at}
 use Rattle.lists.specs.Filled.{zeros, filled}
-use Rattle.lists.proofs.Filled.{filled-whole}
-use Rattle.lists.specs.declared.Outcome.the-variants.{Passed}
+use Rattle.lists.proofs.Filled.{filled-cut}
 use Rattle.algebra.specs.Prime.{Prime}
 use Rattle.algebra.specs.Rank.{Rank}
 use Rattle.sparse.specs.Matrix.{Compressed, matrix, form}
 use Rattle.sparse.specs.Set.{Set, setOf}
 use Rattle.sparse.specs.Dense.{compress}
 use Rattle.sparse.proofs.DenseLaws.{Lengths, compress-lengths}
-use Rattle.pluq.specs.Judge.{judge}
-use Rattle.pluq.proofs.Judged.{judge-complete}
+use Rattle.pluq.specs.Judge.{Passes}
 use Rattle.elimination.specs.Structural.{structural}
 use Rattle.elimination.specs.Factoring.{schedule, nothing, firstOver, factored, factorFrom, factor, lowersOf}
 use Rattle.elimination.specs.Pivots.{Found, uppersOf, turns}
@@ -26,10 +23,6 @@ use Rattle.factoring.specs.Outcome.{Outcome, done, unlessOver, factoring
 use Rattle.factoring.specs.OwnSet.{rowsIn, ownSet}
 
 -- ---- lists that are filled, cut to what they are filled with
-
-filled-cut : (n k : ℕ) (xs : List ℕ) → length xs ≡ k → take k (filled n xs) ≡ xs
-unfolding filled
-filled-cut n k xs e = take-at xs (zeros (n - length xs)) k e
 
 filled-at : (n k : ℕ) (xs : List ℕ) → k < length xs → getD (filled n xs) k 0 ≡ getD xs k 0
 unfolding filled
@@ -60,9 +53,6 @@ rows-cut rows k e h ss cs vs t = record { starts = starts t; cols = columns t; v
     values : take (getD (h .starts) k 0) (h .vals) ≡ compress rows .vals
     values = ap (take (getD (h .starts) k 0)) vs ∙ filled-cut (length (h .vals)) (getD (h .starts) k 0) (compress rows .vals) (sym last)
 
-whole : (l xs : List ℕ) (n : ℕ) → l ≡ filled (length l) xs → length l ≡ n → length xs ≡ n → l ≡ xs
-whole l xs n e a b = e ∙ filled-whole (length l) xs (b ∙ sym a)
-
 -- ---- returned with 0: nothing overflowed
 
 fitted : (o : Option ℕ) (d : Outcome) → 0 ≡ unlessOver o d .number → unlessOver o d ≡ d
@@ -70,7 +60,7 @@ fitted none d e = refl
 fitted (some i) d e = absurd (omega arith)
 
 module _ (p n m : ℕ) (A : Compressed) (prime : Prime p) (formed : form p m A ≡ true) (many : length (A .starts) ≡ n + 1) (roomL roomU detail rank structured : ℕ) (R C : List ℕ) (L U : Compressed)
-    (w : List ℕ) (h : Leaves (factoring p n m A roomL roomU) 0 detail rank structured R C L U w) (R-long : length R ≡ n) (C-long : length C ≡ m) where
+    (w : List ℕ) (h : Leaves (factoring p n m A roomL roomU) 0 detail rank structured R C L U w) where
   abbrev g : Set
   g = factor p n m A
 
@@ -85,18 +75,18 @@ module _ (p n m : ℕ) (A : Compressed) (prime : Prime p) (formed : form p m A �
   leaves = rw own-outcome at h
 
   -- it is the definition's
-  pub own-set : ownSet n rank R C L U ≡ g
+  pub own-set : ownSet n m rank R C L U ≡ g
   unfolding factor factorFrom factored
   own-set = λ t. setOf (leaves .rank-is t) (rows t) (columns t) (lower t) (upper t)
     where
       end : Found
       end = turns p m (matrix A) nothing (schedule n (structural A n m))
 
-      rows : R ≡ g .R
-      rows = whole R (g .R) n (leaves .R-is) R-long (stored .R-length)
+      rows : take n R ≡ g .R
+      rows = ap (take n) (leaves .R-is) ∙ filled-cut (length R) n (g .R) (stored .R-length)
 
-      columns : C ≡ g .C
-      columns = whole C (g .C) m (leaves .C-is) C-long (stored .C-length)
+      columns : take m C ≡ g .C
+      columns = ap (take m) (leaves .C-is) ∙ filled-cut (length C) m (g .C) (stored .C-length)
 
       lower : rowsIn n L ≡ g .L
       lower = rows-cut (lowersOf end) n (omega (arith, stored .L-starts, compress-lengths (lowersOf end) .starts-are)) L (leaves .L-starts) (leaves .L-columns) (leaves .L-values)
@@ -104,11 +94,9 @@ module _ (p n m : ℕ) (A : Compressed) (prime : Prime p) (formed : form p m A �
       upper : rowsIn rank U ≡ g .U
       upper = rows-cut (uppersOf end) rank (omega (arith, leaves .rank-is, stored .U-starts, compress-lengths (uppersOf end) .starts-are)) U (leaves .U-starts) (leaves .U-columns) (leaves .U-values)
 
-  -- so it passes the check
-  pub own-set-passes : judge p n m A (ownSet n rank R C L U) ≡ Passed
-  own-set-passes =
-      ap (judge p n m A) own-set
-      ∙ judge-complete p n m A g (omega (arith, prime .two)) (stored .R-length) (stored .C-length) (record { L-form = stored .L-form; U-form = stored .U-form; factors = stored .factors })
+  -- so it has the published shape and the product A
+  pub own-set-passes : Passes p n m A (ownSet n m rank R C L U)
+  own-set-passes = subst (Passes p n m A) (sym own-set) (record { L-form = stored .L-form; U-form = stored .U-form; factors = stored .factors })
 
   -- and the rank returned is the rank
   pub own-rank : Rank p n m (matrix A) rank

@@ -1,19 +1,31 @@
--- A call returns 0 exactly if it accepts the text: `done-accepts`; what it then leaves is a well-formed plan: `done-well-formed`.
-use mathlib.Core.Path.{_≡_, refl, sym, subst}
-use mathlib.Core.List.{List, [], _∷_}
-use mathlib.Core.Bool.{Bool, true, false, cond, _&&_, not}
-use Prim.Native.Nat.{ℕ, _+_, _<_}
+-- What a call that reads a text returns and leaves.
+--   done-exactly        it returns 0 exactly if its lists have their lengths and the text states a plan for which they have room
+--   holds-stated        and then the result and the lists hold that plan
+--   done-well-formed    in its form
+--   each-stated         each triple that is stated is stored: its residue stands at its place
+--   read-by             else it returns one of 9 and 1 to 7
+--   read-cleared        and leaves p, n, m, the entry count and all lists 0
+use mathlib.Core.Path.{_≡_, refl, sym, ap, _∙_, subst}
+use mathlib.Core.Logic.{_↔_, inl, inr}
+use mathlib.Core.List.{List, [], _∷_, _++_}
+use mathlib.Core.Bool.{Bool, true, false, cond, _&&_, not, true≢false}
+use Prim.Native.Nat.{ℕ, _+_, _-_}
 use native.Mathlib.Omega.{arith}
 use lib.Dec.{eqb, leb, ltb}
-use lib.ListN.{length, take}
-use borrow.Author.Tests.{eqb-true}
-use Rattle.lists.proofs.Bools.{and-left, and-right}
+use lib.ListN.{length}
+use borrow.Author.Tests.{eqb-true, eq-eqb}
+use Rattle.lists.specs.Tests.{among}
+use Rattle.lists.specs.Table.{textFaults}
+use Rattle.lists.specs.Refusals.{NumberFrom}
+use Rattle.lists.specs.Filled.{zeros}
+use Rattle.lists.proofs.Bools.{and-left, and-right, and-both}
 use Rattle.fields.specs.Pieces.{Pieces, last, more, pieces}
 use Rattle.fields.specs.Number.{numberOf}
 use Rattle.fields.specs.declared.numbers.Number.{Number}
 use Rattle.fields.specs.declared.numbers.Number.the-variants.{Value, NotNumber}
 use Rattle.residue.specs.Range.{isModulus}
-use Rattle.sparse.specs.Form.{wellFormed}
+use Rattle.residue.specs.Signed.{residueOf}
+use Rattle.sparse.specs.Matrix.{matrix, form}
 use Rattle.plan_text.specs.declared.header.Header.{Header}
 use Rattle.plan_text.specs.declared.header.Header.the-variants.{Given, NotHeader}
 use Rattle.plan_text.specs.declared.line.Line.{Line}
@@ -21,45 +33,51 @@ use Rattle.plan_text.specs.declared.line.Line.the-variants.{Triple, NotT
 use Rattle.plan_text.specs.declared.judge.Sizes.{Sizes}
 use Rattle.plan_text.specs.declared.judge.Verdict.{Verdict}
 use Rattle.plan_text.specs.declared.judge.Verdict.the-variants.{Refused, Last, Entry as AnEntry}
+use Rattle.plan_text.specs.declared.Reading.{Reading}
 use Rattle.call_tests.specs.Limits.{largestSize}
 use Rattle.plan_text.specs.Limits.{largestText, startsLength}
 use Rattle.plan_text.specs.Line.{headerOf}
 use Rattle.plan_text.specs.Judge.{judge, inRange, isLast, within, residueAt}
 use Rattle.plan_text.specs.Reading.{Entry, ReadResult, refused, accepted, ending, onward, triples, verdictOn, withSizes, fromSecond, withModulus, fromFirst, readOf}
-use Rattle.plan_text.specs.Call.{ReadAnswer, refuses, answerOf, callOf}
-use Rattle.plan_text.proofs.WellFormed.{read-well-formed}
+use Rattle.plan_text.specs.Stating.{StatedEntry, Plan, planText, integerOf}
+use Rattle.plan_text.specs.Call.{ReadAnswer, refuses, refusalOf, answerOf, callOf, Gives}
+use Rattle.plan_text.specs.Held.{heldPlan, planOf, StatesPlan, HoldsPlan, ReadCleared}
+use Rattle.plan_text.proofs.Accepted.{accepted-states}
+use Rattle.plan_text.proofs.Printed.{reads-stated}
+use Rattle.plan_text.proofs.AsStated.{stored-as-stated, stated-found, stated-inside}
 
--- ---- no refusal has the number 0
+-- ---- every refusal has a number of the table
 abbrev Numbered : ReadResult → Type 0
-Numbered (refused c d) = 0 < c
+Numbered (refused c d) = among c textFaults ≡ true
 Numbered (accepted s seen) = Unit {0}
 
 abbrev VerdictNumbered : Verdict → Type 0
-VerdictNumbered (Refused c) = 0 < c
+VerdictNumbered (Refused c) = among c textFaults ≡ true
 VerdictNumbered Last = Unit {0}
 VerdictNumbered (AnEntry i j v) = Unit {0}
 
 judge-numbered : (stands full : Bool) (s : Sizes) (l : Line) → VerdictNumbered (judge stands full s l)
-unfolding judge
-judge-numbered stands full s NotTriple = omega arith
+unfolding judge among
+judge-numbered stands full s NotTriple = refl
 judge-numbered stands full s (Triple i j v) = go (isLast i j v) (within i (s .n) && within j (s .m)) stands (inRange v) (not (eqb (residueAt (s .modulus .p) v) 0) && full)
   where
     go : (a b c d e : Bool) → VerdictNumbered (cond a Last (cond b (cond c (cond d (cond e (Refused 7) (AnEntry i j (residueAt (s .modulus .p) v))) (Refused 6)) (Refused 5)) (Refused 4)))
     go true b c d e = tt
-    go false false c d e = omega arith
-    go false true false d e = omega arith
-    go false true true false e = omega arith
-    go false true true true true = omega arith
+    go false false c d e = refl
+    go false true false d e = refl
+    go false true true false e = refl
+    go false true true true true = refl
     go false true true true false = tt
 
 ending-numbered : (s : Sizes) (k : ℕ) (seen : List Entry) (p : Pieces) → Numbered (ending s k seen p)
+unfolding among
 ending-numbered s k seen (last []) = tt
-ending-numbered s k seen (last (b ∷ bs)) = omega arith
-ending-numbered s k seen (more l t) = omega arith
+ending-numbered s k seen (last (b ∷ bs)) = refl
+ending-numbered s k seen (more l t) = refl
 
 triples-numbered : (s : Sizes) (room k : ℕ) (seen : List Entry) (p : Pieces) → Numbered (triples s room k seen p)
-unfolding triples
-triples-numbered s room k seen (last l) = omega arith
+unfolding triples among
+triples-numbered s room k seen (last l) = refl
 triples-numbered s room k seen (more l rest) = go (verdictOn s room seen l) (judge-numbered _ _ s _) (λ t. triples-numbered s room (k + 1) (t ∷ seen) rest)
   where
     go : (v : Verdict) → VerdictNumbered v → ((t : Entry) → Numbered (triples s room (k + 1) (t ∷ seen) rest)) → Numbered (onward s k seen rest (λ t. triples s room (k + 1) (t ∷ seen) rest) v)
@@ -68,36 +86,44 @@ triples-numbered s room k seen (more l rest) = go (verdictOn s room seen l) (jud
     go (AnEntry i j v) h ih = ih (record { row = i; column = j; value = v })
 
 sizes-numbered : (p room : ℕ) (rest : Pieces) (h : Header) → Numbered (withSizes p room rest h)
-sizes-numbered p room rest NotHeader = omega arith
+unfolding among
+sizes-numbered p room rest NotHeader = refl
 sizes-numbered p room rest (Given n m) = go (leb n largestSize && leb m largestSize)
   where
     go : (t : Bool) → Numbered (cond t (triples (record { modulus = record { p = p }; n = n; m = m }) room 3 [] rest) (refused 2 0))
     go true = triples-numbered (record { modulus = record { p = p }; n = n; m = m }) room 3 [] rest
-    go false = omega arith
+    go false = refl
 
 second-numbered : (p room : ℕ) (t : Pieces) → Numbered (fromSecond p room t)
-second-numbered p room (last l) = omega arith
+unfolding among
+second-numbered p room (last l) = refl
 second-numbered p room (more l rest) = sizes-numbered p room rest (headerOf l)
 
 modulus-numbered : (room : ℕ) (rest : Pieces) (n : Number) → Numbered (withModulus room rest n)
-modulus-numbered room rest NotNumber = omega arith
+unfolding among
+modulus-numbered room rest NotNumber = refl
 modulus-numbered room rest (Value p) = go (isModulus p)
   where
     go : (t : Bool) → Numbered (cond t (fromSecond p room rest) (refused 1 0))
     go true = second-numbered p room rest
-    go false = omega arith
+    go false = refl
 
 first-numbered : (room : ℕ) (t : Pieces) → Numbered (fromFirst room t)
-first-numbered room (last l) = omega arith
+unfolding among
+first-numbered room (last l) = refl
 first-numbered room (more l rest) = modulus-numbered room rest (numberOf l)
 
 read-numbered : (room : ℕ) (text : List ℕ) → Numbered (readOf room text)
-unfolding readOf
+unfolding readOf among
 read-numbered room text = go (ltb largestText (length text))
   where
     go : (t : Bool) → Numbered (cond t (refused 2 0) (fromFirst room (pieces 10 text)))
-    go true = omega arith
+    go true = refl
     go false = first-numbered room (pieces 10 text)
+
+not-zero : (k : ℕ) → among k textFaults ≡ true → ¬ (k ≡ 0)
+unfolding among
+not-zero k h z = true≢false (sym h ∙ ap (λ (i : ℕ). among i textFaults) z)
 
 -- ---- a call that returns 0
 pub record Accepts (text : List ℕ) (a b c : ℕ) : Type 0 where
@@ -114,7 +140,7 @@ done-accepts text a b c z = go (eqb a startsLength && eqb b c) (readOf b text) r
   where
     go : (t : Bool) (o : ReadResult) → (eqb a startsLength && eqb b c) ≡ t → readOf b text ≡ o → Numbered o → cond t (answerOf b o) (refuses 9 0 a b c) .result .number ≡ 0 → Accepts text a b c
     go false o e r n z = absurd (omega arith)
-    go true (refused k d) e r n z = absurd (omega arith)
+    go true (refused k d) e r n z = absurd (not-zero k n z)
     go true (accepted s seen) e r n z =
         record {
           starts-length = eqb-true a startsLength (and-left (eqb a startsLength) (eqb b c) e);
@@ -125,13 +151,84 @@ done-accepts text a b c z = go (eqb a startsLength && eqb b c) (readOf b text) r
           answer-is = (λ j. cond (e j) (answerOf b (r j)) (refuses 9 0 a b c));
         }
 
--- the plan that an answer holds is well formed: its lists cut back to n + 1 starts and the entries stored
-abbrev pub FormRight : ReadAnswer → Type 0
-FormRight x =
-    wellFormed (x .result .p) (x .result .m) (take (x .result .n + 1) (x .starts)) (take (x .result .count) (x .columns)) (take (x .result .count) (x .values)) ≡ true
+-- ---- the plan that the lists hold
 
-pub done-well-formed : (text : List ℕ) (a b c : ℕ) → callOf text a b c .result .number ≡ 0 → FormRight (callOf text a b c)
-unfolding answerOf
-done-well-formed text a b c z =
-    let h = done-accepts text a b c z in
-    subst FormRight (sym (h .answer-is)) (read-well-formed b (h .sizes) text (h .seen) (h .read-is))
+-- the answer x holds the plan
+abbrev Holds : Sizes → List StatedEntry → ReadAnswer → Type 0
+Holds s ts x = HoldsPlan s ts (x .result) (x .starts) (x .columns) (x .values)
+
+-- Lists of the right lengths, with room, hold after a text the plan that it states.
+answer-holds : (text : List ℕ) (a b c : ℕ) → a ≡ startsLength → b ≡ c → (h : StatesPlan b text) → Holds (h .sizes) (h .triples) (callOf text a b c)
+unfolding callOf
+answer-holds text a b c long paired h =
+    subst (Holds (h .sizes) (h .triples))
+    (sym ((λ j. cond (and-both (eqb a startsLength) (eqb b c) (eq-eqb a startsLength long) (eq-eqb b c paired) j) (answerOf b (readOf b (h .text-is j))) (refuses 9 0 a b c))
+    ∙ ap (answerOf b) (reads-stated b (h .sizes) (h .triples) (h .plan))))
+    (stored-as-stated b (h .sizes) (h .triples) (h .plan))
+
+accepts-stated : (text : List ℕ) (a b c : ℕ) → Accepts text a b c → StatesPlan b text
+accepts-stated text a b c h =
+    let x = accepted-states b (h .sizes) text (h .seen) (h .read-is) in
+    record { sizes = h .sizes; triples = x .stated; plan = x .plan; text-is = x .text-is }
+
+-- the answer that a call's result and lists are
+answer-given : (x : ReadAnswer) (r : Reading) (st co va : List ℕ) → Gives x r st co va → x ≡ record { result = r; starts = st; columns = co; values = va }
+answer-given x r st co va g t = record { result = sym (g .result-is) t; starts = sym (g .starts-are) t; columns = sym (g .columns-are) t; values = sym (g .values-are) t }
+
+-- ---- of a call: its text, the lengths of the lists that it was lent, its result and the lists as it left them
+
+module _ (text : List ℕ) (a b c : ℕ) (r : Reading) (st co va : List ℕ) (call : Gives (callOf text a b c) r st co va) where
+  given : callOf text a b c ≡ record { result = r; starts = st; columns = co; values = va }
+  given = answer-given (callOf text a b c) r st co va call
+
+  pub holds-stated : a ≡ startsLength → b ≡ c → (h : StatesPlan b text) → HoldsPlan (h .sizes) (h .triples) r st co va
+  holds-stated long paired h = subst (Holds (h .sizes) (h .triples)) given (answer-holds text a b c long paired h)
+
+  pub done-exactly : (r .number ≡ 0) ↔ ((a ≡ startsLength) × (b ≡ c) × StatesPlan b text)
+  done-exactly = (
+    (λ z. let h = done-accepts text a b c (ap (λ (x : ReadAnswer). x .result .number) given ∙ z) in (h .starts-length, h .lists-length, accepts-stated text a b c h)),
+    λ h. holds-stated (h .0) (h .1) (h .2) .done,
+  )
+
+  pub done-well-formed : r .number ≡ 0 → form (r .p) (r .m) (heldPlan r st co va) ≡ true
+  done-well-formed z =
+      let h = done-exactly .0 z in
+      let x = holds-stated (h .0) (h .1) (h .2) in
+      (λ j. form (x .modulus-is j) (x .columns-are j) (heldPlan r st co va)) ∙ x .formed
+
+  pub read-by : NumberFrom textFaults (r .number)
+  unfolding callOf answerOf among
+  read-by =
+      subst (λ (x : ReadAnswer). NumberFrom textFaults (x .result .number)) given
+      (go (eqb a startsLength && eqb b c) (readOf b text) (read-numbered b text))
+    where
+      go : (t : Bool) (o : ReadResult) → Numbered o → NumberFrom textFaults (cond t (answerOf b o) (refuses 9 0 a b c) .result .number)
+      go false o n = inr refl
+      go true (refused k d) n = inr n
+      go true (accepted s seen) n = inl refl
+
+  pub read-cleared : ¬ (r .number ≡ 0) → ReadCleared a b c r st co va
+  unfolding callOf answerOf
+  read-cleared = subst (λ (x : ReadAnswer). ¬ (x .result .number ≡ 0) → ReadCleared a b c (x .result) (x .starts) (x .columns) (x .values)) given (go (eqb a startsLength && eqb b c) (readOf b text) refl)
+    where
+      go : (t : Bool) (o : ReadResult) → (eqb a startsLength && eqb b c) ≡ t
+          → let x = cond t (answerOf b o) (refuses 9 0 a b c) in ¬ (x .result .number ≡ 0) → ReadCleared a b c (x .result) (x .starts) (x .columns) (x .values)
+      go false o e n = record { result-is = refl; starts-are = refl; columns-are = refl; values-are = refl }
+      go true (refused k d) e n =
+          record {
+            result-is = refl;
+            starts-are = ap zeros (sym (eqb-true a startsLength (and-left (eqb a startsLength) (eqb b c) e)));
+            columns-are = refl;
+            values-are = ap zeros (eqb-true b c (and-right (eqb a startsLength) (eqb b c) e));
+          }
+      go true (accepted s seen) e n = absurd (n refl)
+
+-- t is any of the triples of a plan that is stated: xs stand before it, ys after it
+pub each-stated : (s : Sizes) (room : ℕ) (xs : List StatedEntry) (t : StatedEntry) (ys : List StatedEntry) → Plan room s (xs ++ (t ∷ ys))
+    → (r : Reading) (st co va : List ℕ) → Gives (callOf (planText s (xs ++ (t ∷ ys))) startsLength room room) r st co va
+    → matrix (heldPlan r st co va) (t .row - 1) (t .column - 1) ≡ residueOf (s .modulus .p) (integerOf (t .value))
+each-stated s room xs t ys h r st co va call =
+    let ts = xs ++ (t ∷ ys) in
+    let place = stated-inside s 0 0 xs t ys (h .rising) in
+    holds-stated (planText s ts) startsLength room room r st co va call refl refl (record { sizes = s; triples = ts; plan = h; text-is = refl }) .cells (t .row - 1) (t .column - 1) (place .0) (place .1)
+    ∙ stated-found s 0 0 xs t ys (h .rising)

@@ -9,6 +9,6 @@ pub mod Printed
 pub mod Accepted
 pub mod Answers
 pub mod Ordered
-pub mod WellFormed
+pub mod AsStated
 pub mod EntryLimit
 pub mod Done

@@ -46,7 +46,7 @@ unfolding RowsWithin
 ordered-rows s a b [] o = tt
 ordered-rows s a b (t ∷ ts) o = (o .0 .row-low, o .0 .row-high, ordered-rows s (t .row) (t .column) ts (o .1))
 
-after-trans : (a b : ℕ) (t u : Entry) → After a b t → After (t .row) (t .column) u → After a b u
+pub after-trans : (a b : ℕ) (t u : Entry) → After a b t → After (t .row) (t .column) u → After a b u
 after-trans a b t u (inl h) (inl k) = inl (omega arith)
 after-trans a b t u (inl h) (inr (e, k)) = inl (omega arith)
 after-trans a b t u (inr (e, h)) (inl k) = inl (omega arith)
@@ -94,7 +94,7 @@ signed-below p true n h = mod-lt (p - n % p) h
 value-below : (p : ℕ) (t : StatedEntry) → 0 < p → entryOf p t .value < p
 value-below p t h = rw (residue-value p (isNegative (t .value)) (magnitude (t .value))) (signed-below p (isNegative (t .value)) (magnitude (t .value)) h)
 
-before-after : (a b i j : ℕ) → before a b i j ≡ true → (a < i) ⊎ ((a ≡ i) × (b < j))
+pub before-after : (a b i j : ℕ) → before a b i j ≡ true → (a < i) ⊎ ((a ≡ i) × (b < j))
 before-after a b i j e = go (or-cases (ltb a i) (eqb a i && ltb b j) e)
   where
     go : (ltb a i ≡ true) ⊎ ((eqb a i && ltb b j) ≡ true) → (a < i) ⊎ ((a ≡ i) × (b < j))

@@ -5,3 +5,4 @@ pub mod Reading
 pub mod Stored
 pub mod Call
 pub mod Stating
+pub mod Held

@@ -11,11 +11,13 @@
 --   entryOf p t          the triple with its value modulo p
 --   entriesOf p ts       the triples with their values modulo p, the latest first
 --   Plan room s ts       a plan within the limits that lists with room for so many entries can hold
+--   statedAt p ts i j    the residue stated at row i + 1 and column j + 1, 0 where none is
 --   States room s text out   the text states a plan with the sizes s whose entries are `out`
-use Prim.Native.Nat.{ℕ, _≤_}
+use Prim.Native.Nat.{ℕ, _+_, _≤_}
 use mathlib.Core.Path.{_≡_}
 use mathlib.Core.List.{List, [], _∷_, map, reverse}
-use mathlib.Core.Bool.{true}
+use mathlib.Core.Bool.{true, cond, _&&_}
+use lib.Dec.{eqb}
 use lib.IntN.{ℤ}
 use lib.ListN.{length}
 use Rattle.residue.specs.Range.{isModulus}
@@ -88,3 +90,8 @@ pub record States (room : ℕ) (s : Sizes) (text : List ℕ) (out : List Entry) 
   pub plan : Plan room s stated
   pub text-is : text ≡ planText s stated
   pub entries-are : out ≡ entriesOf (s .modulus .p) stated
+
+-- ---- the matrix that triples state, rows and columns from 0: the residue of the value stated at row i + 1 and column j + 1, and 0 where none is
+unfoldable pub statedAt : ℕ → List StatedEntry → ℕ → ℕ → ℕ
+statedAt p [] i j = 0
+statedAt p (t ∷ ts) i j = cond (eqb (t .row) (i + 1) && eqb (t .column) (j + 1)) (residueOf p (integerOf (t .value))) (statedAt p ts i j)

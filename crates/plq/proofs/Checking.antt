@@ -14,7 +14,8 @@ use Rattle.plan_text.specs.Call.{ReadAnswer, callOf, Gives}
 use Rattle.plan_text.specs.declared.Reading.{Reading}
 use Rattle.call_tests.specs.Limits.{workLength}
 use Rattle.check_calls.specs.Calls.{checkCertificateOf}
-use Rattle.stages.specs.Stages.{reading, heldPlan}
+use Rattle.stages.specs.Stages.{reading}
+use Rattle.plan_text.specs.Held.{heldPlan}
 use Rattle.stages.specs.Lists.{Held}
 use Rattle.stages.proofs.Holding.{as-reading, held, answer-is}
 use Rattle.plq.specs.Calls.{checkReadOf, checkTextOf}

@@ -1,2 +1,4 @@
 pub mod Checking
 pub mod Making
+pub mod Own
+pub mod Texts

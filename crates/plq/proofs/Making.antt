@@ -19,7 +19,8 @@ use Rattle.certificate.specs.Layout.{certificateOf}
 use Rattle.write_calls.specs.Call.{writeOutcome, kept}
 use Rattle.factoring.specs.Outcome as factoring
 use Rattle.stages.specs.declared.Stages.{Stages}
-use Rattle.stages.specs.Stages.{reading, planOf, readOutcome, factoredOf, factorOutcome, setIn}
+use Rattle.stages.specs.Stages.{reading, readOutcome, factoredOf, factorOutcome, setIn}
+use Rattle.plan_text.specs.Held.{planOf}
 use Rattle.stages.specs.Staged.{FactorsHeld, Staged}
 use Rattle.plq.specs.Calls.{packed, makeReadOf, makeTextOf, certificateFor, Makes}
 use Rattle.plq.specs.Held.{heldCertificate, writtenOf, stagedOutcome, Puts, StagedFits}

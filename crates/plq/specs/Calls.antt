@@ -18,7 +18,8 @@ use Rattle.call_tests.specs.Limits.{workLength}
 use Rattle.certificate.specs.Layout.{certificateOf}
 use Rattle.check_calls.specs.Calls.{checkCertificateOf}
 use Rattle.write_calls.specs.Call.{writeOutcome, kept}
-use Rattle.stages.specs.Stages.{reading, planOf, readOutcome, factoredOf, factorOutcome, setIn}
+use Rattle.stages.specs.Stages.{reading, readOutcome, factoredOf, factorOutcome, setIn}
+use Rattle.plan_text.specs.Held.{planOf}
 
 -- ---- checking
 

@@ -16,7 +16,8 @@ use Rattle.sparse.specs.Matrix.{Compressed}
 use Rattle.certificate.specs.Layout.{certificateOf}
 use Rattle.write_calls.specs.Call.{writeOutcome, kept}
 use Rattle.stages.specs.declared.Stages.{Stages}
-use Rattle.stages.specs.Stages.{heldPlan, readOutcome}
+use Rattle.stages.specs.Stages.{readOutcome}
+use Rattle.plan_text.specs.Held.{heldPlan}
 use Rattle.stages.specs.Staged.{Fits, heldSet}
 
 abbrev pub heldCertificate : Stages → (R C : List ℕ) (L U : Compressed) → List ℕ

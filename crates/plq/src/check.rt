@@ -3,7 +3,7 @@ ghost use mathlib.Core.Path.{_≡_};
 ghost use lib.ListN.{length};
 ghost use Rattle.sparse.specs.Matrix.{compressed};
 ghost use Rattle.check_calls.specs.Calls.{checkCertificateOf, Checks};
-ghost use Rattle.stages.specs.Stages.{heldPlan};
+ghost use Rattle.plan_text.specs.Held.{heldPlan};
 ghost use Rattle.stages.specs.Lists.{Held};
 ghost use Rattle.plq.specs.Calls.{checkTextOf};
 ghost use Rattle.plq.specs.Lists.{CheckLists};

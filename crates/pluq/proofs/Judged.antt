@@ -8,8 +8,10 @@ use native.Mathlib.Nat.{mod-eq-of-lt, zero-mod}
 use lib.Dec.{leb, eqb}
 use lib.ListN.{length}
 use borrow.Author.Tests.{leb-true, leb-false, le-leb, eqb-false}
-use Rattle.lists.specs.Tests.{all, first}
+use Rattle.lists.specs.Tests.{all, first, among}
+use Rattle.lists.specs.Table.{setFaults}
 use Rattle.lists.proofs.Tests.{first-all, first-before, first-here}
+use Rattle.lists.proofs.Refusals.{RefusedBy, unless-passed, unless-holds, refused-unless, refused-next}
 use Rattle.algebra.specs.Congruence.{_≈⟨_⟩_}
 use Rattle.algebra.specs.Sum.{dot}
 use Rattle.algebra.specs.Matrix.{vector}
@@ -21,18 +23,11 @@ use Rattle.sparse.specs.Set.{Set}
 use Rattle.sparse.proofs.Rows.{form-below}
 use Rattle.pluq.specs.Order.{permutation}
 use Rattle.pluq.specs.Shape.{lower, upper}
-use Rattle.pluq.specs.Judge.{productOutcome, judgeFactors, judge, Passes}
+use Rattle.pluq.specs.Judge.{agrees, productOutcome, judgeFactors, judge, Passes}
 use Rattle.pluq.proofs.Orders.{permutation-means, permutation-holds}
 use Rattle.pluq.proofs.Shapes.{lower-means, lower-holds, upper-means, upper-holds, agrees-means, agrees-holds}
 
--- ---- the chain of refusals
-
-pub unless-passed : (b : Bool) (k d : ℕ) (next : Outcome) → (unless b k d ▷ next) ≡ Passed → (b ≡ true) × (next ≡ Passed)
-unless-passed true k d next e = (refl, e)
-unless-passed false k d next e = absurd (let z : _≡_ {A = ℕ} 0 1 = cc in omega arith)
-
-pub unless-holds : (b : Bool) (k d : ℕ) (next : Outcome) → b ≡ true → next ≡ Passed → (unless b k d ▷ next) ≡ Passed
-unless-holds b k d next e q = ap (λ (t : Bool). unless t k d ▷ next) e ∙ q
+-- ---- the product
 
 pub product-passed : (n : ℕ) (t : ℕ → Bool) → productOutcome n t ≡ Passed → (i : ℕ) → i < n → t i ≡ true
 unfolding productOutcome
@@ -137,3 +132,19 @@ module _ (p n m : ℕ) (A : Compressed) (s : Set) where
         λ all. true≢false (sym (agrees-holds p m (s .r) (matrix A) (vector (s .R)) (matrix (s .L)) (matrix (s .U)) i all) ∙ here),
         λ k l. agrees-means p m (s .r) (matrix A) (vector (s .R)) (matrix (s .L)) (matrix (s .U)) k (before k l),
       )
+
+-- ---- the numbers of a set that is refused
+
+pub judge-numbers : (p n m : ℕ) (A : Compressed) (s : Set) → RefusedBy setFaults (judge p n m A s)
+unfolding judge judgeFactors productOutcome among
+judge-numbers p n m A s =
+    let t = agrees p m (s .r) (matrix A) (vector (s .R)) (matrix (s .L)) (matrix (s .U)) in
+    refused-next setFaults (permutation (s .R)) 11 0 _ refl
+    (refused-next setFaults (permutation (s .C)) 11 0 _ refl
+    (refused-next setFaults (leb (s .r) n) 12 0 _ refl
+    (refused-next setFaults (leb (s .r) m) 12 0 _ refl
+    (refused-next setFaults (form p (s .r) (s .L)) 13 0 _ refl
+    (refused-next setFaults (form p m (s .U)) 13 0 _ refl
+    (refused-next setFaults (lower (s .r) (matrix (s .L))) 13 0 _ refl
+    (refused-next setFaults (upper (s .r) (vector (s .C)) (matrix (s .U))) 13 0 _ refl
+    (refused-unless setFaults (leb n (first n t)) 14 (first n t) refl))))))))

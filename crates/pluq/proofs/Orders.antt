@@ -10,7 +10,8 @@ use lib.ListN.{length, getD}
 use borrow.Author.Tests.{lt-ltb, ltb-true, eqb-true, eq-eqb, not-true}
 use Rattle.lists.proofs.Bools.{and-both, and-left, and-right}
 use Rattle.algebra.specs.Matrix.{vector, Permutation}
-use Rattle.pluq.specs.Order.{among, below, distinct, permutation}
+use Rattle.lists.specs.Tests.{among}
+use Rattle.pluq.specs.Order.{below, distinct, permutation}
 
 -- by places: every number is below n, and equal numbers stand at one place
 pub below-at : (n : ℕ) (xs : List ℕ) → below n xs ≡ true → (i : ℕ) → i < length xs → getD xs i 0 < n

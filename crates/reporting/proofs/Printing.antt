@@ -23,7 +23,7 @@ use Rattle.report_text.specs.declared.lines.Summary.{Summary}
 use Rattle.report_text.specs.Report.{reportText, refusalText}
 use Rattle.report_text.specs.Printed.{detailFromOne, countedFromOne, printed, Prints}
 use Rattle.stages.specs.declared.Stages.{Stages}
-use Rattle.stages.specs.Stages.{heldPlan}
+use Rattle.plan_text.specs.Held.{heldPlan}
 use Rattle.stages.specs.Staged.{heldSet}
 use Rattle.reporting.specs.Held.{heldSummary, heldList, heldText, stagedText, HeldReady}
 

@@ -20,7 +20,8 @@ use Rattle.report_text.specs.declared.lines.Summary.{Summary}
 use Rattle.report_text.specs.Report.{reportText}
 use Rattle.report_text.specs.Printed.{countedFromOne, printed}
 use Rattle.stages.specs.declared.Stages.{Stages}
-use Rattle.stages.specs.Stages.{heldPlan, readOutcome}
+use Rattle.stages.specs.Stages.{readOutcome}
+use Rattle.plan_text.specs.Held.{heldPlan}
 use Rattle.stages.specs.Staged.{Fits, heldSet}
 
 abbrev pub heldSummary : Stages → Summary

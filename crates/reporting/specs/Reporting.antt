@@ -19,7 +19,8 @@ use Rattle.column_calls.specs.Calls.{Listed, openFactorsOf}
 use Rattle.report_text.specs.declared.lines.Summary.{Summary}
 use Rattle.report_text.specs.Report.{reportText}
 use Rattle.report_text.specs.Printed.{countedFromOne, printed}
-use Rattle.stages.specs.Stages.{reading, planOf, readOutcome, factoredOf, factorOutcome, setIn}
+use Rattle.stages.specs.Stages.{reading, readOutcome, factoredOf, factorOutcome, setIn}
+use Rattle.plan_text.specs.Held.{planOf}
 
 abbrev pub summaryOf : ReadAnswer → Outcome → Summary
 summaryOf x f =

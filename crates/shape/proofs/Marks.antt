@@ -12,7 +12,8 @@ use borrow.Author.Tests.{lt-ltb, le-ltb, eq-eqb, ne-eqb, eqb-true, eqb-false, lt
 use Rattle.lists.specs.Filled.{zeros}
 use Rattle.lists.proofs.Filled.{zeros-at}
 use Rattle.lists.proofs.Steps.{drop-step, drop-end}
-use Rattle.pluq.specs.Order.{among, below, distinct, permutation}
+use Rattle.lists.specs.Tests.{among}
+use Rattle.pluq.specs.Order.{below, distinct, permutation}
 
 -- what the loop does: each number below n, its cell not marked yet
 pub marked : ℕ → List ℕ → List ℕ → Bool

@@ -11,3 +11,6 @@ pub mod DenseLaws
 pub mod DenseForm
 pub mod SparseDense
 pub mod CopySteps
+pub mod Bounds
+pub mod DenseTable
+pub mod StoredNumbers

@@ -19,11 +19,12 @@ use Rattle.elimination.specs.Factoring.{schedule, nothing, firstOver, factored,
 use Rattle.elimination.proofs.Pairs.{structural-pairs}
 use Rattle.elimination.proofs.Theorem.{StoredFactors, factor-stored}
 use Rattle.call_tests.specs.Tests.{planLengths, limitsOk, planOutcome}
-use Rattle.check_calls.proofs.Tested.{GoodPlan, good-plan}
+use Rattle.call_tests.specs.Accepted.{GoodPlan}
 use Rattle.factoring.specs.Outcome.{Outcome, done, unlessOver, factoringFrom, factoring}
 use Rattle.factor_calls.specs.Lengths.{lentLengths, lentOutcome}
 use Rattle.factor_calls.specs.Calls.{refusal, unlessRefused, factorCallOf}
 use Rattle.factor_calls.specs.declared.Lent.{Lent}
+use Rattle.factor_calls.proofs.Theorems.{lent-good}
 use Rattle.stages.proofs.Rows.{row-inside}
 
 pub record Counted (n : ℕ) (o : Outcome) : Type 0 where
@@ -48,9 +49,8 @@ last-detail false k = refl
 
 module _ (p n m : ℕ) (A : Compressed) (l : Lent) where
   module _ (passed : lentOutcome p n m A l ≡ Passed) where
-    pub good : GoodPlan p n m A
-    unfolding lentOutcome
-    good = good-plan p n m A (lentLengths n m l) passed .0
+    good : GoodPlan p n m A
+    good = lent-good p n m A l passed .0
 
     abbrev g : Set
     g = factor p n m A
@@ -102,33 +102,3 @@ module _ (p n m : ℕ) (A : Compressed) (l : Lent) where
       go : (o : tests.Outcome) → lentOutcome p n m A l ≡ o → Counted n (unlessRefused o (factoring p n m A (l .lcols) (l .ucols)))
       go Passed e = counted-factoring e (l .lcols) (l .ucols)
       go (Refused c d) e = counted-refusal n c d (omega (arith, ap detailOf (sym e) ∙ lent-detail))
-
-  -- ---- number 0: the tests passed
-
-  tests-number : (t : Bool) (k d : ℕ) (o : tests.Outcome) → (k ≡ 0 → ⊥) → (numberOf o ≡ 0 → o ≡ Passed) → numberOf (unless t k d ▷ o) ≡ 0 → (unless t k d ▷ o) ≡ Passed
-  tests-number true k d o h f e = f e
-  tests-number false k d o h f e = absurd (h e)
-
-  last-number : (t : Bool) (k d : ℕ) → (k ≡ 0 → ⊥) → numberOf (unless t k d) ≡ 0 → unless t k d ≡ Passed
-  last-number true k d h e = refl
-  last-number false k d h e = absurd (h e)
-
-  lent-number : numberOf (lentOutcome p n m A l) ≡ 0 → lentOutcome p n m A l ≡ Passed
-  unfolding lentOutcome planOutcome
-  lent-number =
-      tests-number (planLengths n A && lentLengths n m l) 9 0 (planOutcome p n m A) (λ e. omega arith)
-      (tests-number (isModulus p) 1 0 (unless (limitsOk n m A) 2 0 ▷ unless (form p m A) 8 0) (λ e. omega arith)
-      (tests-number (limitsOk n m A) 2 0 (unless (form p m A) 8 0) (λ e. omega arith)
-      (last-number (form p m A) 8 0 (λ e. omega arith))))
-
-  pub call-passed : factorCallOf p n m A l .number ≡ 0 → lentOutcome p n m A l ≡ Passed
-  unfolding factorCallOf
-  call-passed e = lent-number (go (lentOutcome p n m A l) e)
-    where
-      go : (o : tests.Outcome) → unlessRefused o (factoring p n m A (l .lcols) (l .ucols)) .number ≡ 0 → numberOf o ≡ 0
-      go Passed z = refl
-      go (Refused c d) z = z
-
-  pub call-factoring : lentOutcome p n m A l ≡ Passed → factorCallOf p n m A l ≡ factoring p n m A (l .lcols) (l .ucols)
-  unfolding factorCallOf
-  call-factoring e = ap (λ (o : tests.Outcome). unlessRefused o (factoring p n m A (l .lcols) (l .ucols))) e

@@ -12,7 +12,7 @@ use Rattle.sparse.specs.Set.{setOf}
 use Rattle.plan_text.specs.Call.{ReadAnswer, callOf, Gives}
 use Rattle.plan_text.specs.declared.Reading.{Reading}
 use Rattle.call_tests.specs.Limits.{largestEntries}
-use Rattle.check_calls.proofs.Tested.{GoodPlan}
+use Rattle.call_tests.specs.Accepted.{GoodPlan}
 use Rattle.factoring.specs.Outcome.{Outcome, factoring, Leaves}
 use Rattle.factoring.specs.OwnSet.{ownSet}
 use Rattle.factoring.specs.declared.factor.Factored.{Factored}
@@ -22,12 +22,14 @@ use Rattle.factor_calls.proofs.Ready.{Kept}
 use Rattle.lists.specs.declared.Outcome.the-variants.{Passed}
 use Rattle.factor_calls.specs.Calls.{factorCallOf}
 use Rattle.stages.specs.declared.Stages.{Stages}
-use Rattle.stages.specs.Stages.{reading, heldPlan, lentFor, factoredOf, setIn}
+use Rattle.stages.specs.Stages.{reading, lentFor, factoredOf, setIn}
+use Rattle.plan_text.specs.Held.{heldPlan}
 use Rattle.stages.specs.Lists.{SetLists, StageLists, Held, Lendable}
 use Rattle.stages.specs.Staged.{Fits, heldSet, FactorsHeld, Staged}
 use Rattle.stages.proofs.Lists.{filled-fits, filled-cell, cut-cell, cut-cut}
 use Rattle.stages.proofs.Holding.{Small, as-reading, small, held, answer-is}
-use Rattle.stages.proofs.Counts.{Counted, good, counted, call-passed, call-factoring}
+use Rattle.factor_calls.proofs.Theorems.{lent-good, call-passed, call-factoring}
+use Rattle.stages.proofs.Counts.{Counted, counted}
 
 module _ (r : Reading) (A : Compressed) (f : Factored) (R C : List ℕ) (L U : Compressed) (w : List ℕ) (plan : Held r A) (few : Small r) (lists : SetLists R C L U)
     (h : Leaves (factorCallOf (r .p) (r .n) (r .m) (heldPlan r (A .starts) (A .cols) (A .vals)) (lentFor (r .n) (r .m))) (f .number) (f .detail) (f .rank) (f .structural) (take (r .n) R)
@@ -97,9 +99,9 @@ module _ (r : Reading) (A : Compressed) (f : Factored) (R C : List ℕ) (L U : C
   abbrev U′ : Compressed
   U′ = compressed (take (n + 1) (U .starts)) (U .cols) (U .vals)
 
-  cut : heldSet result R C L U ≡ ownSet n (f .rank) (take n R) (take m C) L′ U′
+  cut : heldSet result R C L U ≡ ownSet n m (f .rank) (take n R) (take m C) L′ U′
   cut t =
-      setOf (f .rank) (take n R) (take m C)
+      setOf (f .rank) (sym (cut-cut R n n (omega arith)) t) (sym (cut-cut C m m (omega arith)) t)
       (compressed (sym (cut-cut (L .starts) (n + 1) (n + 1) (omega arith)) t) (take (sym lower-cell t) (L .cols)) (take (sym lower-cell t) (L .vals)))
       (compressed (sym (cut-cut (U .starts) (f .rank + 1) (n + 1) (omega (arith, rank-fits))) t) (take (sym upper-cell t) (U .cols)) (take (sym upper-cell t) (U .vals)))
 
@@ -116,19 +118,13 @@ module _ (r : Reading) (A : Compressed) (f : Factored) (R C : List ℕ) (L U : C
         (subst (λ (q : Outcome). Leaves q (f .number) (f .detail) (f .rank) (f .structural) (take n R) (take m C) L′ U′ w) plain h)
 
     g : GoodPlan p n m A′
-    g = good p n m A′ (lentFor n m) passed
-
-    R-long : length (take n R) ≡ n
-    R-long = length-take-le n R (fits .R-fits)
-
-    C-long : length (take m C) ≡ m
-    C-long = length-take-le m C (fits .C-fits)
+    g = lent-good p n m A′ (lentFor n m) passed .0
 
     set : heldSet result R C L U ≡ setIn o
     set =
         cut
-        ∙ own-set p n m A′ (modulus-prime p (g .modulus)) (g .formed) (g .rows) largestEntries largestEntries (f .detail) (f .rank) (f .structural) (take n R) (take m C) L′ U′ w leaves R-long C-long
-        ∙ sym (ap setIn (plain ∙ own-outcome p n m A′ (modulus-prime p (g .modulus)) (g .formed) (g .rows) largestEntries largestEntries (f .detail) (f .rank) (f .structural) (take n R) (take m C) L′ U′ w leaves R-long C-long))
+        ∙ own-set p n m A′ (modulus-prime p (g .modulus)) (g .formed) (g .rows) largestEntries largestEntries (f .detail) (f .rank) (f .structural) (take n R) (take m C) L′ U′ w leaves
+        ∙ sym (ap setIn (plain ∙ own-outcome p n m A′ (modulus-prime p (g .modulus)) (g .formed) (g .rows) largestEntries largestEntries (f .detail) (f .rank) (f .structural) (take n R) (take m C) L′ U′ w leaves))
 
   abbrev answered : ReadAnswer
   answered = record { result = r; starts = A .starts; columns = A .cols; values = A .vals }

@@ -10,7 +10,8 @@ use Rattle.plan_text.specs.declared.Reading.{Reading}
 use Rattle.plan_text.proofs.Accepted.{accepted-states}
 use Rattle.sparse.specs.Matrix.{Compressed}
 use Rattle.call_tests.specs.Limits.{largestSize, largestEntries}
-use Rattle.stages.specs.Stages.{reading, heldPlan, planOf}
+use Rattle.stages.specs.Stages.{reading}
+use Rattle.plan_text.specs.Held.{heldPlan, planOf}
 use Rattle.stages.specs.Lists.{Largest, Held}
 
 -- ---- the numbers of a reading keep the limits

@@ -11,7 +11,8 @@ use Rattle.factoring.specs.Outcome.{Leaves}
 use Rattle.factor_calls.specs.Lengths.{lentOf}
 use Rattle.factor_calls.specs.Calls.{factorCallOf}
 use Rattle.factor_calls.specs.declared.Lent.{Lent}
-use Rattle.stages.specs.Stages.{heldPlan, lentFor}
+use Rattle.stages.specs.Stages.{lentFor}
+use Rattle.plan_text.specs.Held.{heldPlan}
 use Rattle.stages.specs.Lists.{Lendable}
 
 -- a list has its length again when a beginning that was lent comes back

@@ -11,7 +11,8 @@ use Rattle.elimination.specs.Pairs.{pairRows, Pairs}
 use Rattle.elimination.specs.Factoring.{rest, schedule, nothing, rowOfTurn, firstOver}
 use Rattle.elimination.proofs.Listed.{map-append}
 use Rattle.elimination.proofs.Completion.{completed, completed-length}
-use Rattle.elimination.proofs.Room.{Overflows, some-overflows}
+use Rattle.elimination.specs.Overflow.{Overflows}
+use Rattle.elimination.proofs.Room.{some-overflows}
 use Rattle.elimination.proofs.RowsFound.{schedule-rows}
 
 seam : (xs ys : List ℕ) (y : ℕ) → getD (xs ++ (y ∷ ys)) (length xs) 0 ≡ y

@@ -13,7 +13,8 @@ use Rattle.sparse.specs.Set.{Set, setOf}
 use Rattle.plan_text.specs.Call.{ReadAnswer}
 use Rattle.call_tests.specs.Limits.{largestSize}
 use Rattle.stages.specs.declared.Stages.{Stages}
-use Rattle.stages.specs.Stages.{reading, heldPlan, planOf, factoredOf, setIn}
+use Rattle.stages.specs.Stages.{reading, factoredOf, setIn}
+use Rattle.plan_text.specs.Held.{heldPlan, planOf}
 use Rattle.stages.specs.Lists.{Held}
 
 pub record Fits (s : Stages) (A : Compressed) (R C : List ℕ) (L U : Compressed) : Type 0 where

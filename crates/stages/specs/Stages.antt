@@ -1,6 +1,5 @@
 -- A plan's text, read and then factored: the stages that the calls on a text begin with.
 --   reading text             the reading of a text into lists of the largest lengths
---   heldPlan r .., planOf x  the plan that a reading left in its lists
 --   readOutcome r            a reading's number and detail
 --   lentFor n m              the lists that are lent to factoring: R, C and the starts of their lengths, and room for 16,384 entries of L and of U each
 --   factoredOf x             the factoring of the plan that was read
@@ -9,13 +8,12 @@
 use Prim.Native.Nat.{ℕ, _+_}
 use mathlib.Core.List.{List}
 use lib.Dec.{eqb}
-use lib.ListN.{take}
 use Rattle.lists.specs.Refusals.{unless}
 use Rattle.lists.specs.declared.Outcome as tests
-use Rattle.sparse.specs.Matrix.{Compressed, compressed}
 use Rattle.sparse.specs.Set.{Set, setOf}
 use Rattle.plan_text.specs.Limits.{startsLength}
 use Rattle.plan_text.specs.Call.{ReadAnswer, callOf}
+use Rattle.plan_text.specs.Held.{planOf}
 use Rattle.plan_text.specs.declared.Reading.{Reading}
 use Rattle.call_tests.specs.Limits.{largestEntries, workLength}
 use Rattle.factoring.specs.Outcome.{Outcome}
@@ -26,12 +24,6 @@ use Rattle.factor_calls.specs.declared.Lent.{Lent}
 
 unfoldable pub reading : List ℕ → ReadAnswer
 reading text = callOf text startsLength largestEntries largestEntries
-
-abbrev pub heldPlan : Reading → (starts columns values : List ℕ) → Compressed
-heldPlan r starts columns values = compressed (take (r .n + 1) starts) (take (r .count) columns) (take (r .count) values)
-
-abbrev pub planOf : ReadAnswer → Compressed
-planOf x = heldPlan (x .result) (x .starts) (x .columns) (x .values)
 
 abbrev pub readOutcome : Reading → tests.Outcome
 readOutcome r = unless (eqb (r .number) 0) (r .number) (r .detail)

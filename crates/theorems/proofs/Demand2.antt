@@ -1,75 +1,122 @@
--- Demand 2: the factors are the published ones, and the answers are right. For every plan A in its form, modulo a prime p:
---   factors-right         the set `factor p n m A` has the published shape, its product is A, and its storage and lengths are right
---   factors-rank          its r is the greatest number of independent rows
---   storage-exactly       7 is given exactly if L or U has more entries than its lists hold
---   storage-row           and then at the first row in processing order that overflows either
---   open-exactly          a question is open exactly if some x with x A = y exists, and then with such an x
---   closed-exactly        and else closed, with a z where A z = 0 and y z is not 0
-use Prim.Native.Nat.{ℕ, _+_, _≤_, _<_}
+-- Demand 2: R, C, L, U and r are those of the published PLUQ work under our pivot rules, their product is A and r is the rank; a question is open, with an x where
+-- x A = y, exactly if such an x exists, and else closed, with a z where A z = 0 and y z is not 0. Every statement speaks of what a call returned and left.
+--   factor-set           what factoring left with 0, cut to its lengths, is `factor p n m A`: the set of the pivot rules
+--   factor-product       its product is A
+--   factor-rank          the rank returned is the greatest number of independent rows
+--   factor-structural    the number of structural pivots is that of the rules
+--   make-set             the call for C that returned 0 left the certificate of that set
+-- Of a question that was answered from stored factors (`stored`) or from a certificate (`bytes`):
+--   .. -open             open exactly if some x has x A = y
+--   .. -closed           and closed exactly if none has
+--   .. -x                open: the x that was left has x A = y, is 0 on every row that is no pivot row, and z is all zero
+--   .. -z                closed: the z that was left has A z = 0 and y z not 0, is 1 at one column that is no pivot column and 0 at the others, and x is all zero
+--   .. -columns          the list of open columns has 1 at j exactly if the unit vector of j is in the row space, and 0 exactly if not
+-- The set of the pivot rules, for every good plan:
+--   rules-right          has the published shape and the product A, and passes the check
+use Prim.Native.Nat.{ℕ}
 use mathlib.Core.Path.{_≡_}
 use mathlib.Core.Logic.{_↔_}
-use mathlib.Core.Bool.{true}
 use mathlib.Core.List.{List}
-use mathlib.Core.Option.{Option, none, some}
-use native.Mathlib.Omega.{arith}
 use lib.ListN.{length}
-use Rattle.lists.specs.declared.Outcome.the-variants.{Passed}
-use Rattle.algebra.specs.Congruence.{_≈⟨_⟩_}
-use Rattle.algebra.specs.Sum.{dot}
-use Rattle.algebra.specs.Prime.{Prime}
+use Rattle.lists.specs.Filled.{filled}
+use Rattle.lists.specs.Refusals.{numberOf}
+use Rattle.lists.specs.declared.Outcome.{Outcome}
 use Rattle.algebra.specs.Matrix.{vector}
 use Rattle.algebra.specs.Rank.{Rank}
-use Rattle.algebra.specs.RowSpace.{Combines, InRowSpace, InKernel}
-use Rattle.sparse.specs.Matrix.{Compressed, matrix, form}
+use Rattle.algebra.specs.RowSpace.{InRowSpace}
+use Rattle.algebra.specs.Factors.{Factors}
+use Rattle.sparse.specs.Matrix.{Compressed, matrix}
+use Rattle.sparse.specs.Set.{Set}
 use Rattle.elimination.specs.Structural.{structural}
-use Rattle.elimination.specs.Factoring.{nothing, schedule, factor, firstOver}
-use Rattle.elimination.proofs.Theorem.{StoredFactors, factor-stored, factor-rank}
-use Rattle.elimination.proofs.Room.{none-enough, enough-none, Overflows, some-overflows}
-use Rattle.pluq.specs.Judge.{judge}
-use Rattle.pluq.proofs.Judged.{judge-complete}
-use Rattle.row_space.specs.Solve.{solve}
-use Rattle.row_space.specs.declared.Verdict.the-variants.{Open, Closed}
-use Rattle.row_space.proofs.Theorems as answers
+use Rattle.elimination.specs.Factoring.{factor}
+use Rattle.certificate.specs.Reading.{setOfCertificate}
+use Rattle.call_tests.specs.Limits.{workLength}
+use Rattle.call_tests.specs.Accepted.{GoodPlan}
+use Rattle.check_calls.specs.Passing.{StoredPasses}
+use Rattle.factoring.specs.Outcome.{Leaves}
+use Rattle.factoring.specs.OwnSet.{ownSet}
+use Rattle.factor_calls.specs.Calls.{factorCallOf}
+use Rattle.factor_calls.specs.declared.Lent.{Lent}
+use Rattle.factor_calls.proofs.Theorems as factors
+use Rattle.answer_calls.specs.Calls.{answerNumber, answerFactorsOf, answerCertificateOf, Answers}
+use Rattle.answer_calls.specs.Meaning.{LeftOpen, LeftClosed}
+use Rattle.answer_calls.specs.declared.Answer.{Answer}
+use Rattle.answer_calls.proofs.Theorems as answers
+use Rattle.column_calls.specs.Calls.{openFactorsOf, openCertificateOf, Lists}
+use Rattle.column_calls.specs.Meaning.{MarksOpen}
+use Rattle.column_calls.proofs.Theorems as columns
+use Rattle.stages.specs.Stages.{reading}
+use Rattle.plq.specs.Calls.{Makes}
+use Rattle.plq.specs.Meaning.{ownCertificate}
+use Rattle.plq.proofs.Own.{factors-pass}
+use Rattle.plq.proofs.Texts as texts
 
-module _ (p n m : ℕ) (A : Compressed) (prime : Prime p) (formed : form p m A ≡ true) (rows : length (A .starts) ≡ n + 1) where
-  pub factors-right : StoredFactors p n m (matrix A) (factor p n m A)
-  factors-right = factor-stored p n m A prime formed rows
+-- ---- factoring
 
-  pub factors-rank : Rank p n m (matrix A) (factor p n m A .r)
-  factors-rank = factor-rank p n m A prime formed rows
+module _ (p n m : ℕ) (A : Compressed) (l : Lent) (number detail rank pivots : ℕ) (R C : List ℕ) (L U : Compressed) (w : List ℕ)
+    (call : Leaves (factorCallOf p n m A l) number detail rank pivots R C L U w) (done : number ≡ 0) where
+  -- the set that was left
+  abbrev own : Set
+  own = ownSet n m rank R C L U
 
-  -- the engine's own set passes
-  pub own-passes : judge p n m A (factor p n m A) ≡ Passed
-  own-passes =
-      let g = factors-right in
-      judge-complete p n m A (factor p n m A) (omega (arith, prime .two)) (g .R-length) (g .C-length)
-      (record { L-form = g .L-form; U-form = g .U-form; factors = g .factors })
+  pub factor-set : own ≡ factor p n m A
+  factor-set = factors.factored-set p n m A l number detail rank pivots R C L U w call done
 
-  module _ (y : List ℕ) (residues : (j : ℕ) → j < m → vector y j < p) where
-    pub open-exactly : (solve p n m (factor p n m A) (vector y) .verdict ≡ Open) ↔ InRowSpace p n m (matrix A) (vector y)
-    open-exactly = answers.open-exactly prime n m A (factor p n m A) (factors-right .R-length) (factors-right .C-length) own-passes y residues
+  pub factor-product : Factors p n m rank (matrix A) (vector (own .R)) (vector (own .C)) (matrix (own .L)) (matrix (own .U))
+  factor-product = factors.factored-passes p n m A l number detail rank pivots R C L U w call done .factors
 
-    pub open-x : solve p n m (factor p n m A) (vector y) .verdict ≡ Open → Combines p n m (matrix A) (vector y) (vector (solve p n m (factor p n m A) (vector y) .x))
-    open-x e = answers.open-answer prime n m A (factor p n m A) (factors-right .R-length) (factors-right .C-length) own-passes y residues e .1 .combines
+  pub factor-rank : Rank p n m (matrix A) rank
+  factor-rank = factors.factored-rank p n m A l number detail rank pivots R C L U w call done
 
-    pub closed-exactly : (solve p n m (factor p n m A) (vector y) .verdict ≡ Closed) ↔ (¬ InRowSpace p n m (matrix A) (vector y))
-    closed-exactly = answers.closed-exactly prime n m A (factor p n m A) (factors-right .R-length) (factors-right .C-length) own-passes y residues
+  pub factor-structural : pivots ≡ length (structural A n m)
+  factor-structural = factors.factored-structural p n m A l number detail rank pivots R C L U w call done
 
-    pub closed-z : solve p n m (factor p n m A) (vector y) .verdict ≡ Closed
-        → InKernel p n m (matrix A) (vector (solve p n m (factor p n m A) (vector y) .z)) × (¬ (dot m (vector y) (vector (solve p n m (factor p n m A) (vector y) .z)) ≈⟨ p ⟩ 0))
-    closed-z e = (
-      answers.closed-answer prime n m A (factor p n m A) (factors-right .R-length) (factors-right .C-length) own-passes y residues e .1 .kernel,
-      answers.closed-differs prime n m A (factor p n m A) (factors-right .R-length) (factors-right .C-length) own-passes y residues e,
-    )
+pub make-set : (text : List ℕ) (z : ℕ) (b₀ b : List ℕ) → Makes text z b₀ b → z ≡ 0 → b ≡ filled (length b₀) (ownCertificate (reading text))
+make-set = texts.made-buffer
 
-module _ (p n m : ℕ) (A : Compressed) (roomL roomU : ℕ) where
-  abbrev over : Option ℕ
-  over = firstOver p m (matrix A) roomL roomU nothing (schedule n (structural A n m))
+-- ---- a question, from stored factors
 
-  pub storage-exactly : (over ≡ none) ↔ ((length (factor p n m A .L .cols) ≤ roomL) × (length (factor p n m A .U .cols) ≤ roomU))
-  unfolding factor
-  storage-exactly =
-      (none-enough p n m (matrix A) (structural A n m) roomL roomU, λ h. enough-none p n m (matrix A) (structural A n m) roomL roomU (h .0) (h .1))
+module _ (p n m : ℕ) (A : Compressed) (s : Set) (y : List ℕ) (r : Answer) (x₀ x z₀ z w₀ w : List ℕ)
+    (call : Answers (answerFactorsOf p n m A s y (length x₀) (length z₀) (length w₀)) r x₀ x z₀ z w₀ w) (done : answerNumber r ≡ 0) where
+  pub stored-open : (r ≡ Answer.Open) ↔ InRowSpace p n m (matrix A) (vector y)
+  stored-open = answers.stored-right p n m A s y r x₀ x z₀ z w₀ w call done .open-exactly
 
-  pub storage-row : (i : ℕ) → over ≡ some i → Overflows p m (matrix A) roomL roomU nothing (schedule n (structural A n m)) i
-  storage-row = some-overflows p n m (matrix A) (structural A n m) roomL roomU
+  pub stored-closed : (r ≡ Answer.Closed) ↔ (¬ InRowSpace p n m (matrix A) (vector y))
+  stored-closed = answers.stored-right p n m A s y r x₀ x z₀ z w₀ w call done .closed-exactly
+
+  pub stored-x : r ≡ Answer.Open → LeftOpen p n m A s y x z
+  stored-x = answers.stored-right p n m A s y r x₀ x z₀ z w₀ w call done .open-left
+
+  pub stored-z : r ≡ Answer.Closed → LeftClosed p n m A s y x z
+  stored-z = answers.stored-right p n m A s y r x₀ x z₀ z w₀ w call done .closed-left
+
+-- ---- a question, from a certificate
+
+module _ (p n m : ℕ) (A : Compressed) (cert y : List ℕ) (r : Answer) (x₀ x z₀ z w₀ w : List ℕ)
+    (call : Answers (answerCertificateOf p n m A cert y (length x₀) (length z₀) (length w₀)) r x₀ x z₀ z w₀ w) (done : answerNumber r ≡ 0) where
+  pub bytes-open : (r ≡ Answer.Open) ↔ InRowSpace p n m (matrix A) (vector y)
+  bytes-open = answers.bytes-right p n m A cert y r x₀ x z₀ z w₀ w call done .open-exactly
+
+  pub bytes-closed : (r ≡ Answer.Closed) ↔ (¬ InRowSpace p n m (matrix A) (vector y))
+  bytes-closed = answers.bytes-right p n m A cert y r x₀ x z₀ z w₀ w call done .closed-exactly
+
+  pub bytes-x : r ≡ Answer.Open → LeftOpen p n m A (setOfCertificate n m cert) y x z
+  bytes-x = answers.bytes-right p n m A cert y r x₀ x z₀ z w₀ w call done .open-left
+
+  pub bytes-z : r ≡ Answer.Closed → LeftClosed p n m A (setOfCertificate n m cert) y x z
+  bytes-z = answers.bytes-right p n m A cert y r x₀ x z₀ z w₀ w call done .closed-left
+
+-- ---- the open columns
+
+pub stored-columns : (p n m : ℕ) (A : Compressed) (s : Set) (r : Outcome) (l₀ l w₀ w : List ℕ) → Lists (openFactorsOf p n m A s (length l₀) (length w₀)) r l₀ l w₀ w
+    → numberOf r ≡ 0 → MarksOpen p n m A l
+stored-columns = columns.stored-marks
+
+pub bytes-columns : (p n m : ℕ) (A : Compressed) (cert : List ℕ) (r : Outcome) (l₀ l w₀ w : List ℕ) → Lists (openCertificateOf p n m A cert (length l₀) (length w₀)) r l₀ l w₀ w
+    → numberOf r ≡ 0 → MarksOpen p n m A l
+bytes-columns = columns.bytes-marks
+
+-- ---- the set of the pivot rules
+
+pub rules-right : (p n m : ℕ) (A : Compressed) → GoodPlan p n m A → StoredPasses p n m A (factor p n m A) workLength
+rules-right = factors-pass

@@ -1,163 +1,186 @@
--- Demand 3: the checker trusts no one. A call judges a set unless something tested earlier refuses it.
---   factors-exactly          a call that judges stored factors passes them exactly if they have the published shape and the product A
---   certificate-exactly      a call that judges a certificate passes it exactly if it has its layout with the plan's p, n and m, and the set
---                            that it holds has the published shape and the product A
---   own-factors-pass         the engine's own set passes
---   own-certificate-passes   and so does the certificate written from it
---   certificate-of-passed    and that of any set that passes
--- For every set that passes, whoever made it:
---   passed-product           A = PLUQ
---   passed-rank              r is the rank
---   passed-open              the answer is open exactly when an x with x A = y exists
---   passed-closed            and else closed
---   passed-agree             so two passed sets give y the same verdict
---   open-one-value           open: two settings that give the same slots give y one value
---   closed-every-value       closed: for every setting and every value some setting gives the same slots and gives y that value
-use Prim.Native.Nat.{ℕ, _+_, _<_}
-use mathlib.Core.Path.{_≡_, refl, sym, ap, _∙_}
+-- Demand 3: the checker trusts no one. Every statement speaks of what a call returned and left; a set is judged unless something tested earlier refuses the call.
+-- A set is stored factors (`stored`) or a certificate (`bytes`); `text` is the call for C that checks a certificate against a plan's text.
+--   .. -judged           a set that is judged: none of 10 to 14 is returned exactly if it has the published shape and its product is A (a certificate: the
+--                        layout with the plan's p, n and m too); by the check, by writing (`write`), by an answer (`answer`) and by a list of open columns (`list`)
+--   own-passes           what factoring left with 0 passes the check
+--   own-written          it is written, unless the buffer is too short
+--   own-certificate      and its certificate passes the check
+--   written-passes       what writing left with 0 passes the check
+--   made-passes          what the call for C made passes the call for C that checks
+-- Whenever a set passes, whoever made it:
+--   .. -product          A = PLUQ
+--   .. -rank             r is the rank
+--   .. -answered         every question of m residues is answered
+--   .. -right            the answer is open exactly when an x with x A = y exists, else closed (`AnswersRight`, whose x and z Demand2 has one by one)
+--   agree                so all answers to one question agree, whichever sets they came from
+--   .. -one-value        open: two settings that give the same slots give y one value
+--   .. -every-value      closed: for every setting and every value some setting gives the same slots and gives y that value
+use Prim.Native.Nat.{ℕ}
+use mathlib.Core.Path.{_≡_, refl}
 use mathlib.Core.Logic.{_↔_}
-use mathlib.Core.Bool.{Bool, true, false}
+use mathlib.Core.Bool.{true, false}
 use mathlib.Core.List.{List}
-use native.Mathlib.Omega.{arith}
-use lib.Dec.{eqb}
-use lib.ListN.{length}
-use Rattle.lists.specs.Refusals.{_▷_, unless}
+use lib.ListN.{length, take}
+use Rattle.lists.specs.Tests.{among}
+use Rattle.lists.specs.Table.{setFaults}
+use Rattle.lists.specs.Refusals.{numberOf}
 use Rattle.lists.specs.declared.Outcome.{Outcome}
 use Rattle.lists.specs.declared.Outcome.the-variants.{Passed}
-use Rattle.algebra.specs.Prime.{Prime}
 use Rattle.algebra.specs.Matrix.{vector}
 use Rattle.algebra.specs.Rank.{Rank}
-use Rattle.algebra.specs.RowSpace.{InRowSpace}
 use Rattle.algebra.specs.Factors.{Factors}
 use Rattle.algebra.specs.Settings.{Determined, Undetermined}
-use Rattle.residue.proofs.Primes.{modulus-prime}
-use Rattle.sparse.specs.Matrix.{Compressed, matrix, form}
+use Rattle.sparse.specs.Row.{Below}
+use Rattle.sparse.specs.Matrix.{Compressed, matrix}
 use Rattle.sparse.specs.Set.{Set}
-use Rattle.sparse.proofs.Rows.{form-paired}
-use Rattle.pluq.specs.Judge.{judge, Passes}
-use Rattle.pluq.proofs.Judged.{judge-passes}
-use Rattle.elimination.specs.Factoring.{factor}
+use Rattle.pluq.specs.Judge.{Passes}
 use Rattle.certificate.specs.Layout.{certificateOf, Sized}
 use Rattle.certificate.specs.Reading.{headerOk, setOfCertificate}
-use Rattle.certificate.proofs.Passed.{passed-sized}
-use Rattle.certificate.proofs.ReadBack.{written-passes, written-reads-back}
+use Rattle.certificate.specs.Writing.{roomFor}
+use Rattle.plan_text.specs.Held.{planOf}
 use Rattle.call_tests.specs.Limits.{workLength}
-use Rattle.call_tests.specs.Tests.{callOutcome}
-use Rattle.check_calls.specs.Calls.{factorsOutcome, certificateOutcome, checkFactorsOf, checkCertificateOf}
-use Rattle.check_calls.proofs.Tested.{GoodPlan, factors-good, good-plan, prime-positive}
-use Rattle.row_space.specs.Solve.{solve}
-use Rattle.row_space.specs.declared.Verdict.the-variants.{Open, Closed}
-use Rattle.row_space.proofs.Theorems as answers
-use Rattle.theorems.proofs.Numbers.{numbers-small}
-use Rattle.theorems.proofs.Demand2.{factors-right, own-passes}
+use Rattle.call_tests.specs.Accepted.{GoodPlan}
+use Rattle.check_calls.specs.Calls.{checkFactorsOf, checkCertificateOf, Checks}
+use Rattle.check_calls.specs.Passing.{StoredPasses, CertificatePasses}
+use Rattle.check_calls.proofs.Theorems as checks
+use Rattle.write_calls.specs.Call.{writeOutcome, WritesCertificate}
+use Rattle.write_calls.specs.declared.Written.{Written}
+use Rattle.write_calls.proofs.Theorems as writes
+use Rattle.factoring.specs.Outcome.{Leaves}
+use Rattle.factoring.specs.OwnSet.{ownSet}
+use Rattle.factor_calls.specs.Calls.{factorCallOf}
+use Rattle.factor_calls.specs.declared.Lent.{Lent}
+use Rattle.answer_calls.specs.Calls.{answerNumber, answerFactorsOf, answerCertificateOf, Answers}
+use Rattle.answer_calls.specs.Meaning.{Askable, AnswersRight}
+use Rattle.answer_calls.specs.declared.Answer.{Answer}
+use Rattle.answer_calls.proofs.Theorems as answers
+use Rattle.column_calls.specs.Calls.{openFactorsOf, openCertificateOf, Lists}
+use Rattle.column_calls.proofs.Theorems as columns
+use Rattle.stages.specs.Stages.{reading}
+use Rattle.plq.specs.Calls.{checkTextOf, packed, Makes}
+use Rattle.plq.specs.Meaning.{ownCertificate}
+use Rattle.plq.proofs.Own as owns
+use Rattle.plq.proofs.Texts as texts
 
--- what comes after a test that passed decides
-after : (a b : Outcome) → a ≡ Passed → (a ▷ b) ≡ b
-after a b e = ap (λ (o : Outcome). o ▷ b) e
+-- ---- the check of stored factors
 
--- ---- the checker
+module _ (p n m : ℕ) (A : Compressed) (s : Set) (r : Outcome) (w₀ w : List ℕ) (call : Checks (checkFactorsOf p n m A s (length w₀)) r w₀ w) where
+  pub stored-judged : GoodPlan p n m A → Sized n m s → length w₀ ≡ workLength → (among (numberOf r) setFaults ≡ false) ↔ Passes p n m A s
+  stored-judged = checks.stored-judged p n m A s r w₀ w call
 
--- `factorsOutcome` is what is tested before the set: lengths, modulus, limits and the plan's form
-pub factors-exactly : (p n m : ℕ) (A : Compressed) (s : Set) (w : ℕ) → factorsOutcome p n m A s w ≡ Passed → (checkFactorsOf p n m A s w ≡ Passed) ↔ Passes p n m A s
-unfolding checkFactorsOf
-factors-exactly p n m A s w h =
-    let (g, z, l) = factors-good p n m A s w h in
-    let exactly = judge-passes p n m A s (prime-positive p (modulus-prime p (g .modulus))) (z .row-order) (z .column-order) in
-    let same = after (factorsOutcome p n m A s w) (judge p n m A s) h in
-    ((λ e. exactly .0 (sym same ∙ e)), λ q. same ∙ exactly .1 q)
+  pub stored-product : numberOf r ≡ 0 → Factors p n m (s .r) (matrix A) (vector (s .R)) (vector (s .C)) (matrix (s .L)) (matrix (s .U))
+  stored-product = checks.stored-product p n m A s r w₀ w call
 
--- `callOutcome` is what is tested before the certificate
-pub certificate-exactly : (p n m : ℕ) (A : Compressed) (cert : List ℕ) (w : ℕ) → callOutcome (eqb w workLength) p n m A ≡ Passed
-    → (checkCertificateOf p n m A cert w ≡ Passed) ↔ ((headerOk p n m cert ≡ true) × Passes p n m A (setOfCertificate n m cert))
-unfolding checkCertificateOf certificateOutcome
-certificate-exactly p n m A cert w h = (sound, complete)
-  where
-    good : GoodPlan p n m A
-    good = good-plan p n m A (eqb w workLength) h .0
+  pub stored-rank : numberOf r ≡ 0 → Rank p n m (matrix A) (s .r)
+  stored-rank = checks.stored-rank p n m A s r w₀ w call
 
-    exactly : headerOk p n m cert ≡ true → (judge p n m A (setOfCertificate n m cert) ≡ Passed) ↔ Passes p n m A (setOfCertificate n m cert)
-    exactly e =
-        let z = passed-sized p n m cert e in
-        judge-passes p n m A (setOfCertificate n m cert) (prime-positive p (modulus-prime p (good .modulus))) (z .row-order) (z .column-order)
+-- ---- the check of a certificate
 
-    first : (callOutcome (eqb w workLength) p n m A ▷ unless (headerOk p n m cert) 10 0) ≡ unless (headerOk p n m cert) 10 0
-    first = after (callOutcome (eqb w workLength) p n m A) (unless (headerOk p n m cert) 10 0) h
+module _ (p n m : ℕ) (A : Compressed) (cert : List ℕ) (r : Outcome) (w₀ w : List ℕ) (call : Checks (checkCertificateOf p n m A cert (length w₀)) r w₀ w) where
+  abbrev held : Set
+  held = setOfCertificate n m cert
 
-    same : ((callOutcome (eqb w workLength) p n m A ▷ unless (headerOk p n m cert) 10 0) ▷ judge p n m A (setOfCertificate n m cert))
-        ≡ (unless (headerOk p n m cert) 10 0 ▷ judge p n m A (setOfCertificate n m cert))
-    same = ap (λ (o : Outcome). o ▷ judge p n m A (setOfCertificate n m cert)) first
+  pub bytes-judged : GoodPlan p n m A → length w₀ ≡ workLength → (among (numberOf r) setFaults ≡ false) ↔ ((headerOk p n m cert ≡ true) × Passes p n m A held)
+  bytes-judged = checks.bytes-judged p n m A cert r w₀ w call
 
-    split : (b : Bool) (o : Outcome) → (unless b 10 0 ▷ o) ≡ Passed → (b ≡ true) × (o ≡ Passed)
-    split true o e = (refl, e)
-    split false o e = absurd (let z : _≡_ {A = ℕ} 0 1 = cc in omega arith)
+  pub bytes-product : numberOf r ≡ 0 → Factors p n m (held .r) (matrix A) (vector (held .R)) (vector (held .C)) (matrix (held .L)) (matrix (held .U))
+  bytes-product = checks.bytes-product p n m A cert r w₀ w call
 
-    sound : ((callOutcome (eqb w workLength) p n m A ▷ unless (headerOk p n m cert) 10 0) ▷ judge p n m A (setOfCertificate n m cert)) ≡ Passed
-        → (headerOk p n m cert ≡ true) × Passes p n m A (setOfCertificate n m cert)
-    sound e = let (t, o) = split (headerOk p n m cert) (judge p n m A (setOfCertificate n m cert)) (sym same ∙ e) in (t, exactly t .0 o)
+  pub bytes-rank : numberOf r ≡ 0 → Rank p n m (matrix A) (held .r)
+  bytes-rank = checks.bytes-rank p n m A cert r w₀ w call
 
-    complete : (headerOk p n m cert ≡ true) × Passes p n m A (setOfCertificate n m cert)
-        → ((callOutcome (eqb w workLength) p n m A ▷ unless (headerOk p n m cert) 10 0) ▷ judge p n m A (setOfCertificate n m cert)) ≡ Passed
-    complete q = same ∙ ap (λ (b : Bool). unless b 10 0 ▷ judge p n m A (setOfCertificate n m cert)) (q .0) ∙ exactly (q .0) .1 (q .1)
+-- ---- the call for C that checks; that it returns 0 exactly if the certificate passes is `check-text-exactly` of Demand1
+
+module _ (text cert : List ℕ) (z : ℕ) (call : z ≡ packed (checkTextOf text cert)) (passed : z ≡ 0) where
+  abbrev plan : Compressed
+  plan = planOf (reading text)
+
+  abbrev set : Set
+  set = setOfCertificate (reading text .result .n) (reading text .result .m) cert
+
+  pub text-product : let q = reading text .result in Factors (q .p) (q .n) (q .m) (set .r) (matrix plan) (vector (set .R)) (vector (set .C)) (matrix (set .L)) (matrix (set .U))
+  text-product = texts.checked-product text cert z call passed
+
+  pub text-rank : let q = reading text .result in Rank (q .p) (q .n) (q .m) (matrix plan) (set .r)
+  text-rank = texts.checked-rank text cert z call passed
 
 -- ---- the engine's own
 
-pub own-factors-pass : (p n m : ℕ) (A : Compressed) → Prime p → form p m A ≡ true → length (A .starts) ≡ n + 1 → judge p n m A (factor p n m A) ≡ Passed
-own-factors-pass p n m A prime formed rows = own-passes p n m A prime formed rows
+module _ (p n m : ℕ) (A : Compressed) (l : Lent) (number detail rank pivots : ℕ) (R C : List ℕ) (L U : Compressed) (w : List ℕ)
+    (call : Leaves (factorCallOf p n m A l) number detail rank pivots R C L U w) (done : number ≡ 0) where
+  abbrev own : Set
+  own = ownSet n m rank R C L U
 
-pub certificate-of-passed : (p n m : ℕ) (A : Compressed) (s : Set) (w : ℕ) → callOutcome (eqb w workLength) p n m A ≡ Passed
-    → Sized n m s → Passes p n m A s → checkCertificateOf p n m A (certificateOf p n m s) w ≡ Passed
-certificate-of-passed p n m A s w h z q =
-    let small = numbers-small p n m A s (good-plan p n m A (eqb w workLength) h .0) z q in
-    certificate-exactly p n m A (certificateOf p n m s) w h .1
-    (written-passes p n m s z small, rw (written-reads-back p n m s z small) q)
+  pub own-passes : checkFactorsOf p n m A own workLength ≡ Passed
+  own-passes = owns.own-checked p n m A l number detail rank pivots R C L U w call done
 
-pub own-sized : (p n m : ℕ) (A : Compressed) → Prime p → form p m A ≡ true → length (A .starts) ≡ n + 1 → Sized n m (factor p n m A)
-own-sized p n m A prime formed rows =
-    let g = factors-right p n m A prime formed rows in
-    let s = factor p n m A in
-    record {
-      row-order = g .R-length;
-      column-order = g .C-length;
-      lower-starts = g .L-starts;
-      lower-values = sym (form-paired p (s .r) (s .L .starts) (s .L .cols) (s .L .vals) (g .L-form));
-      upper-starts = g .U-starts;
-      upper-values = sym (form-paired p m (s .U .starts) (s .U .cols) (s .U .vals) (g .U-form));
-    }
+  pub own-written : (room : ℕ) → writeOutcome p n m A own workLength room ≡ roomFor room (certificateOf p n m own)
+  own-written = owns.own-written p n m A l number detail rank pivots R C L U w call done
 
-pub own-certificate-passes : (p n m : ℕ) (A : Compressed) (w : ℕ) → callOutcome (eqb w workLength) p n m A ≡ Passed
-    → checkCertificateOf p n m A (certificateOf p n m (factor p n m A)) w ≡ Passed
-own-certificate-passes p n m A w h =
-    let g = good-plan p n m A (eqb w workLength) h .0 in
-    let prime = modulus-prime p (g .modulus) in
-    let f = factors-right p n m A prime (g .formed) (g .rows) in
-    certificate-of-passed p n m A (factor p n m A) w h (own-sized p n m A prime (g .formed) (g .rows))
-    (record { L-form = f .L-form; U-form = f .U-form; factors = f .factors })
+  pub own-certificate : checkCertificateOf p n m A (certificateOf p n m own) workLength ≡ Passed
+  own-certificate = owns.own-certificate p n m A l number detail rank pivots R C L U w call done
 
--- ---- every set that passes
+module _ (p n m : ℕ) (A : Compressed) (s : Set) (z : Written) (b₀ b w₀ w : List ℕ)
+    (call : WritesCertificate (writeOutcome p n m A s (length w₀) (length b₀)) (certificateOf p n m s) z b₀ b w₀ w) where
+  pub write-judged : GoodPlan p n m A → Sized n m s → length w₀ ≡ workLength → (among (numberOf (z .outcome)) setFaults ≡ false) ↔ Passes p n m A s
+  write-judged = writes.written-judged p n m A s z b₀ b w₀ w call
 
-module _ {p : ℕ} (prime : Prime p) (n m : ℕ) (A : Compressed) (s : Set) (long-R : length (s .R) ≡ n) (long-C : length (s .C) ≡ m) (ok : judge p n m A s ≡ Passed) where
-  pub passed-product : Factors p n m (s .r) (matrix A) (vector (s .R)) (vector (s .C)) (matrix (s .L)) (matrix (s .U))
-  passed-product = answers.product prime n m A s long-R long-C ok
+  pub written-passes : numberOf (z .outcome) ≡ 0 → checkCertificateOf p n m A (take (z .length) b) workLength ≡ Passed
+  written-passes = writes.written-checked p n m A s z b₀ b w₀ w call
 
-  pub passed-rank : Rank p n m (matrix A) (s .r)
-  passed-rank = answers.rank prime n m A s long-R long-C ok
+pub made-passes : (text : List ℕ) (z : ℕ) (b₀ b : List ℕ) → Makes text z b₀ b → z ≡ 0 → checkTextOf text (take (length (ownCertificate (reading text))) b) ≡ Passed
+made-passes = texts.made-checked
 
-  module _ (y : List ℕ) (residues : (j : ℕ) → j < m → vector y j < p) where
-    pub passed-open : (solve p n m s (vector y) .verdict ≡ Open) ↔ InRowSpace p n m (matrix A) (vector y)
-    passed-open = answers.open-exactly prime n m A s long-R long-C ok y residues
+-- ---- questions to stored factors
 
-    pub passed-closed : (solve p n m s (vector y) .verdict ≡ Closed) ↔ (¬ InRowSpace p n m (matrix A) (vector y))
-    passed-closed = answers.closed-exactly prime n m A s long-R long-C ok y residues
+module _ (p n m : ℕ) (A : Compressed) (s : Set) (y : List ℕ) (r : Answer) (x₀ x z₀ z w₀ w : List ℕ)
+    (call : Answers (answerFactorsOf p n m A s y (length x₀) (length z₀) (length w₀)) r x₀ x z₀ z w₀ w) where
+  pub answer-stored-judged : GoodPlan p n m A → Sized n m s → length w₀ ≡ workLength → Askable p n m y (length x₀) (length z₀) → (among (answerNumber r) setFaults ≡ false) ↔ Passes p n m A s
+  answer-stored-judged = answers.stored-judged p n m A s y r x₀ x z₀ z w₀ w call
 
-    pub open-one-value : solve p n m s (vector y) .verdict ≡ Open → Determined p n m (matrix A) (vector y)
-    open-one-value = answers.open-determined prime n m A s long-R long-C ok y residues
+  pub stored-answered : checkFactorsOf p n m A s (length w₀) ≡ Passed → Askable p n m y (length x₀) (length z₀) → answerNumber r ≡ 0
+  stored-answered passed ask = answers.stored-answered p n m A s y r x₀ x z₀ z w₀ w call .1 (checks.factors-exactly p n m A s (length w₀) .0 passed, ask)
 
-    pub closed-every-value : solve p n m s (vector y) .verdict ≡ Closed → Undetermined p n m (matrix A) (vector y)
-    closed-every-value = answers.closed-undetermined prime n m A s long-R long-C ok y residues
+  pub stored-right : answerNumber r ≡ 0 → AnswersRight p n m A s y r x z
+  stored-right = answers.stored-right p n m A s y r x₀ x z₀ z w₀ w call
 
-pub passed-agree : {p : ℕ} → Prime p → (n m : ℕ) (A : Compressed) (s s′ : Set)
-    → length (s .R) ≡ n → length (s .C) ≡ m → judge p n m A s ≡ Passed
-    → length (s′ .R) ≡ n → length (s′ .C) ≡ m → judge p n m A s′ ≡ Passed
-    → (y : List ℕ) → ((j : ℕ) → j < m → vector y j < p)
-    → solve p n m s (vector y) .verdict ≡ solve p n m s′ (vector y) .verdict
-passed-agree = answers.same-verdict
+  pub stored-one-value : r ≡ Answer.Open → Determined p n m (matrix A) (vector y)
+  stored-one-value e = stored-right (rw e refl) .one-value e
+
+  pub stored-every-value : r ≡ Answer.Closed → Undetermined p n m (matrix A) (vector y)
+  stored-every-value e = stored-right (rw e refl) .every-value e
+
+-- ---- questions to a certificate
+
+module _ (p n m : ℕ) (A : Compressed) (cert y : List ℕ) (r : Answer) (x₀ x z₀ z w₀ w : List ℕ)
+    (call : Answers (answerCertificateOf p n m A cert y (length x₀) (length z₀) (length w₀)) r x₀ x z₀ z w₀ w) where
+  pub answer-bytes-judged : GoodPlan p n m A → length w₀ ≡ workLength → Askable p n m y (length x₀) (length z₀)
+      → (among (answerNumber r) setFaults ≡ false) ↔ ((headerOk p n m cert ≡ true) × Passes p n m A (setOfCertificate n m cert))
+  answer-bytes-judged = answers.bytes-judged p n m A cert y r x₀ x z₀ z w₀ w call
+
+  pub bytes-answered : checkCertificateOf p n m A cert (length w₀) ≡ Passed → Askable p n m y (length x₀) (length z₀) → answerNumber r ≡ 0
+  bytes-answered passed ask = answers.bytes-answered p n m A cert y r x₀ x z₀ z w₀ w call .1 (checks.certificate-exactly p n m A cert (length w₀) .0 passed, ask)
+
+  pub bytes-right : answerNumber r ≡ 0 → AnswersRight p n m A (setOfCertificate n m cert) y r x z
+  bytes-right = answers.bytes-right p n m A cert y r x₀ x z₀ z w₀ w call
+
+  pub bytes-one-value : r ≡ Answer.Open → Determined p n m (matrix A) (vector y)
+  bytes-one-value e = bytes-right (rw e refl) .one-value e
+
+  pub bytes-every-value : r ≡ Answer.Closed → Undetermined p n m (matrix A) (vector y)
+  bytes-every-value e = bytes-right (rw e refl) .every-value e
+
+-- s and s′ are any two sets that the answers came from, stored or in a certificate
+pub agree : (p n m : ℕ) (A : Compressed) (s s′ : Set) (y : List ℕ) (r r′ : Answer) (x z x′ z′ : List ℕ) → AnswersRight p n m A s y r x z → AnswersRight p n m A s′ y r′ x′ z′
+    → ((r ≡ Answer.Open) ↔ (r′ ≡ Answer.Open)) × ((r ≡ Answer.Closed) ↔ (r′ ≡ Answer.Closed))
+agree = answers.right-agree
+
+-- ---- the open columns
+
+pub list-stored-judged : (p n m : ℕ) (A : Compressed) (s : Set) (r : Outcome) (l₀ l w₀ w : List ℕ) → Lists (openFactorsOf p n m A s (length l₀) (length w₀)) r l₀ l w₀ w
+    → GoodPlan p n m A → Sized n m s → length w₀ ≡ workLength → length l₀ ≡ m → (among (numberOf r) setFaults ≡ false) ↔ Passes p n m A s
+list-stored-judged = columns.stored-judged
+
+pub list-bytes-judged : (p n m : ℕ) (A : Compressed) (cert : List ℕ) (r : Outcome) (l₀ l w₀ w : List ℕ) → Lists (openCertificateOf p n m A cert (length l₀) (length w₀)) r l₀ l w₀ w
+    → GoodPlan p n m A → length w₀ ≡ workLength → length l₀ ≡ m → (among (numberOf r) setFaults ≡ false) ↔ ((headerOk p n m cert ≡ true) × Passes p n m A (setOfCertificate n m cert))
+list-bytes-judged = columns.bytes-judged

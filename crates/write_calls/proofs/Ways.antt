@@ -11,42 +11,31 @@ use Rattle.lists.specs.Refusals.{unless}
 use Rattle.lists.specs.declared.Outcome.{Outcome}
 use Rattle.lists.specs.declared.Outcome.the-variants.{Passed, Refused}
 use Rattle.lists.proofs.Filled.{filled-none}
-use Rattle.lists.proofs.Refusals.{refused, passed, both-passed}
-use Rattle.residue.proofs.Primes.{modulus-prime}
+use Rattle.lists.proofs.Refusals.{refused, passed}
 use Rattle.sparse.specs.Matrix.{Compressed}
 use Rattle.sparse.specs.Set.{Set}
 use Rattle.sparse.specs.Row.{Below}
-use Rattle.pluq.specs.Judge.{judge, Passes}
-use Rattle.pluq.proofs.Judged.{judge-sound}
-use Rattle.certificate.specs.Layout.{certificateOf, Sized}
+use Rattle.certificate.specs.Layout.{certificateOf}
 use Rattle.certificate.specs.Writing.{roomFor, written, Writes, Writable}
 use Rattle.certificate.proofs.Rooms.{written-refused, written-passed}
 use Rattle.certificate.proofs.Counts.{entries-below}
-use Rattle.check_calls.specs.Calls.{factorsOutcome, checkFactorsOf}
-use Rattle.check_calls.proofs.Tested.{factors-good, prime-positive}
+use Rattle.check_calls.specs.Calls.{checkFactorsOf}
+use Rattle.check_calls.specs.Passing.{StoredPasses}
+use Rattle.check_calls.proofs.Theorems.{factors-exactly}
 use Rattle.write_calls.specs.Call.{writeOutcome, kept, WritesCertificate}
 use Rattle.write_calls.specs.declared.Written.{Written}
 
 module _ (p n m : ℕ) (A : Compressed) (s : Set) (w : ℕ) (h : checkFactorsOf p n m A s w ≡ Passed) where
-  parts : (factorsOutcome p n m A s w ≡ Passed) × (judge p n m A s ≡ Passed)
-  unfolding checkFactorsOf
-  parts = both-passed (factorsOutcome p n m A s w) (judge p n m A s) h
-
-  pub checked-sized : Sized n m s
-  checked-sized = factors-good p n m A s w (parts .0) .1
-
-  pub checked-passes : Passes p n m A s
-  checked-passes =
-      let (g, z, l) = factors-good p n m A s w (parts .0) in
-      judge-sound p n m A s (prime-positive p (modulus-prime p (g .modulus))) (z .row-order) (z .column-order) (parts .1)
+  checked : StoredPasses p n m A s w
+  checked = factors-exactly p n m A s w .0 h
 
   -- the entry counts are 32-bit numbers, since the starts are
   pub writable : Below (2 ^ 32) (s .L .starts) → Below (2 ^ 32) (s .U .starts) → Writable n m s
   writable lower upper =
       record {
-        sized = checked-sized;
-        lcount = entries-below (2 ^ 32) p (s .r) (s .L) (checked-passes .L-form) lower;
-        ucount = entries-below (2 ^ 32) p m (s .U) (checked-passes .U-form) upper;
+        sized = checked .sized;
+        lcount = entries-below (2 ^ 32) p (s .r) (s .L) (checked .passes .L-form) lower;
+        ucount = entries-below (2 ^ 32) p m (s .U) (checked .passes .U-form) upper;
       }
 
 -- a certificate for which there is room is written whole

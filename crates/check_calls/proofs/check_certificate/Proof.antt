@@ -17,7 +17,8 @@ use Rattle.certificate.proofs.Views.{header-fits, set-of-parts, part}
 use Rattle.call_tests.specs.Limits.{workLength}
 use Rattle.call_tests.proofs.Lists.{viewed-lists}
 use Rattle.check_calls.specs.Calls.{certificateOutcome, checkCertificateOf}
-use Rattle.check_calls.proofs.Tested.{GoodPlan, checkable, checkable-as, certificate-good}
+use Rattle.call_tests.specs.Accepted.{GoodPlan}
+use Rattle.check_calls.proofs.Tested.{checkable, checkable-as, certificate-good}
 use borrow.Author.Needs.{needs}
 use Rattle.check_calls.proofs.check_certificate.Statement.{statement}
 use Rattle.check_calls.proofs.check_certificate.Tie as tie

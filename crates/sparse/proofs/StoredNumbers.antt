@@ -1,8 +1,12 @@
--- The numbers of a set that passes are 32-bit numbers, so that its certificate can be written.
+-- The numbers of a well-formed stored matrix: how large they are, and how many.
+--   stored-few       there are at most as many entries as rows times columns
+--   starts-small     starts, columns and values below a bound that the entry count, the width and the modulus keep
+--   columns-small
+--   values-small
 use mathlib.Core.Path.{_≡_, sym, ap, _∙_, subst}
 use mathlib.Core.Bool.{true, _&&_}
 use mathlib.Core.List.{List, [], _∷_, _++_}
-use Prim.Native.Nat.{ℕ, _+_, _-_, _*_, _^_, _≤_, _<_}
+use Prim.Native.Nat.{ℕ, _+_, _-_, _*_, _≤_, _<_}
 use native.Mathlib.Omega.{arith}
 use lib.Dec.{eqb, leb, ltb}
 use lib.ListN.{length, drop, length-drop, take-append-drop}
@@ -10,19 +14,11 @@ use lib.Seq.{slice, drop-drop, length-take-le}
 use borrow.Author.Tests.{eqb-true, leb-true, ltb-true}
 use Rattle.lists.proofs.Bools.{and-left, and-right}
 use Rattle.lists.proofs.Steps.{drop-take, drop-end}
-use Rattle.factor_calls.proofs.Ready.{small-product}
-use Rattle.residue.specs.Range.{isModulus, largestModulus}
 use Rattle.sparse.specs.Form.{startsFrom, starts, risesFrom, rowsFrom, values, wellFormed}
 use Rattle.sparse.specs.Matrix.{Compressed, form}
 use Rattle.sparse.specs.Row.{Below}
-use Rattle.sparse.specs.Set.{Set}
 use Rattle.sparse.proofs.Forms.{starts-le, starts-true}
-use Rattle.pluq.specs.Judge.{Passes}
-use Rattle.call_tests.specs.Limits.{largestSize}
-use Rattle.certificate.specs.Layout.{factorNumbers, numbersOf, Sized}
-use Rattle.check_calls.proofs.Tested.{GoodPlan}
-use Rattle.certificate.proofs.Bounds.{below-none, below-cons, below-append}
-use Rattle.certificate.proofs.ReadBack.{factor-below, numbers-below}
+use Rattle.sparse.proofs.Bounds.{below-none, below-cons, below-append, below-wider}
 
 -- ---- each list of a stored matrix
 
@@ -98,9 +94,6 @@ starts-all b count (s ∷ ss) e h =
     let first : s ≡ 0 = eqb-true s 0 (and-left (eqb s 0) (startsFrom count 0 ss) e) in
     below-cons b s ss (omega arith) (starts-below b count 0 ss (and-right (eqb s 0) (startsFrom count 0 ss) e) h)
 
-below-wider : (a b : ℕ) (xs : List ℕ) → a ≤ b → Below a xs → Below b xs
-below-wider a b xs h f i l = omega (arith, f i l)
-
 module _ (p width : ℕ) (h : Compressed) (formed : form p width h ≡ true) where
   first : starts (length (h .cols)) (h .starts) ≡ true
   unfolding wellFormed
@@ -112,32 +105,15 @@ module _ (p width : ℕ) (h : Compressed) (formed : form p width h ≡ true) whe
       let both = and-right (eqb (length (h .vals)) (length (h .cols))) _ (and-right (starts (length (h .cols)) (h .starts)) _ formed) in
       (and-left (rowsFrom width (h .cols) 0 (drop 1 (h .starts))) (values p (h .vals)) both, and-right (rowsFrom width (h .cols) 0 (drop 1 (h .starts))) (values p (h .vals)) both)
 
-  stored-few : length (h .cols) ≤ length (drop 1 (h .starts)) * width
+  pub stored-few : length (h .cols) ≤ length (drop 1 (h .starts)) * width
   stored-few = omega (arith, entries-few width (h .cols) 0 (drop 1 (h .starts)) (starts-true (length (h .cols)) (h .starts) first .1) (later .0))
 
-  stored-below : (b : ℕ) → p ≤ b → width ≤ b → length (h .cols) < b → Below b (factorNumbers h)
-  stored-below b hp hw hc =
-      factor-below b h (starts-all b (length (h .cols)) (h .starts) first hc)
-      (below-wider width b (h .cols) hw (columns-below width (h .cols) 0 (drop 1 (h .starts)) (starts-true (length (h .cols)) (h .starts) first .1) (later .0)))
-      (below-wider p b (h .vals) hp (values-below p (h .vals) (later .1)))
+  pub starts-small : (b : ℕ) → length (h .cols) < b → Below b (h .starts)
+  starts-small b few = starts-all b (length (h .cols)) (h .starts) first few
 
--- ---- all numbers of a set
+  pub columns-small : (b : ℕ) → width ≤ b → Below b (h .cols)
+  columns-small b narrow =
+      below-wider width b (h .cols) narrow (columns-below width (h .cols) 0 (drop 1 (h .starts)) (starts-true (length (h .cols)) (h .starts) first .1) (later .0))
 
-modulus-small : (p : ℕ) → isModulus p ≡ true → p < 2 ^ 32
-unfolding isModulus
-modulus-small p e = omega (arith, leb-true p largestModulus (and-left (leb p largestModulus) _ e))
-
-pub numbers-small : (p n m : ℕ) (A : Compressed) (s : Set) → GoodPlan p n m A → Sized n m s → Passes p n m A s → Below (2 ^ 32) (numbersOf p n m s)
-numbers-small p n m A s g z q =
-    let f = q .factors in
-    let hp : p < 2 ^ 32 = modulus-small p (g .modulus) in
-    let hr : s .r ≤ largestSize = omega (arith, f .rank-rows, g .few-rows) in
-    let lower : length (s .L .cols) < 2 ^ 32 =
-    omega (arith, stored-few p (s .r) (s .L) (q .L-form), ap (λ (k : ℕ). k * s .r) (let e : length (drop 1 (s .L .starts)) ≡ n = omega (arith, length-drop 1 (s .L .starts), z .lower-starts) in e), small-product n (s .r) (g .few-rows) hr) in
-    let upper : length (s .U .cols) < 2 ^ 32 =
-    omega (arith, stored-few p m (s .U) (q .U-form), ap (λ (k : ℕ). k * m) (let e : length (drop 1 (s .U .starts)) ≡ s .r = omega (arith, length-drop 1 (s .U .starts), z .upper-starts) in e), small-product (s .r) m hr (g .few-columns)) in
-    numbers-below (2 ^ 32) p n m s hp (omega (arith, g .few-rows)) (omega (arith, g .few-columns)) (omega (arith, hr)) lower upper
-    (λ i l. omega (arith, f .rows .below i (omega (arith, z .row-order)), g .few-rows))
-    (λ i l. omega (arith, f .columns .below i (omega (arith, z .column-order)), g .few-columns))
-    (stored-below p (s .r) (s .L) (q .L-form) (2 ^ 32) (omega (arith, hp)) (omega (arith, hr)) lower)
-    (stored-below p m (s .U) (q .U-form) (2 ^ 32) (omega (arith, hp)) (omega (arith, g .few-columns)) upper)
+  pub values-small : (b : ℕ) → p ≤ b → Below b (h .vals)
+  values-small b small = below-wider p b (h .vals) small (values-below p (h .vals) (later .1))

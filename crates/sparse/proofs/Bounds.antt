@@ -1,11 +1,11 @@
 -- Laws of `Below`: every number of a list is below a bound.
 use mathlib.Core.Path.{_≡_, sym, subst}
 use mathlib.Core.List.{List, [], _∷_, _++_}
-use Prim.Native.Nat.{ℕ, zero, suc, _+_, _-_, _<_}
+use Prim.Native.Nat.{ℕ, zero, suc, _+_, _-_, _≤_, _<_}
 use native.Mathlib.Omega.{arith}
 use lib.ListN.{length, drop, length-drop}
 use lib.Seq.{getD-drop}
 use Rattle.sparse.specs.Row.{Below}
 
 pub below-none : (b : ℕ) → Below b []
 below-none b i h = absurd (omega arith)
@@ -25,3 +25,6 @@ pub below-drop : (b : ℕ) (xs : List ℕ) (k : ℕ) → Below b xs → Below b 
 below-drop b xs k h i l =
     let e : length (drop k xs) ≡ length xs - k = length-drop k xs in
     subst (λ (x : ℕ). x < b) (sym (getD-drop k xs i 0)) (h (k + i) (omega arith))
+
+pub below-wider : (a b : ℕ) (xs : List ℕ) → a ≤ b → Below a xs → Below b xs
+below-wider a b xs h f i l = omega (arith, f i l)
