@@ -84,7 +84,7 @@ cast-open-columns c = search needs
 
 open-columns-requires : tie.Need-open-columns-requires
 open-columns-requires c κs = let k = c .before .before .before .before .before .before .before .before .before .before in let s = start k in
-    ready-by (s .args .p) _ _ (s .args .marks .now) (s .args .work .now) (meant k) (s .pre .ready)
+    ready-by (s .args .q .p) _ _ (s .args .marks .now) (s .args .work .now) (meant k) (s .pre .ready)
 
 same-length : tie.Need-same-length
 same-length c = search needs
@@ -94,7 +94,7 @@ same-length-2 c = search needs
 
 returns : tie.Need-returns
 returns c = let k = c .before .before .before .before .before .before .before .before .before .before .before .before .before .before .before in let s = start k in let j = c .before .before .before .before in
-    columns-of (s .args .p) _ _ (length (s .args .marks .now)) _ _ (meant k) (j .open-columns .kept .1 .1 .1 .1 .1 .1 .1 .1 .1 .1 .0) (j .open-columns .ensures)
+    columns-of (s .args .q .p) _ _ (length (s .args .marks .now)) _ _ (meant k) (j .open-columns .kept .1 .1 .1 .1 .1 .1 .1 .1 .1 .1 .0) (j .open-columns .ensures)
 
 pub open-columns-of-parts-spec : {M : Type 1} → statement M
 open-columns-of-parts-spec =
