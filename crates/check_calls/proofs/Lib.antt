@@ -1,2 +1,3 @@
 pub mod Tested
 pub mod Stored
+pub mod Outcomes

@@ -8,6 +8,7 @@ use borrow.Author.Tests.{not-true, not-false}
 use Rattle.lists.specs.declared.Outcome.{Outcome}
 use Rattle.sparse.specs.Matrix.{Compressed, compressed}
 use Rattle.check_calls.specs.Calls.{checkCertificateOf}
+use Rattle.check_calls.proofs.Outcomes.{checks}
 use Rattle.answer_calls.specs.Calls.{questionLengths}
 use Rattle.answer_calls.proofs.Lengths.{lengths-are}
 use Rattle.answer_calls.proofs.Ways.{wrong-lengths, check-refused, question-tested}
@@ -40,10 +41,9 @@ same-length c = c .before .before .clear-row .kept .0
 
 returns : tie.Need-returns
 returns c = let t = c .before .before .before .before in let s = start (t .before) in
-    record {
-      outcome = wrong-lengths (check s) (s .args .q .p) (s .args .n) (s .args .m) (s .args .y .now) (s .args .xlen) (s .args .zlen) (short t);
-      cleared = c .before .before .clear-row .ensures;
-    }
+    checks _ _ _ _
+    (wrong-lengths (check s) (s .args .q .p) (s .args .n) (s .args .m) (s .args .y .now) (s .args .xlen) (s .args .zlen) (short t))
+    (c .before .before .clear-row .ensures)
 
 check-bytes-requires : tie.Need-check-bytes-requires
 check-bytes-requires c κs = search needs
@@ -59,10 +59,9 @@ same-length-2 c = c .before .before .before .before .check-bytes .kept .1 .1 .1 
 
 returns-2 : tie.Need-returns-2
 returns-2 c = let k = c .before .before .before .before in let e = k .before .before in let s = start (e .before) in
-    record {
-      outcome = check-refused (check s) (s .args .q .p) (s .args .n) (s .args .m) (s .args .y .now) (s .args .xlen) (s .args .zlen) (long e) (k .check-bytes .result) (k .check-bytes .ensures .outcome) _ _ (c .enum-told2 .given .1);
-      cleared = k .check-bytes .ensures .cleared;
-    }
+    checks _ _ _ _
+    (check-refused (check s) (s .args .q .p) (s .args .n) (s .args .m) (s .args .y .now) (s .args .xlen) (s .args .zlen) (long e) (k .check-bytes .result) (k .check-bytes .ensures .outcome) _ _ (c .enum-told2 .given .1))
+    (k .check-bytes .ensures .cleared)
 
 question-ok-requires : tie.Need-question-ok-requires
 question-ok-requires c κs = let e = c .before .before .before .before .before .before in let s = start (e .before) in
@@ -73,10 +72,9 @@ same-length-3 c = c .before .before .before .before .before .check-bytes .kept .
 
 returns-3 : tie.Need-returns-3
 returns-3 c = let t = c .before in let k = t .before .before .before .before in let e = k .before .before in let s = start (e .before) in
-    record {
-      outcome = question-tested (check s) (s .args .q .p) (s .args .n) (s .args .m) (s .args .y .now) (s .args .xlen) (s .args .zlen) (long e) (k .check-bytes .result) (k .check-bytes .ensures .outcome) (t .enum-told .given .1) (c .question-ok .result) (c .question-ok .ensures);
-      cleared = k .check-bytes .ensures .cleared;
-    }
+    checks _ _ _ _
+    (question-tested (check s) (s .args .q .p) (s .args .n) (s .args .m) (s .args .y .now) (s .args .xlen) (s .args .zlen) (long e) (k .check-bytes .result) (k .check-bytes .ensures .outcome) (t .enum-told .given .1) (c .question-ok .result) (c .question-ok .ensures))
+    (k .check-bytes .ensures .cleared)
 
 pub asked-of-certificate-spec : {M : Type 1} → statement M
 asked-of-certificate-spec =

@@ -17,6 +17,7 @@ use Rattle.certificate.proofs.Views.{header-fits, set-of-parts, part}
 use Rattle.call_tests.specs.Limits.{workLength}
 use Rattle.call_tests.proofs.Lists.{viewed-lists}
 use Rattle.check_calls.specs.Calls.{certificateOutcome, checkCertificateOf}
+use Rattle.check_calls.proofs.Outcomes.{checks}
 use Rattle.check_calls.proofs.Tested.{GoodPlan, checkable, checkable-as, certificate-good}
 use borrow.Author.Needs.{needs}
 use Rattle.check_calls.proofs.from_certificate.check_bytes.Statement.{statement}
@@ -66,10 +67,9 @@ same-length c = c .before .before .before .before .before .clear-row .kept .0
 returns : tie.Need-returns
 unfolding checkCertificateOf
 returns c = let o = c .before .before in let s = start o in
-    record {
-      outcome = refused (o .certificate-outcome .result) (certificateOutcome (s .args .q .p) (s .args .n) (s .args .m) (plan s) (s .args .cert .now) (length (s .args .work .now))) (judge (s .args .q .p) (s .args .n) (s .args .m) (plan s) (setOfCertificate (s .args .n) (s .args .m) (s .args .cert .now))) _ _ (c .enum-told2 .given .1) (tested o);
-      cleared = o .before .before .before .clear-row .ensures;
-    }
+    checks _ _ _ _
+    (refused (o .certificate-outcome .result) (certificateOutcome (s .args .q .p) (s .args .n) (s .args .m) (plan s) (s .args .cert .now) (length (s .args .work .now))) (judge (s .args .q .p) (s .args .n) (s .args .m) (plan s) (setOfCertificate (s .args .n) (s .args .m) (s .args .cert .now))) _ _ (c .enum-told2 .given .1) (tested o))
+    (o .before .before .before .clear-row .ensures)
 
 places-in-requires : tie.Need-places-in-requires
 places-in-requires c κs = let s = start (c .before .before) in headed (s .args .q .p) (s .args .n) (s .args .m) (s .args .cert .now) (good c .1) .long
@@ -166,13 +166,11 @@ same-length-2 c = let k = c .before .before in ap length (k .check .ensures .1) 
 returns-2 : tie.Need-returns-2
 unfolding checkCertificateOf
 returns-2 c = let k = c .before .before in let u = k .before .before .before .before .before .before .before .before .before .before .before .before in let t = u .before .before in let o = t .before .before in let s = start o in
-    record {
-      outcome =
-          passed (o .certificate-outcome .result) (certificateOutcome (s .args .q .p) (s .args .n) (s .args .m) (plan s) (s .args .cert .now) (length (s .args .work .now))) (judge (s .args .q .p) (s .args .n) (s .args .m) (plan s) (setOfCertificate (s .args .n) (s .args .m) (s .args .cert .now))) (k .check .result) (t .enum-told .given .1) (tested o)
-          (k .check .ensures .0
-          ∙ (λ j. judge (s .args .q .p) (s .args .n) (s .args .m) (viewed-lists (s .args .ss .now) (s .args .cols .now) (s .args .vals .now) j) (meant u j)));
-      cleared = k .check .ensures .1 ∙ o .before .before .before .clear-row .ensures;
-    }
+    checks _ _ _ _
+    (passed (o .certificate-outcome .result) (certificateOutcome (s .args .q .p) (s .args .n) (s .args .m) (plan s) (s .args .cert .now) (length (s .args .work .now))) (judge (s .args .q .p) (s .args .n) (s .args .m) (plan s) (setOfCertificate (s .args .n) (s .args .m) (s .args .cert .now))) (k .check .result) (t .enum-told .given .1) (tested o)
+    (k .check .ensures .0
+    ∙ (λ j. judge (s .args .q .p) (s .args .n) (s .args .m) (viewed-lists (s .args .ss .now) (s .args .cols .now) (s .args .vals .now) j) (meant u j))))
+    (k .check .ensures .1 ∙ o .before .before .before .clear-row .ensures)
 
 pub check-bytes-spec : {M : Type 1} → statement M
 check-bytes-spec =

@@ -9,6 +9,7 @@ use Rattle.sparse.specs.Set.{Set, setOf}
 use Rattle.pluq.specs.Judge.{judge}
 use Rattle.checker.specs.Needs.{Checkable}
 use Rattle.check_calls.specs.Calls.{factorsOutcome, checkFactorsOf}
+use Rattle.check_calls.proofs.Outcomes.{checks}
 use Rattle.check_calls.proofs.Tested.{checkable, factors-good}
 use Rattle.check_calls.proofs.Stored.{from-lists, by-lists}
 use borrow.Author.Needs.{needs}
@@ -49,10 +50,9 @@ same-length c = c .before .before .before .before .before .clear-row .kept .0
 returns : tie.Need-returns
 unfolding checkFactorsOf
 returns c = let o = c .before .before in let s = start o in
-    record {
-      outcome = refused (o .factors-outcome .result) (factorsOutcome (s .args .q .p) (s .args .n) (s .args .m) (plan s) (set s) (length (s .args .work .now))) (judge (s .args .q .p) (s .args .n) (s .args .m) (plan s) (set s)) _ _ (c .enum-told2 .given .1) (tested o);
-      cleared = o .before .before .before .clear-row .ensures;
-    }
+    checks _ _ _ _
+    (refused (o .factors-outcome .result) (factorsOutcome (s .args .q .p) (s .args .n) (s .args .m) (plan s) (set s) (length (s .args .work .now))) (judge (s .args .q .p) (s .args .n) (s .args .m) (plan s) (set s)) _ _ (c .enum-told2 .given .1) (tested o))
+    (o .before .before .before .clear-row .ensures)
 
 slice-aggregate-none : tie.Need-slice-aggregate-none
 slice-aggregate-none c = search needs
@@ -69,12 +69,10 @@ same-length-2 c = let k = c .before .before in ap length (k .check .ensures .1) 
 returns-2 : tie.Need-returns-2
 unfolding checkFactorsOf
 returns-2 c = let k = c .before .before in let t = k .before .before .before in let o = t .before .before in let s = start o in
-    record {
-      outcome =
-          passed (o .factors-outcome .result) (factorsOutcome (s .args .q .p) (s .args .n) (s .args .m) (plan s) (set s) (length (s .args .work .now))) (judge (s .args .q .p) (s .args .n) (s .args .m) (plan s) (set s)) (k .check .result) (t .enum-told .given .1) (tested o)
-          (k .check .ensures .0 ∙ by-lists (judge (s .args .q .p) (s .args .n) (s .args .m)) (s .args .ss .now) (s .args .cols .now) (s .args .vals .now) (s .args .r) (s .args .ro .now) (s .args .co .now) (s .args .ls .now) (s .args .lc .now) (s .args .lv .now) (s .args .us .now) (s .args .uc .now) (s .args .uv .now));
-      cleared = k .check .ensures .1 ∙ o .before .before .before .clear-row .ensures;
-    }
+    checks _ _ _ _
+    (passed (o .factors-outcome .result) (factorsOutcome (s .args .q .p) (s .args .n) (s .args .m) (plan s) (set s) (length (s .args .work .now))) (judge (s .args .q .p) (s .args .n) (s .args .m) (plan s) (set s)) (k .check .result) (t .enum-told .given .1) (tested o)
+    (k .check .ensures .0 ∙ by-lists (judge (s .args .q .p) (s .args .n) (s .args .m)) (s .args .ss .now) (s .args .cols .now) (s .args .vals .now) (s .args .r) (s .args .ro .now) (s .args .co .now) (s .args .ls .now) (s .args .lc .now) (s .args .lv .now) (s .args .us .now) (s .args .uc .now) (s .args .uv .now)))
+    (k .check .ensures .1 ∙ o .before .before .before .clear-row .ensures)
 
 pub check-stored-spec : {M : Type 1} → statement M
 check-stored-spec =

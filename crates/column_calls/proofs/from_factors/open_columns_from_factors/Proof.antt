@@ -38,10 +38,10 @@ clear-row-requires : tie.Need-clear-row-requires
 clear-row-requires c κs = search needs
 
 same-length : tie.Need-same-length
-same-length c = search needs
+same-length c = c .before .before .before .before .before .before .clear .kept .0
 
 same-length-2 : tie.Need-same-length-2
-same-length-2 c = search needs
+same-length-2 c = c .before .before .clear-row .kept .0
 
 returns : tie.Need-returns
 unfolding openFactorsOf
@@ -60,10 +60,10 @@ clear-requires-2 : tie.Need-clear-requires-2
 clear-requires-2 c κs = search needs
 
 same-length-3 : tie.Need-same-length-3
-same-length-3 c = search needs
+same-length-3 c = c .before .before .clear2 .kept .0
 
 same-length-4 : tie.Need-same-length-4
-same-length-4 c = search needs
+same-length-4 c = c .before .before .before .before .before .before .before .before .check-stored .kept .1 .1 .1 .1 .1 .1 .1 .1 .1 .1 .1 .1 .1 .1 .1 .0
 
 returns-2 : tie.Need-returns-2
 unfolding openFactorsOf
@@ -88,10 +88,10 @@ open-columns-requires c κs = let t = c .before .before .before .before .before 
     (columns-ready (s .args .p) (s .args .n) (s .args .m) (plan s) (set s) (s .args .marks .now) _ (length (s .args .work .now)) (e .if1 .left) (factors-checked (s .args .p) (s .args .n) (s .args .m) (plan s) (length (s .args .work .now)) (set s) (passed t)) (k .check-stored .ensures .cleared))
 
 same-length-5 : tie.Need-same-length-5
-same-length-5 c = search needs
+same-length-5 c = c .before .before .before .before .open-columns .kept .1 .1 .1 .1 .1 .1 .1 .1 .1 .1 .0
 
 same-length-6 : tie.Need-same-length-6
-same-length-6 c = search needs
+same-length-6 c = c .before .before .before .before .open-columns .kept .1 .1 .1 .1 .1 .1 .1 .1 .1 .1 .1 .0 ∙ c .before .before .before .before .before .before .before .before .before .before .before .before .before .before .before .check-stored .kept .1 .1 .1 .1 .1 .1 .1 .1 .1 .1 .1 .1 .1 .1 .1 .0
 
 returns-3 : tie.Need-returns-3
 unfolding openFactorsOf
