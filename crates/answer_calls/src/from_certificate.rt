@@ -14,7 +14,7 @@ use answers::answer::answer;
 use answers::question::question_ok;
 use certificate::parts::number;
 use certificate::parts::places_in;
-use check_calls::check_certificate;
+use check_calls::from_certificate::check_bytes;
 use lists::Outcome;
 use lists::clear;
 use lists::clear_row;
@@ -23,7 +23,7 @@ use row_space::Verdict;
 
 // The tests of a call with a certificate: 9, 1, 2, 8, 10, 11 to 14, 15. The working row is left all zero.
 fn asked_of_certificate(
-    p: u32,
+    q: Modulus,
     n: u32,
     m: u32,
     ss: &[u32],
@@ -35,22 +35,22 @@ fn asked_of_certificate(
     zlen: usize,
     work: &mut [u64],
 ) -> Outcome
-    ensures { λ o. ⌜ Checks (questionAfter (checkCertificateOf p n m (compressed (now (ss .entry)) (now (cols .entry)) (now (vals .entry))) (now (cert .entry)) (length (now (work .entry)))) p n m (now (y .entry)) xlen zlen) o (now (work .entry)) (now (work .exit)) ⌝ }
+    ensures { λ o. ⌜ Checks (questionAfter (checkCertificateOf (q .p) n m (compressed (now (ss .entry)) (now (cols .entry)) (now (vals .entry))) (now (cert .entry)) (length (now (work .entry)))) (q .p) n m (now (y .entry)) xlen zlen) o (now (work .entry)) (now (work .exit)) ⌝ }
 {
     if !question_lengths(n, m, y, xlen, zlen) {
         clear_row(work);
         return Outcome::Refused(9, 0);
     }
-    let checked = check_certificate(p, n, m, ss, cols, vals, cert, work);
+    let checked = check_bytes(q, n, m, ss, cols, vals, cert, work);
     let Outcome::Passed = checked else {
         return checked;
     };
-    question_ok(y, p)
+    question_ok(y, q.p)
 }
 
 // The answer from a certificate that passed: its parts are read where they stand.
 fn answer_parts(
-    p: u32,
+    q: Modulus,
     n: u32,
     m: u32,
     cert: &[u8],
@@ -59,10 +59,9 @@ fn answer_parts(
     z: &mut [u32],
     work: &mut [u64],
 ) -> Verdict
-    requires { ⌜ PartsReady p n m (now cert) (now y) (now x) (now z) (now work) ⌝ }
-    ensures { λ v. ⌜ Answered (solve p (length (now (x .entry))) (length (now (z .entry))) (setOfCertificate n m (now (cert .entry))) (vector (now (y .entry)))) v (now (x .exit)) (now (z .exit)) (now (work .exit)) ⌝ }
+    requires { ⌜ PartsReady (q .p) n m (now cert) (now y) (now x) (now z) (now work) ⌝ }
+    ensures { λ v. ⌜ Answered (solve (q .p) (length (now (x .entry))) (length (now (z .entry))) (setOfCertificate n m (now (cert .entry))) (vector (now (y .entry)))) v (now (x .exit)) (now (z .exit)) (now (work .exit)) ⌝ }
 {
-    let q = Modulus { p };
     let places = places_in(cert, n, m);
     let r = number(cert, 3);
     let a = places.rows;
@@ -121,12 +120,13 @@ pub fn answer_from_certificate(
 ) -> Answer
     ensures { λ a. ⌜ Answers (answerCertificateOf p n m (compressed (now (ss .entry)) (now (cols .entry)) (now (vals .entry))) (now (cert .entry)) (now (y .entry)) (length (now (x .entry))) (length (now (z .entry))) (length (now (work .entry)))) a (now (x .entry)) (now (x .exit)) (now (z .entry)) (now (z .exit)) (now (work .entry)) (now (work .exit)) ⌝ }
 {
-    let asked = asked_of_certificate(p, n, m, ss, cols, vals, cert, y, x.len(), z.len(), work);
+    let q = Modulus { p };
+    let asked = asked_of_certificate(q, n, m, ss, cols, vals, cert, y, x.len(), z.len(), work);
     if let Outcome::Refused(number, detail) = asked {
         clear(x);
         clear(z);
         return Answer::Refused(number, detail);
     }
-    let verdict = answer_parts(p, n, m, cert, y, x, z, work);
+    let verdict = answer_parts(q, n, m, cert, y, x, z, work);
     answer_of(verdict)
 }

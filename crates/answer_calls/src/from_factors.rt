@@ -12,7 +12,7 @@ use crate::answer_of;
 use crate::question::question_lengths;
 use answers::answer::answer;
 use answers::question::question_ok;
-use check_calls::check_factors;
+use check_calls::from_factors::check_stored;
 use lists::Outcome;
 use lists::clear;
 use lists::clear_row;
@@ -21,7 +21,7 @@ use row_space::Verdict;
 
 // The tests of a call with stored factors: 9, 1, 2, 8, 11 to 14, 15. The working row is left all zero.
 fn asked_of_factors(
-    p: u32,
+    q: Modulus,
     n: u32,
     m: u32,
     ss: &[u32],
@@ -41,14 +41,14 @@ fn asked_of_factors(
     zlen: usize,
     work: &mut [u64],
 ) -> Outcome
-    ensures { λ o. ⌜ Checks (questionAfter (checkFactorsOf p n m (compressed (now (ss .entry)) (now (cols .entry)) (now (vals .entry))) (setOf r (now (ro .entry)) (now (co .entry)) (compressed (now (ls .entry)) (now (lc .entry)) (now (lv .entry))) (compressed (now (us .entry)) (now (uc .entry)) (now (uv .entry)))) (length (now (work .entry)))) p n m (now (y .entry)) xlen zlen) o (now (work .entry)) (now (work .exit)) ⌝ }
+    ensures { λ o. ⌜ Checks (questionAfter (checkFactorsOf (q .p) n m (compressed (now (ss .entry)) (now (cols .entry)) (now (vals .entry))) (setOf r (now (ro .entry)) (now (co .entry)) (compressed (now (ls .entry)) (now (lc .entry)) (now (lv .entry))) (compressed (now (us .entry)) (now (uc .entry)) (now (uv .entry)))) (length (now (work .entry)))) (q .p) n m (now (y .entry)) xlen zlen) o (now (work .entry)) (now (work .exit)) ⌝ }
 {
     if !question_lengths(n, m, y, xlen, zlen) {
         clear_row(work);
         return Outcome::Refused(9, 0);
     }
-    let checked = check_factors(
-        p,
+    let checked = check_stored(
+        q,
         n,
         m,
         ss,
@@ -68,12 +68,12 @@ fn asked_of_factors(
     let Outcome::Passed = checked else {
         return checked;
     };
-    question_ok(y, p)
+    question_ok(y, q.p)
 }
 
 // The answer from stored factors that passed.
 fn answer_stored(
-    p: u32,
+    q: Modulus,
     r: u32,
     ro: &[u32],
     co: &[u32],
@@ -88,10 +88,9 @@ fn answer_stored(
     z: &mut [u32],
     work: &mut [u64],
 ) -> Verdict
-    requires { ⌜ AnswerReady p (setOf r (now ro) (now co) (compressed (now ls) (now lc) (now lv)) (compressed (now us) (now uc) (now uv))) (now y) (now x) (now z) (now work) ⌝ }
-    ensures { λ v. ⌜ Answered (solve p (length (now (x .entry))) (length (now (z .entry))) (setOf r (now (ro .entry)) (now (co .entry)) (compressed (now (ls .entry)) (now (lc .entry)) (now (lv .entry))) (compressed (now (us .entry)) (now (uc .entry)) (now (uv .entry)))) (vector (now (y .entry)))) v (now (x .exit)) (now (z .exit)) (now (work .exit)) ⌝ }
+    requires { ⌜ AnswerReady (q .p) (setOf r (now ro) (now co) (compressed (now ls) (now lc) (now lv)) (compressed (now us) (now uc) (now uv))) (now y) (now x) (now z) (now work) ⌝ }
+    ensures { λ v. ⌜ Answered (solve (q .p) (length (now (x .entry))) (length (now (z .entry))) (setOf r (now (ro .entry)) (now (co .entry)) (compressed (now (ls .entry)) (now (lc .entry)) (now (lv .entry))) (compressed (now (us .entry)) (now (uc .entry)) (now (uv .entry)))) (vector (now (y .entry)))) v (now (x .exit)) (now (z .exit)) (now (work .exit)) ⌝ }
 {
-    let q = Modulus { p };
     let none: &[u8] = b"";
     answer(
         q,
@@ -148,8 +147,9 @@ pub fn answer_from_factors(
 ) -> Answer
     ensures { λ a. ⌜ Answers (answerFactorsOf p n m (compressed (now (ss .entry)) (now (cols .entry)) (now (vals .entry))) (setOf r (now (ro .entry)) (now (co .entry)) (compressed (now (ls .entry)) (now (lc .entry)) (now (lv .entry))) (compressed (now (us .entry)) (now (uc .entry)) (now (uv .entry)))) (now (y .entry)) (length (now (x .entry))) (length (now (z .entry))) (length (now (work .entry)))) a (now (x .entry)) (now (x .exit)) (now (z .entry)) (now (z .exit)) (now (work .entry)) (now (work .exit)) ⌝ }
 {
+    let q = Modulus { p };
     let asked = asked_of_factors(
-        p,
+        q,
         n,
         m,
         ss,
@@ -174,6 +174,6 @@ pub fn answer_from_factors(
         clear(z);
         return Answer::Refused(number, detail);
     }
-    let verdict = answer_stored(p, r, ro, co, ls, lc, lv, us, uc, uv, y, x, z, work);
+    let verdict = answer_stored(q, r, ro, co, ls, lc, lv, us, uc, uv, y, x, z, work);
     answer_of(verdict)
 }

@@ -19,6 +19,7 @@ use Rattle.algebra.proofs.Dot.{δ-same, δ-other}
 use Rattle.sparse.specs.Row.{Below}
 use Rattle.sparse.specs.Matrix.{Compressed, matrix}
 use Rattle.sparse.specs.Set.{Set}
+use Rattle.sparse.proofs.Subtraction.{below-set}
 use Rattle.row_space.specs.Substitution.{backL, backU}
 use Rattle.row_space.specs.Solve.{coefficients, lowest, opened, closed, solve}
 use Rattle.row_space.specs.Ready.{residues, LowerOrder, UpperReady}
@@ -160,7 +161,15 @@ module _ (p r j : ℕ) (U : Compressed) (C z₀ z₁ : List ℕ) (d : ClosedRead
   long-z = length-set z₁ j 1 ∙ ap length clear ∙ length-zeros (length z₀)
 
   pub closed-ready : UpperReady p r U C (set z₁ j 1)
-  closed-ready = record { positive = d .positive; formed = rw long-z (d .formed); rows = d .rows; order = d .order; places = rw long-z (d .places) }
+  closed-ready =
+      record {
+        positive = omega (arith, d .prime .two);
+        formed = rw long-z (d .formed);
+        rows = d .rows;
+        order = d .order;
+        places = rw long-z (d .places);
+        small = below-set p z₁ j 1 (λ i h. omega (arith, d .prime .two, ap (λ (l : List ℕ). getD l i 0) clear ∙ zeros-at (length z₀) i)) (d .prime .two);
+      }
 
   pub closed-done : (z₂ : List ℕ) → z₂ ≡ tabulate (length (set z₁ j 1)) (backU p (length (set z₁ j 1)) (vector C) (matrix U) r (vector (set z₁ j 1)))
       → z₂ ≡ tabulate (length z₀) (backU p (length z₀) (vector C) (matrix U) r (δ j))

@@ -68,7 +68,7 @@ module _ (p : ℕ) (s : Set) (y x₀ z₀ w₀ : List ℕ) (d : AnswerReady p s 
     pub answer-closes : j < length z₀ → ClosedReady p (s .r) j (s .U) (s .C) z₁
     answer-closes h =
         record {
-          positive = pos;
+          prime = d .set .prime;
           formed = rw long-z (d .set .U-form);
           rows = omega (arith, d .set .long-U);
           order = omega (arith, d .set .rank-columns, d .set .long-C);

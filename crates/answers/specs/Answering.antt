@@ -39,7 +39,7 @@ pub record Opened (xs x z w : List ℕ) : Type 0 where
   pub row : w ≡ zeros (length w)
 
 pub record ClosedReady (p r j : ℕ) (U : Compressed) (C z : List ℕ) : Type 0 where
-  pub positive : 0 < p
+  pub prime : Prime p
   pub formed : form p (length z) U ≡ true
   pub rows : r < length (U .starts)
   pub order : r ≤ length C

@@ -1,4 +1,5 @@
 pub mod Tested
 pub mod Stored
+pub mod Outcomes
 pub mod Numbers
 pub mod Theorems

@@ -3,7 +3,7 @@
 --   certificateOutcome ..    the lengths, the plan and the header of a call with a certificate
 --   checkFactorsOf ..        the check of stored factors
 --   checkCertificateOf ..    the check of a certificate
---   Checks o r w₀ w          the contract of a check: its result, and the working row left all zero
+--   Checks o r w₀ w          the contract of a check: its result, with document 01's number and detail, and the working row left all zero
 use Prim.Native.Nat.{ℕ}
 use mathlib.Core.Path.{_≡_}
 use mathlib.Core.Bool.{_&&_}
@@ -12,7 +12,7 @@ use lib.Dec.{eqb}
 use lib.ListN.{length}
 use Rattle.lists.specs.Filled.{zeros}
 use Rattle.lists.specs.Table.{badHeader}
-use Rattle.lists.specs.Refusals.{_▷_, unless}
+use Rattle.lists.specs.Refusals.{_▷_, unless, numberOf, detailOf}
 use Rattle.lists.specs.declared.Outcome.{Outcome}
 use Rattle.sparse.specs.Matrix.{Compressed}
 use Rattle.sparse.specs.Set.{Set}
@@ -35,4 +35,6 @@ checkCertificateOf p n m A cert w = certificateOutcome p n m A cert w ▷ judge 
 
 pub record Checks (o r : Outcome) (w₀ w : List ℕ) : Type 0 where
   pub outcome : r ≡ o
+  pub number : numberOf r ≡ numberOf o
+  pub detail : detailOf r ≡ detailOf o
   pub cleared : w ≡ zeros (length w₀)

@@ -7,6 +7,7 @@ use lib.Dec.{eqb}
 use lib.ListN.{length}
 use borrow.Author.Tests.{eq-eqb, ne-eqb}
 use Rattle.lists.specs.Filled.{zeros, filled}
+use Rattle.lists.specs.Refusals.{numberOf, detailOf}
 use Rattle.lists.specs.declared.Outcome.{Outcome}
 use Rattle.lists.specs.declared.Outcome.the-variants.{Passed, Refused}
 use Rattle.lists.proofs.Filled.{length-zeros, filled-none, filled-whole}
@@ -18,7 +19,7 @@ use Rattle.columns.specs.Opening.{FactorReady, Columns, ColumnsReady, AllColumn
 use Rattle.columns.proofs.AllColumns.{set-factor}
 use Rattle.check_calls.specs.Calls.{Checks}
 use Rattle.answer_calls.proofs.Checked.{Checked, checked-ready}
-use Rattle.column_calls.specs.Calls.{columnsAfter, listed, Lists}
+use Rattle.column_calls.specs.Calls.{columnsAfter, Listed, listed, Lists}
 
 -- what the open columns need
 pub columns-ready : (p n m : ℕ) (A : Compressed) (s : Set) (l w : List ℕ) (width : ℕ) → length l ≡ m → Checked p n m A s width → w ≡ zeros width
@@ -39,24 +40,23 @@ ready-by p s s′ l w e h = subst (λ (t : Set). ColumnsReady p (t .r) (t .U) (t
 pub columns-of : (p : ℕ) (s s′ : Set) (b : ℕ) (l w : List ℕ) → s ≡ s′ → length l ≡ b → AllColumns p (s .r) (s .C) (s .U) l w → Columns (openColumns p b s′) l w
 columns-of p s s′ b l w e long a = record { list = a .list (s .R) (s .L) ∙ (λ j. openColumns p (long j) (e j)); row = a .row }
 
+-- the number and the detail follow from the outcome
+leaves : (g : Listed) (r : Outcome) (l₀ l w₀ w : List ℕ) → r ≡ g .outcome → l ≡ filled (length l₀) (g .list) → w ≡ zeros (length w₀) → Lists g r l₀ l w₀ w
+leaves g r l₀ l w₀ w e el ew = record { outcome = e; number = ap numberOf e; detail = ap detailOf e; list-is = el; cleared = ew }
+
 module _ (after : Outcome) (cells l₀ l w₀ w : List ℕ) where
   -- a refusal leaves the list all zero
   refused-leaves : (o : Outcome) (k d : ℕ) → o ≡ Refused k d → o ≡ after → l ≡ zeros (length l₀) → w ≡ zeros (length w₀) → Lists (listed after cells) o l₀ l w₀ w
   refused-leaves o k d f e el ew =
       let same : Refused k d ≡ after = sym f ∙ e in
-      record {
-        outcome = f ∙ ap (λ (u : Outcome). listed u cells .outcome) same;
-        list-is = el ∙ sym (filled-none (length l₀)) ∙ ap (λ (u : Outcome). filled (length l₀) (listed u cells .list)) same;
-        cleared = ew;
-      }
+      leaves (listed after cells) o l₀ l w₀ w (f ∙ ap (λ (u : Outcome). listed u cells .outcome) same)
+      (el ∙ sym (filled-none (length l₀)) ∙ ap (λ (u : Outcome). filled (length l₀) (listed u cells .list)) same) ew
 
   passed-leaves : Passed ≡ after → length l ≡ length l₀ → length w ≡ length w₀ → Columns cells l w → Lists (listed after cells) Passed l₀ l w₀ w
   passed-leaves e ll lw a =
-      record {
-        outcome = ap (λ (u : Outcome). listed u cells .outcome) e;
-        list-is = sym (filled-whole (length l₀) l ll) ∙ ap (filled (length l₀)) (a .list) ∙ ap (λ (u : Outcome). filled (length l₀) (listed u cells .list)) e;
-        cleared = a .row ∙ ap zeros lw;
-      }
+      leaves (listed after cells) Passed l₀ l w₀ w (ap (λ (u : Outcome). listed u cells .outcome) e)
+      (sym (filled-whole (length l₀) l ll) ∙ ap (filled (length l₀)) (a .list) ∙ ap (λ (u : Outcome). filled (length l₀) (listed u cells .list)) e)
+      (a .row ∙ ap zeros lw)
 
 module _ (check : Outcome) (p m : ℕ) (s : Set) (l₀ w₀ : List ℕ) where
   abbrev after : Outcome

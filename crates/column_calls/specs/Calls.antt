@@ -5,7 +5,8 @@
 --   openFactorsOf ..           the open columns from stored factors
 --   openCertificateOf ..       the open columns from a certificate
 --   PartsReady ..              what the open columns from the parts of a certificate need
---   Lists g r l₀ l w₀ w        the contract of such a call: its result, every cell of the list, and the working row left all zero
+--   Lists g r l₀ l w₀ w        the contract of such a call: its result, with document 01's number and detail, every cell of the list, and the
+--                              working row left all zero
 use Prim.Native.Nat.{ℕ}
 use mathlib.Core.Path.{_≡_}
 use mathlib.Core.List.{List, []}
@@ -13,7 +14,7 @@ use lib.Dec.{eqb}
 use lib.ListN.{length}
 use Rattle.lists.specs.Filled.{zeros, filled}
 use Rattle.lists.specs.Table.{wrongLength}
-use Rattle.lists.specs.Refusals.{_▷_, unless}
+use Rattle.lists.specs.Refusals.{_▷_, unless, numberOf, detailOf}
 use Rattle.lists.specs.declared.Outcome.{Outcome}
 use Rattle.lists.specs.declared.Outcome.the-variants.{Passed, Refused}
 use Rattle.sparse.specs.Matrix.{Compressed}
@@ -47,5 +48,7 @@ pub record PartsReady (p n m : ℕ) (cert l w : List ℕ) : Type 0 where
 
 pub record Lists (g : Listed) (r : Outcome) (l₀ l w₀ w : List ℕ) : Type 0 where
   pub outcome : r ≡ g .outcome
+  pub number : numberOf r ≡ numberOf (g .outcome)
+  pub detail : detailOf r ≡ detailOf (g .outcome)
   pub list-is : l ≡ filled (length l₀) (g .list)
   pub cleared : w ≡ zeros (length w₀)

@@ -7,7 +7,7 @@ ghost use Rattle.certificate.specs.Reading.{setOfCertificate};
 ghost use Rattle.column_calls.specs.Calls.{openCertificateOf, PartsReady, Lists};
 use certificate::parts::number;
 use certificate::parts::places_in;
-use check_calls::check_certificate;
+use check_calls::from_certificate::check_bytes;
 use columns::pivots::open_columns;
 use lists::Outcome;
 use lists::clear;
@@ -15,11 +15,17 @@ use lists::clear_row;
 use residue::Modulus;
 
 // The open columns from a certificate that passed: its parts are read where they stand.
-fn open_columns_of_parts(p: u32, n: u32, m: u32, cert: &[u8], marks: &mut [u32], work: &mut [u64])
-    requires { ⌜ PartsReady p n m (now cert) (now marks) (now work) ⌝ }
-    ensures { λ _. ⌜ Columns (openColumns p (length (now (marks .entry))) (setOfCertificate n m (now (cert .entry)))) (now (marks .exit)) (now (work .exit)) ⌝ }
+fn open_columns_of_parts(
+    q: Modulus,
+    n: u32,
+    m: u32,
+    cert: &[u8],
+    marks: &mut [u32],
+    work: &mut [u64],
+)
+    requires { ⌜ PartsReady (q .p) n m (now cert) (now marks) (now work) ⌝ }
+    ensures { λ _. ⌜ Columns (openColumns (q .p) (length (now (marks .entry))) (setOfCertificate n m (now (cert .entry)))) (now (marks .exit)) (now (work .exit)) ⌝ }
 {
-    let q = Modulus { p };
     let places = places_in(cert, n, m);
     let r = number(cert, 3);
     let b = places.cols;
@@ -62,16 +68,17 @@ pub fn open_columns_from_certificate(
 ) -> Outcome
     ensures { λ o. ⌜ Lists (openCertificateOf p n m (compressed (now (ss .entry)) (now (cols .entry)) (now (vals .entry))) (now (cert .entry)) (length (now (marks .entry))) (length (now (work .entry)))) o (now (marks .entry)) (now (marks .exit)) (now (work .entry)) (now (work .exit)) ⌝ }
 {
+    let q = Modulus { p };
     if marks.len() != m as usize {
         clear(marks);
         clear_row(work);
         return Outcome::Refused(9, 0);
     }
-    let checked = check_certificate(p, n, m, ss, cols, vals, cert, work);
+    let checked = check_bytes(q, n, m, ss, cols, vals, cert, work);
     let Outcome::Passed = checked else {
         clear(marks);
         return checked;
     };
-    open_columns_of_parts(p, n, m, cert, marks, work);
+    open_columns_of_parts(q, n, m, cert, marks, work);
     Outcome::Passed
 }

@@ -3,7 +3,7 @@ ghost use lib.ListN.{length};
 ghost use Rattle.sparse.specs.Matrix.{compressed};
 ghost use Rattle.sparse.specs.Set.{setOf};
 ghost use Rattle.column_calls.specs.Calls.{openFactorsOf, Lists};
-use check_calls::check_factors;
+use check_calls::from_factors::check_stored;
 use columns::pivots::open_columns;
 use lists::Outcome;
 use lists::clear;
@@ -37,13 +37,14 @@ pub fn open_columns_from_factors(
 ) -> Outcome
     ensures { λ o. ⌜ Lists (openFactorsOf p n m (compressed (now (ss .entry)) (now (cols .entry)) (now (vals .entry))) (setOf r (now (ro .entry)) (now (co .entry)) (compressed (now (ls .entry)) (now (lc .entry)) (now (lv .entry))) (compressed (now (us .entry)) (now (uc .entry)) (now (uv .entry)))) (length (now (marks .entry))) (length (now (work .entry)))) o (now (marks .entry)) (now (marks .exit)) (now (work .entry)) (now (work .exit)) ⌝ }
 {
+    let q = Modulus { p };
     if marks.len() != m as usize {
         clear(marks);
         clear_row(work);
         return Outcome::Refused(9, 0);
     }
-    let checked = check_factors(
-        p,
+    let checked = check_stored(
+        q,
         n,
         m,
         ss,
@@ -64,7 +65,6 @@ pub fn open_columns_from_factors(
         clear(marks);
         return checked;
     };
-    let q = Modulus { p };
     let k = r as usize;
     open_columns(q, co, b"", us, b"", uc, b"", uv, b"", k, marks, work);
     Outcome::Passed

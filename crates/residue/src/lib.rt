@@ -1,13 +1,11 @@
 // Arithmetic modulo p on residues, the numbers 0 to p - 1.
 ghost use mathlib.Core.Path.{_≡_};
-ghost use Prim.Native.Nat.{_<_, _%_, _^_};
-ghost use Rattle.residue.specs.Arithmetic.{addMod, subMod, mulMod, negMod, Residue, Residues};
+ghost use Prim.Native.Nat.{_<_, _%_};
+ghost use Rattle.residue.specs.Arithmetic.{addMod, mulMod, negMod, Residue, Residues};
 ghost use Rattle.residue.specs.Inverse.{invMod, Invertible};
 ghost use Rattle.residue.specs.Primality.{isPrime};
 ghost use Rattle.residue.specs.Range.{isModulus};
-ghost use Rattle.residue.specs.Signed.{residueOf, signedResidue, valueOf};
-ghost use mir.Syntax.{w32};
-ghost use mir.Val.{SFits};
+ghost use Rattle.residue.specs.Signed.{signedResidue};
 
 // The largest modulus that is accepted.
 const LARGEST_MODULUS: u32 = 65521;
@@ -38,12 +36,18 @@ impl Modulus {
         self.reduce(x)
     }
 
-    // a + b
+    // a + b: the sum is below 2 p, so p is taken away at most once and nothing is divided.
     pub fn add(self, a: u32, b: u32) -> u32
         requires { ⌜ Residues (self .p) a b ⌝ }
         ensures { λ r. ⌜ Residue (self .p) (addMod (self .p) a b) r ⌝ }
     {
-        self.reduce(a as u64 + b as u64)
+        let p = self.p as u64;
+        let sum = a as u64 + b as u64;
+        if sum < p {
+            sum as u32
+        } else {
+            (sum - p) as u32
+        }
     }
 
     // -a
@@ -53,15 +57,6 @@ impl Modulus {
     {
         let p = self.p as u64;
         self.reduce(p - a as u64)
-    }
-
-    // a - b
-    pub fn sub(self, a: u32, b: u32) -> u32
-        requires { ⌜ Residues (self .p) a b ⌝ }
-        ensures { λ r. ⌜ Residue (self .p) (subMod (self .p) a b) r ⌝ }
-    {
-        let p = self.p as u64;
-        self.reduce(a as u64 + (p - b as u64))
     }
 
     // a b
@@ -79,18 +74,6 @@ impl Modulus {
     {
         let r = self.reduce(magnitude);
         if negative { self.negate(r) } else { r }
-    }
-
-    // The residue of v.
-    pub fn residue(self, v: i64) -> u32
-        requires { ⌜ (0 < self .p) × SFits w32 v ⌝ }
-        ensures { λ r. ⌜ Residue (self .p) (residueOf (self .p) v) r ⌝ }
-    {
-        if v < 0 {
-            self.signed(true, -v as u64)
-        } else {
-            self.signed(false, v as u64)
-        }
     }
 
     // The inverse of a, by division of p: t * a = x modulo p throughout, and x falls to 1.
@@ -135,13 +118,4 @@ pub fn is_modulus(p: u32) -> bool
         return false;
     }
     is_prime(p)
-}
-
-// The number of a sign and a magnitude.
-pub fn signed_value(negative: bool, magnitude: u64) -> i64
-    requires { ⌜ magnitude < 2 ^ 63 ⌝ }
-    ensures { λ r. ⌜ r ≡ valueOf negative magnitude ⌝ }
-{
-    let m = magnitude as i64;
-    if negative { -m } else { m }
 }

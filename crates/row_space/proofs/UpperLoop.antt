@@ -2,8 +2,8 @@
 use mathlib.Core.Path.{_≡_, refl, sym, ap, _∙_}
 use mathlib.Core.Bool.{cond}
 use mathlib.Core.List.{List}
-use Prim.Native.Nat.{ℕ, zero, suc, _+_, _-_, _*_, _%_, _^_, _≤_, _<_}
-use native.Mathlib.Nat.{mod-eq-of-lt, mul-le-mul}
+use Prim.Native.Nat.{ℕ, zero, suc, _+_, _-_, _*_, _%_, _≤_, _<_}
+use native.Mathlib.Nat.{mod-eq-of-lt, mod-lt}
 use native.Mathlib.Decide.{ℕ-discrete}
 use native.Mathlib.Omega.{arith}
 use lib.Dec.{eqb}
@@ -12,20 +12,16 @@ use lib.Seq.{getD-set-same, getD-set-other}
 use Rattle.lists.specs.Tabulate.{tabulate}
 use Rattle.lists.proofs.Tabulate.{tabulated}
 use Rattle.algebra.specs.Congruence.{_≈⟨_⟩_}
+use Rattle.algebra.specs.Sum.{dot}
 use Rattle.algebra.specs.Matrix.{Vector, Matrix, vector}
 use Rattle.algebra.proofs.Congruence.{exact, _⊙_, _⊕_, same-refl, same-mod}
 use Rattle.algebra.proofs.Dot.{dot-eq}
-use Rattle.residue.specs.Arithmetic.{Residue}
-use Rattle.sparse.specs.Row.{weigh}
+use Rattle.residue.specs.Arithmetic.{addMod, mulMod, Residue}
+use Rattle.sparse.specs.Row.{weigh, Below}
 use Rattle.sparse.proofs.Entries.{weigh-step, weigh-end}
+use Rattle.sparse.proofs.Subtraction.{below-set}
 use Rattle.row_space.specs.Substitution.{put, missing, backU}
 use Rattle.row_space.proofs.Substitutions.{put-here, put-other}
-
--- a product of two 32-bit numbers and a third fit 64 bits
-pub mul-add-fits : {s a b : ℕ} → s < 2 ^ 32 → a < 2 ^ 32 → b < 2 ^ 32 → s + a * b < 2 ^ 64
-mul-add-fits {s} {a} {b} hs ha hb =
-    let h : a * b ≤ 4294967295 * 4294967295 = mul-le-mul {n₁ = a} {m₁ = b} {n₂ = 4294967295} {m₂ = 4294967295} (omega arith) (omega arith) in
-    omega arith
 
 -- ---- a sparse row times z: the first t entries are added
 
@@ -38,13 +34,13 @@ pub adding-starts : (p : ℕ) (cols vals : List ℕ) (z : Vector) → 0 < p → 
 adding-starts p cols vals z h = record { inside = omega arith; below = h; rest = exact (omega arith) }
 
 pub adding-turn : (p : ℕ) (cols vals : List ℕ) (z : Vector) (s s′ t k v : ℕ) → t < length cols → t < length vals → k ≡ getD cols t 0 → v ≡ getD vals t 0
-    → Residue p ((s + v * z k) % p) s′ → Adding p cols vals z s t → Adding p cols vals z s′ (t + 1)
-adding-turn p cols vals z s s′ t k v h g ek ev r a =
+    → (x : ℕ) → Residue p (mulMod p v (z k)) x → Residue p (addMod p s x) s′ → Adding p cols vals z s t → Adding p cols vals z s′ (t + 1)
+adding-turn p cols vals z s s′ t k v h g ek ev x m r a =
     record {
       inside = omega arith;
       below = r .below;
       rest =
-          (exact (r .value) ⊙ same-mod (s + v * z k)) ⊕ same-refl (weigh (drop (t + 1) cols) (drop (t + 1) vals) z)
+          (exact (r .value) ⊙ same-mod (s + x) ⊙ same-refl s ⊕ (exact (m .value) ⊙ same-mod (v * z k))) ⊕ same-refl (weigh (drop (t + 1) cols) (drop (t + 1) vals) z)
           ⊙ exact (omega (arith, weigh-step cols vals t k v z h g ek ev))
           ⊙ a .rest;
     }
@@ -66,10 +62,11 @@ backU-ext p m C U (suc k) z z′ h t g =
 pub record Filling (p : ℕ) (C : Vector) (U : Matrix) (r : ℕ) (z₀ z : List ℕ) (k : ℕ) : Type 0 where
   pub inside : k ≤ r
   pub long : length z ≡ length z₀
+  pub small : Below p z
   pub rest : (t : ℕ) → t < length z₀ → backU p (length z₀) C U k (vector z) t ≡ backU p (length z₀) C U r (vector z₀) t
 
-pub filling-starts : (p : ℕ) (C : Vector) (U : Matrix) (r : ℕ) (z : List ℕ) → Filling p C U r z z r
-filling-starts p C U r z = record { inside = omega arith; long = refl; rest = λ t h. refl }
+pub filling-starts : (p : ℕ) (C : Vector) (U : Matrix) (r : ℕ) (z : List ℕ) → Below p z → Filling p C U r z z r
+filling-starts p C U r z h = record { inside = omega arith; long = refl; small = h; rest = λ t h. refl }
 
 set-put : (z : List ℕ) (c v t : ℕ) → c < length z → vector (set z c v) t ≡ put (vector z) c v t
 set-put z c v t h = elim (ℕ-discrete t c) [
@@ -77,13 +74,14 @@ set-put z c v t h = elim (ℕ-discrete t c) [
   | no e ↦ getD-set-other z c t v 0 e ∙ sym (put-other (vector z) c v t e)
 ]
 
-pub filling-turn : (p : ℕ) (C : Vector) (U : Matrix) (r : ℕ) (z₀ z : List ℕ) (k v c : ℕ) → 0 < k → c ≡ C (k - 1) → c < length z
+pub filling-turn : (p : ℕ) (C : Vector) (U : Matrix) (r : ℕ) (z₀ z : List ℕ) (k v c : ℕ) → 0 < p → 0 < k → c ≡ C (k - 1) → c < length z
     → v ≡ missing p (length z) (U (k - 1)) (vector z) → Filling p C U r z₀ z k → Filling p C U r z₀ (set z c v) (k - 1)
 unfolding backU
-filling-turn p C U r z₀ z k v c h ec hc ev s =
+filling-turn p C U r z₀ z k v c pos h ec hc ev s =
     record {
       inside = omega (arith, s .inside);
       long = length-set z c v ∙ s .long;
+      small = below-set p z c v (s .small) (rw ev (mod-lt (p - dot (length z) (U (k - 1)) (vector z) % p) pos));
       rest = λ t g.
           backU-ext p (length z₀) C U (k - 1) (vector (set z c v)) (put (vector z) (C (k - 1)) (missing p (length z₀) (U (k - 1)) (vector z)))
           (λ i b. set-put z c v i hc ∙ (λ j. put (vector z) (ec j) (value j) i)) t g

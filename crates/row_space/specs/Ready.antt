@@ -5,8 +5,8 @@
 --   QuotientTaken p L k w₀ w v    v is the value of row k, and w is w₀ with v times that row taken away
 --   LowerOrder p L R w x          R gives each row of L a place in x, which is all zero
 --   Placed xs x w                 x is the list xs, and the working row is all zero
---   RowTimesReady p cs vs z       the columns cs and values vs are a row of a well-formed matrix with a column for each cell of z
---   UpperRowReady p k U z         U is well formed, with a column for each cell of z, and k is one of its rows
+--   RowTimesReady p cs vs z       the columns cs and values vs are a row of a well-formed matrix with a column for each cell of z; z has residues
+--   UpperRowReady p k U z         U is well formed, with a column for each cell of z, and k is one of its rows; z has residues
 --   UpperReady p r U C z          the same for the first r rows of U, and C gives each a place in z
 use Prim.Native.Nat.{ℕ, _+_, _*_, _%_, _≤_, _<_}
 use mathlib.Core.Path.{_≡_}
@@ -55,11 +55,13 @@ pub record Placed (xs x w : List ℕ) : Type 0 where
 pub record RowTimesReady (p : ℕ) (cols vals z : List ℕ) : Type 0 where
   pub positive : 0 < p
   pub row : Row p (length z) cols vals
+  pub small : Below p z
 
 pub record UpperRowReady (p k : ℕ) (U : Compressed) (z : List ℕ) : Type 0 where
   pub positive : 0 < p
   pub formed : form p (length z) U ≡ true
   pub inside : k + 1 < length (U .starts)
+  pub small : Below p z
 
 pub record UpperReady (p r : ℕ) (U : Compressed) (C z : List ℕ) : Type 0 where
   pub positive : 0 < p
@@ -67,3 +69,4 @@ pub record UpperReady (p r : ℕ) (U : Compressed) (C z : List ℕ) : Type 0 whe
   pub rows : r < length (U .starts)
   pub order : r ≤ length C
   pub places : Below (length z) C
+  pub small : Below p z

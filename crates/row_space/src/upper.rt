@@ -1,6 +1,6 @@
 // z by substitution through U, from its last row up.
 ghost use mathlib.Core.Path.{_≡_};
-ghost use Prim.Native.Nat.{_+_, _*_, _%_, _<_};
+ghost use Prim.Native.Nat.{_%_};
 ghost use lib.ListN.{length};
 ghost use Rattle.lists.specs.Tabulate.{tabulate};
 ghost use Rattle.algebra.specs.Matrix.{vector};
@@ -17,14 +17,6 @@ use sparse::words::count;
 use sparse::words::list_part;
 use sparse::words::word;
 
-// s + a b
-fn add_product(q: Modulus, s: u32, a: u32, b: u32) -> u32
-    requires { ⌜ 0 < q .p ⌝ }
-    ensures { λ r. ⌜ Residue (q .p) ((s + a * b) % q .p) r ⌝ }
-{
-    q.reduce(s as u64 + a as u64 * b as u64)
-}
-
 // The product of a sparse row and z.
 fn row_times(q: Modulus, cols: &[u32], cb: &[u8], vals: &[u32], vb: &[u8], z: &[u32]) -> u32
     requires { ⌜ RowTimesReady (q .p) (view (now cols) (now cb)) (view (now vals) (now vb)) (now z) ⌝ }
@@ -36,7 +28,7 @@ fn row_times(q: Modulus, cols: &[u32], cb: &[u8], vals: &[u32], vb: &[u8], z: &[
     while t < n {
         let j = index(word(cols, cb, t));
         let v = word(vals, vb, t);
-        s = add_product(q, s, v, z[j]);
+        s = q.add(s, q.multiply(v, z[j]));
         t += 1;
     }
     s

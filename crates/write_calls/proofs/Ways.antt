@@ -7,7 +7,7 @@ use native.Mathlib.Omega.{arith}
 use lib.Dec.{leb}
 use lib.ListN.{length}
 use Rattle.lists.specs.Filled.{zeros, filled}
-use Rattle.lists.specs.Refusals.{unless}
+use Rattle.lists.specs.Refusals.{unless, numberOf, detailOf}
 use Rattle.lists.specs.declared.Outcome.{Outcome}
 use Rattle.lists.specs.declared.Outcome.the-variants.{Passed, Refused}
 use Rattle.lists.proofs.Filled.{filled-none}
@@ -53,6 +53,11 @@ kept-refused o cert k d e = ap (λ (u : Outcome). kept u cert) e
 abbrev result : Outcome → ℕ → Written
 result o size = record { outcome = o; length = size }
 
+-- the number and the detail follow from the outcome
+leaves : (o : Outcome) (cert : List ℕ) (r : Written) (b₀ b w₀ w : List ℕ) → r .outcome ≡ o → r .length ≡ length (kept o cert) → b ≡ filled (length b₀) (kept o cert)
+    → w ≡ zeros (length w₀) → WritesCertificate o cert r b₀ b w₀ w
+leaves o cert r b₀ b w₀ w e size buffer cleared = record { outcome = e; number = ap numberOf e; detail = ap detailOf e; size = size; buffer = buffer; cleared = cleared }
+
 module _ (p n m : ℕ) (A : Compressed) (s : Set) (w₀ w b₀ b : List ℕ) (cleared : w ≡ zeros (length w₀)) where
   abbrev cert : List ℕ
   cert = certificateOf p n m s
@@ -67,12 +72,7 @@ module _ (p n m : ℕ) (A : Compressed) (s : Set) (w₀ w b₀ b : List ℕ) (cl
   none : (o : Outcome) (k d : ℕ) → o ≡ Refused k d → o ≡ whole → b ≡ zeros (length b₀) → WritesCertificate whole cert (result o 0) b₀ b w₀ w
   none o k d f e z =
       let nothing : kept whole cert ≡ [] = kept-refused whole cert k d (sym e ∙ f) in
-      record {
-        outcome = e;
-        size = sym (ap length nothing);
-        buffer = z ∙ sym (ap (filled (length b₀)) nothing ∙ filled-none (length b₀));
-        cleared = cleared;
-      }
+      leaves whole cert (result o 0) b₀ b w₀ w e (sym (ap length nothing)) (z ∙ sym (ap (filled (length b₀)) nothing ∙ filled-none (length b₀))) cleared
 
   pub refuses : (o : Outcome) (k d : ℕ) → o ≡ Refused k d → o ≡ check → b ≡ zeros (length b₀) → WritesCertificate whole cert (result o 0) b₀ b w₀ w
   unfolding writeOutcome
@@ -96,12 +96,7 @@ module _ (p n m : ℕ) (A : Compressed) (s : Set) (w₀ w b₀ b : List ℕ) (cl
         let room : roomFor (length b₀) cert ≡ Passed = written-passed p n m (length b₀) s (λ q. z (r .size-is ∙ q)) in
         let all : Passed ≡ whole = passed o check (roomFor (length b₀) cert) Passed f e (sym room) in
         let same : written (length b₀) cert ≡ kept whole cert = fits room ∙ ap (λ (u : Outcome). kept u cert) all in
-        record {
-          outcome = all;
-          size = r .size-is ∙ ap length same;
-          buffer = r .buffer-is ∙ ap (filled (length b₀)) same;
-          cleared = cleared;
-        }
+        leaves whole cert (result Passed size) b₀ b w₀ w all (r .size-is ∙ ap length same) (r .buffer-is ∙ ap (filled (length b₀)) same) cleared
       where
         fits : roomFor (length b₀) cert ≡ Passed → written (length b₀) cert ≡ cert
         fits q = written-fits (length b₀) cert q

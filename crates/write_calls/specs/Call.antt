@@ -1,13 +1,14 @@
 -- The call that writes a certificate: the check of the stored factors first, a buffer that is too short last.
 --   writeOutcome ..          9, 1, 2, 8, 11 to 14, then 9 for the buffer
 --   kept o cert              what the buffer is given: the certificate where the outcome is passed, else nothing
---   WritesCertificate ..     the contract: outcome and length, every byte of the buffer, and the working row left all zero
+--   WritesCertificate ..     the contract: outcome with document 01's number and detail, length, every byte of the buffer, and the working row
+--                            left all zero
 use Prim.Native.Nat.{ℕ}
 use mathlib.Core.Path.{_≡_}
 use mathlib.Core.List.{List, []}
 use lib.ListN.{length}
 use Rattle.lists.specs.Filled.{zeros, filled}
-use Rattle.lists.specs.Refusals.{_▷_}
+use Rattle.lists.specs.Refusals.{_▷_, numberOf, detailOf}
 use Rattle.lists.specs.declared.Outcome.{Outcome}
 use Rattle.lists.specs.declared.Outcome.the-variants.{Passed, Refused}
 use Rattle.sparse.specs.Matrix.{Compressed}
@@ -26,6 +27,8 @@ kept (Refused number detail) cert = []
 
 pub record WritesCertificate (o : Outcome) (cert : List ℕ) (r : Written) (b₀ b w₀ w : List ℕ) : Type 0 where
   pub outcome : r .outcome ≡ o
+  pub number : numberOf (r .outcome) ≡ numberOf o
+  pub detail : detailOf (r .outcome) ≡ detailOf o
   pub size : r .length ≡ length (kept o cert)
   pub buffer : b ≡ filled (length b₀) (kept o cert)
   pub cleared : w ≡ zeros (length w₀)

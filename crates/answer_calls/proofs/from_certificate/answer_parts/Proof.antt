@@ -112,7 +112,7 @@ cast-answer c = omega (arith, c .before .before .before .before .before .before 
 
 answer-requires : tie.Need-answer-requires
 answer-requires c κs = let k = c .before .before .before .before .before .before .before .before .before .before .before .before in let s = start k in
-    subst (λ (t : Set). AnswerReady (s .args .p) t (s .args .y .now) (s .args .x .now) (s .args .z .now) (s .args .work .now)) (sym (meant k)) (s .pre .ready)
+    subst (λ (t : Set). AnswerReady (s .args .q .p) t (s .args .y .now) (s .args .x .now) (s .args .z .now) (s .args .work .now)) (sym (meant k)) (s .pre .ready)
 
 same-length : tie.Need-same-length
 same-length c = c .before .before .before .before .before .before .answer .kept .1 .1 .1 .1 .1 .1 .1 .1 .1 .1 .1 .1 .1 .1 .1 .1 .1 .1 .1 .0
@@ -125,7 +125,7 @@ same-length-3 c = c .before .before .before .before .before .before .answer .kep
 
 returns : tie.Need-returns
 returns c = let k = c .before .before .before .before .before .before .before .before .before .before .before .before .before .before .before .before .before .before .before in let s = start k in
-    from-set (s .args .p) (length (s .args .x .now)) (length (s .args .z .now)) _ _ (s .args .y .now) _ _ _ _ (meant k) (c .before .before .before .before .before .before .answer .ensures)
+    from-set (s .args .q .p) (length (s .args .x .now)) (length (s .args .z .now)) _ _ (s .args .y .now) _ _ _ _ (meant k) (c .before .before .before .before .before .before .answer .ensures)
 
 pub answer-parts-spec : {M : Type 1} → statement M
 answer-parts-spec =

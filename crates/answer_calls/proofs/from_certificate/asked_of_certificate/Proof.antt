@@ -8,6 +8,7 @@ use borrow.Author.Tests.{not-true, not-false}
 use Rattle.lists.specs.declared.Outcome.{Outcome}
 use Rattle.sparse.specs.Matrix.{Compressed, compressed}
 use Rattle.check_calls.specs.Calls.{checkCertificateOf}
+use Rattle.check_calls.proofs.Outcomes.{checks}
 use Rattle.answer_calls.specs.Calls.{questionLengths}
 use Rattle.answer_calls.proofs.Lengths.{lengths-are}
 use Rattle.answer_calls.proofs.Ways.{wrong-lengths, check-refused, question-tested}
@@ -18,7 +19,7 @@ abbrev plan : tie.Start → Compressed
 plan s = compressed (s .args .ss .now) (s .args .cols .now) (s .args .vals .now)
 
 abbrev check : tie.Start → Outcome
-check s = checkCertificateOf (s .args .p) (s .args .n) (s .args .m) (plan s) (s .args .cert .now) (length (s .args .work .now))
+check s = checkCertificateOf (s .args .q .p) (s .args .n) (s .args .m) (plan s) (s .args .cert .now) (length (s .args .work .now))
 
 abbrev start : tie.After-question-lengths → tie.Start
 start c = c .before .before .before .before .before .before .before
@@ -40,13 +41,12 @@ same-length c = c .before .before .clear-row .kept .0
 
 returns : tie.Need-returns
 returns c = let t = c .before .before .before .before in let s = start (t .before) in
-    record {
-      outcome = wrong-lengths (check s) (s .args .p) (s .args .n) (s .args .m) (s .args .y .now) (s .args .xlen) (s .args .zlen) (short t);
-      cleared = c .before .before .clear-row .ensures;
-    }
+    checks _ _ _ _
+    (wrong-lengths (check s) (s .args .q .p) (s .args .n) (s .args .m) (s .args .y .now) (s .args .xlen) (s .args .zlen) (short t))
+    (c .before .before .clear-row .ensures)
 
-check-certificate-requires : tie.Need-check-certificate-requires
-check-certificate-requires c κs = search needs
+check-bytes-requires : tie.Need-check-bytes-requires
+check-bytes-requires c κs = search needs
 
 enum-told : tie.Need-enum-told
 enum-told c = search needs
@@ -55,28 +55,26 @@ enum-told-2 : tie.Need-enum-told-2
 enum-told-2 c = search needs
 
 same-length-2 : tie.Need-same-length-2
-same-length-2 c = c .before .before .before .before .check-certificate .kept .1 .1 .1 .1 .1 .1 .1 .0
+same-length-2 c = c .before .before .before .before .check-bytes .kept .1 .1 .1 .1 .1 .1 .1 .0
 
 returns-2 : tie.Need-returns-2
 returns-2 c = let k = c .before .before .before .before in let e = k .before .before in let s = start (e .before) in
-    record {
-      outcome = check-refused (check s) (s .args .p) (s .args .n) (s .args .m) (s .args .y .now) (s .args .xlen) (s .args .zlen) (long e) (k .check-certificate .result) (k .check-certificate .ensures .outcome) _ _ (c .enum-told2 .given .1);
-      cleared = k .check-certificate .ensures .cleared;
-    }
+    checks _ _ _ _
+    (check-refused (check s) (s .args .q .p) (s .args .n) (s .args .m) (s .args .y .now) (s .args .xlen) (s .args .zlen) (long e) (k .check-bytes .result) (k .check-bytes .ensures .outcome) _ _ (c .enum-told2 .given .1))
+    (k .check-bytes .ensures .cleared)
 
 question-ok-requires : tie.Need-question-ok-requires
 question-ok-requires c κs = let e = c .before .before .before .before .before .before in let s = start (e .before) in
     omega (arith, s .fits .m, lengths-are (s .args .n) (s .args .m) (s .args .y .now) (s .args .xlen) (s .args .zlen) (long e) .values)
 
 same-length-3 : tie.Need-same-length-3
-same-length-3 c = c .before .before .before .before .before .check-certificate .kept .1 .1 .1 .1 .1 .1 .1 .0
+same-length-3 c = c .before .before .before .before .before .check-bytes .kept .1 .1 .1 .1 .1 .1 .1 .0
 
 returns-3 : tie.Need-returns-3
 returns-3 c = let t = c .before in let k = t .before .before .before .before in let e = k .before .before in let s = start (e .before) in
-    record {
-      outcome = question-tested (check s) (s .args .p) (s .args .n) (s .args .m) (s .args .y .now) (s .args .xlen) (s .args .zlen) (long e) (k .check-certificate .result) (k .check-certificate .ensures .outcome) (t .enum-told .given .1) (c .question-ok .result) (c .question-ok .ensures);
-      cleared = k .check-certificate .ensures .cleared;
-    }
+    checks _ _ _ _
+    (question-tested (check s) (s .args .q .p) (s .args .n) (s .args .m) (s .args .y .now) (s .args .xlen) (s .args .zlen) (long e) (k .check-bytes .result) (k .check-bytes .ensures .outcome) (t .enum-told .given .1) (c .question-ok .result) (c .question-ok .ensures))
+    (k .check-bytes .ensures .cleared)
 
 pub asked-of-certificate-spec : {M : Type 1} → statement M
 asked-of-certificate-spec =
@@ -86,7 +84,7 @@ asked-of-certificate-spec =
     clear-row-requires
     same-length
     returns
-    check-certificate-requires
+    check-bytes-requires
     enum-told
     enum-told-2
     same-length-2

@@ -14,7 +14,7 @@ slice-aggregate-none c = search needs
 
 answer-requires : tie.Need-answer-requires
 answer-requires c κs = let s = c .before .before .before .before .before .before .before .before .before .before .before .before .before .before .before .before in
-    subst (λ (t : Set). AnswerReady (s .args .p) t (s .args .y .now) (s .args .x .now) (s .args .z .now) (s .args .work .now)) (sym (set-lists (s .args .r) (s .args .ro .now) (s .args .co .now) (s .args .ls .now) (s .args .lc .now) (s .args .lv .now) (s .args .us .now) (s .args .uc .now) (s .args .uv .now))) (s .pre)
+    subst (λ (t : Set). AnswerReady (s .args .q .p) t (s .args .y .now) (s .args .x .now) (s .args .z .now) (s .args .work .now)) (sym (set-lists (s .args .r) (s .args .ro .now) (s .args .co .now) (s .args .ls .now) (s .args .lc .now) (s .args .lv .now) (s .args .us .now) (s .args .uc .now) (s .args .uv .now))) (s .pre)
 
 same-length : tie.Need-same-length
 same-length c = c .before .before .before .before .before .before .answer .kept .1 .1 .1 .1 .1 .1 .1 .1 .1 .1 .1 .1 .1 .1 .1 .1 .1 .1 .1 .0
@@ -27,7 +27,7 @@ same-length-3 c = c .before .before .before .before .before .before .answer .kep
 
 returns : tie.Need-returns
 returns c = let k = c .before .before .before .before .before .before in let s = c .before .before .before .before .before .before .before .before .before .before .before .before .before .before .before .before .before .before .before .before .before .before .before in
-    from-set (s .args .p) (length (s .args .x .now)) (length (s .args .z .now)) _ _ (s .args .y .now) _ _ _ _ (set-lists (s .args .r) (s .args .ro .now) (s .args .co .now) (s .args .ls .now) (s .args .lc .now) (s .args .lv .now) (s .args .us .now) (s .args .uc .now) (s .args .uv .now)) (k .answer .ensures)
+    from-set (s .args .q .p) (length (s .args .x .now)) (length (s .args .z .now)) _ _ (s .args .y .now) _ _ _ _ (set-lists (s .args .r) (s .args .ro .now) (s .args .co .now) (s .args .ls .now) (s .args .lc .now) (s .args .lv .now) (s .args .us .now) (s .args .uc .now) (s .args .uv .now)) (k .answer .ensures)
 
 pub answer-stored-spec : {M : Type 1} → statement M
 answer-stored-spec =

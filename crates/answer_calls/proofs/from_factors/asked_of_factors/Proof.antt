@@ -9,6 +9,7 @@ use Rattle.lists.specs.declared.Outcome.{Outcome}
 use Rattle.sparse.specs.Matrix.{Compressed, compressed}
 use Rattle.sparse.specs.Set.{Set, setOf}
 use Rattle.check_calls.specs.Calls.{checkFactorsOf}
+use Rattle.check_calls.proofs.Outcomes.{checks}
 use Rattle.answer_calls.specs.Calls.{questionLengths}
 use Rattle.answer_calls.proofs.Lengths.{lengths-are}
 use Rattle.answer_calls.proofs.Ways.{wrong-lengths, check-refused, question-tested}
@@ -25,7 +26,7 @@ set s =
     (compressed (s .args .us .now) (s .args .uc .now) (s .args .uv .now))
 
 abbrev check : tie.Start → Outcome
-check s = checkFactorsOf (s .args .p) (s .args .n) (s .args .m) (plan s) (set s) (length (s .args .work .now))
+check s = checkFactorsOf (s .args .q .p) (s .args .n) (s .args .m) (plan s) (set s) (length (s .args .work .now))
 
 abbrev start : tie.After-question-lengths → tie.Start
 start c = c .before .before .before .before .before .before .before .before .before .before .before .before .before .before
@@ -47,13 +48,12 @@ same-length c = c .before .before .clear-row .kept .0
 
 returns : tie.Need-returns
 returns c = let t = c .before .before .before .before in let s = start (t .before) in
-    record {
-      outcome = wrong-lengths (check s) (s .args .p) (s .args .n) (s .args .m) (s .args .y .now) (s .args .xlen) (s .args .zlen) (short t);
-      cleared = c .before .before .clear-row .ensures;
-    }
+    checks _ _ _ _
+    (wrong-lengths (check s) (s .args .q .p) (s .args .n) (s .args .m) (s .args .y .now) (s .args .xlen) (s .args .zlen) (short t))
+    (c .before .before .clear-row .ensures)
 
-check-factors-requires : tie.Need-check-factors-requires
-check-factors-requires c κs = search needs
+check-stored-requires : tie.Need-check-stored-requires
+check-stored-requires c κs = search needs
 
 enum-told : tie.Need-enum-told
 enum-told c = search needs
@@ -62,28 +62,26 @@ enum-told-2 : tie.Need-enum-told-2
 enum-told-2 c = search needs
 
 same-length-2 : tie.Need-same-length-2
-same-length-2 c = c .before .before .before .before .check-factors .kept .1 .1 .1 .1 .1 .1 .1 .1 .1 .1 .1 .1 .1 .1 .1 .0
+same-length-2 c = c .before .before .before .before .check-stored .kept .1 .1 .1 .1 .1 .1 .1 .1 .1 .1 .1 .1 .1 .1 .1 .0
 
 returns-2 : tie.Need-returns-2
 returns-2 c = let k = c .before .before .before .before in let e = k .before .before in let s = start (e .before) in
-    record {
-      outcome = check-refused (check s) (s .args .p) (s .args .n) (s .args .m) (s .args .y .now) (s .args .xlen) (s .args .zlen) (long e) (k .check-factors .result) (k .check-factors .ensures .outcome) _ _ (c .enum-told2 .given .1);
-      cleared = k .check-factors .ensures .cleared;
-    }
+    checks _ _ _ _
+    (check-refused (check s) (s .args .q .p) (s .args .n) (s .args .m) (s .args .y .now) (s .args .xlen) (s .args .zlen) (long e) (k .check-stored .result) (k .check-stored .ensures .outcome) _ _ (c .enum-told2 .given .1))
+    (k .check-stored .ensures .cleared)
 
 question-ok-requires : tie.Need-question-ok-requires
 question-ok-requires c κs = let e = c .before .before .before .before .before .before in let s = start (e .before) in
     omega (arith, s .fits .m, lengths-are (s .args .n) (s .args .m) (s .args .y .now) (s .args .xlen) (s .args .zlen) (long e) .values)
 
 same-length-3 : tie.Need-same-length-3
-same-length-3 c = c .before .before .before .before .before .check-factors .kept .1 .1 .1 .1 .1 .1 .1 .1 .1 .1 .1 .1 .1 .1 .1 .0
+same-length-3 c = c .before .before .before .before .before .check-stored .kept .1 .1 .1 .1 .1 .1 .1 .1 .1 .1 .1 .1 .1 .1 .1 .0
 
 returns-3 : tie.Need-returns-3
 returns-3 c = let t = c .before in let k = t .before .before .before .before in let e = k .before .before in let s = start (e .before) in
-    record {
-      outcome = question-tested (check s) (s .args .p) (s .args .n) (s .args .m) (s .args .y .now) (s .args .xlen) (s .args .zlen) (long e) (k .check-factors .result) (k .check-factors .ensures .outcome) (t .enum-told .given .1) (c .question-ok .result) (c .question-ok .ensures);
-      cleared = k .check-factors .ensures .cleared;
-    }
+    checks _ _ _ _
+    (question-tested (check s) (s .args .q .p) (s .args .n) (s .args .m) (s .args .y .now) (s .args .xlen) (s .args .zlen) (long e) (k .check-stored .result) (k .check-stored .ensures .outcome) (t .enum-told .given .1) (c .question-ok .result) (c .question-ok .ensures))
+    (k .check-stored .ensures .cleared)
 
 pub asked-of-factors-spec : {M : Type 1} → statement M
 asked-of-factors-spec =
@@ -93,7 +91,7 @@ asked-of-factors-spec =
     clear-row-requires
     same-length
     returns
-    check-factors-requires
+    check-stored-requires
     enum-told
     enum-told-2
     same-length-2

@@ -35,66 +35,66 @@ slice-aggregate-open-columns : tie.Need-slice-aggregate-open-columns
 slice-aggregate-open-columns c = search needs
 
 sub-open-columns : tie.Need-sub-open-columns
-sub-open-columns c = search needs
+sub-open-columns c = c .before .before .places-in .ensures .cols
 
 part-open-columns-start : tie.Need-part-open-columns-start
-part-open-columns-start c = search needs
+part-open-columns-start c = c .before .before .places-in .ensures .cols
 
 part-open-columns-end : tie.Need-part-open-columns-end
-part-open-columns-end c = search needs
+part-open-columns-end c = let q = c .before .before .places-in .ensures in omega (arith, q .lstarts, q .lcols, q .lvals, q .ustarts, q .ucols, q .uvals, q .end)
 
 slice-aggregate-open-columns-2 : tie.Need-slice-aggregate-open-columns-2
 slice-aggregate-open-columns-2 c = search needs
 
 sub-open-columns-2 : tie.Need-sub-open-columns-2
-sub-open-columns-2 c = search needs
+sub-open-columns-2 c = c .before .before .before .before .places-in .ensures .ustarts
 
 part-open-columns-start-2 : tie.Need-part-open-columns-start-2
-part-open-columns-start-2 c = search needs
+part-open-columns-start-2 c = c .before .before .before .before .places-in .ensures .ustarts
 
 part-open-columns-end-2 : tie.Need-part-open-columns-end-2
-part-open-columns-end-2 c = search needs
+part-open-columns-end-2 c = let q = c .before .before .before .before .places-in .ensures in omega (arith, q .ucols, q .uvals, q .end)
 
 slice-aggregate-open-columns-3 : tie.Need-slice-aggregate-open-columns-3
 slice-aggregate-open-columns-3 c = search needs
 
 sub-open-columns-3 : tie.Need-sub-open-columns-3
-sub-open-columns-3 c = search needs
+sub-open-columns-3 c = c .before .before .before .before .before .before .places-in .ensures .ucols
 
 part-open-columns-start-3 : tie.Need-part-open-columns-start-3
-part-open-columns-start-3 c = search needs
+part-open-columns-start-3 c = c .before .before .before .before .before .before .places-in .ensures .ucols
 
 part-open-columns-end-3 : tie.Need-part-open-columns-end-3
-part-open-columns-end-3 c = search needs
+part-open-columns-end-3 c = let q = c .before .before .before .before .before .before .places-in .ensures in omega (arith, q .uvals, q .end)
 
 slice-aggregate-open-columns-4 : tie.Need-slice-aggregate-open-columns-4
 slice-aggregate-open-columns-4 c = search needs
 
 sub-open-columns-4 : tie.Need-sub-open-columns-4
-sub-open-columns-4 c = search needs
+sub-open-columns-4 c = c .before .before .before .before .before .before .before .before .places-in .ensures .uvals
 
 part-open-columns-start-4 : tie.Need-part-open-columns-start-4
-part-open-columns-start-4 c = search needs
+part-open-columns-start-4 c = c .before .before .before .before .before .before .before .before .places-in .ensures .uvals
 
 part-open-columns-end-4 : tie.Need-part-open-columns-end-4
-part-open-columns-end-4 c = search needs
+part-open-columns-end-4 c = let q = c .before .before .before .before .before .before .before .before .places-in .ensures in omega (arith, q .end)
 
 cast-open-columns : tie.Need-cast-open-columns
-cast-open-columns c = search needs
+cast-open-columns c = omega (arith, c .before .before .before .before .before .before .before .before .number .ok)
 
 open-columns-requires : tie.Need-open-columns-requires
 open-columns-requires c κs = let k = c .before .before .before .before .before .before .before .before .before .before in let s = start k in
-    ready-by (s .args .p) _ _ (s .args .marks .now) (s .args .work .now) (meant k) (s .pre .ready)
+    ready-by (s .args .q .p) _ _ (s .args .marks .now) (s .args .work .now) (meant k) (s .pre .ready)
 
 same-length : tie.Need-same-length
-same-length c = search needs
+same-length c = c .before .before .before .before .open-columns .kept .1 .1 .1 .1 .1 .1 .1 .1 .1 .1 .0
 
 same-length-2 : tie.Need-same-length-2
-same-length-2 c = search needs
+same-length-2 c = c .before .before .before .before .open-columns .kept .1 .1 .1 .1 .1 .1 .1 .1 .1 .1 .1 .0
 
 returns : tie.Need-returns
 returns c = let k = c .before .before .before .before .before .before .before .before .before .before .before .before .before .before .before in let s = start k in let j = c .before .before .before .before in
-    columns-of (s .args .p) _ _ (length (s .args .marks .now)) _ _ (meant k) (j .open-columns .kept .1 .1 .1 .1 .1 .1 .1 .1 .1 .1 .0) (j .open-columns .ensures)
+    columns-of (s .args .q .p) _ _ (length (s .args .marks .now)) _ _ (meant k) (j .open-columns .kept .1 .1 .1 .1 .1 .1 .1 .1 .1 .1 .0) (j .open-columns .ensures)
 
 pub open-columns-of-parts-spec : {M : Type 1} → statement M
 open-columns-of-parts-spec =

@@ -29,7 +29,7 @@ abbrev start : tie.After-slice-known2 → tie.Start
 start c = c .before .before .before .before .before .before .before .before .before .before .before .before .before
 
 passed : (c : tie.After-enum-told) → check (start (c .before .before .before .before .before .before .before)) ≡ Outcome.Passed
-passed c = sym (c .before .before .before .before .check-factors .ensures .outcome) ∙ c .enum-told .given .1
+passed c = sym (c .before .before .before .before .check-stored .ensures .outcome) ∙ c .enum-told .given .1
 
 clear-requires : tie.Need-clear-requires
 clear-requires c κs = search needs
@@ -38,17 +38,17 @@ clear-row-requires : tie.Need-clear-row-requires
 clear-row-requires c κs = search needs
 
 same-length : tie.Need-same-length
-same-length c = search needs
+same-length c = c .before .before .before .before .before .before .clear .kept .0
 
 same-length-2 : tie.Need-same-length-2
-same-length-2 c = search needs
+same-length-2 c = c .before .before .clear-row .kept .0
 
 returns : tie.Need-returns
 unfolding openFactorsOf
 returns c = let t = c .before .before .before .before .before .before .before .before in let s = start (t .before) in wrong-length (check s) (s .args .p) (s .args .m) (set s) (s .args .marks .now) (s .args .work .now) (t .if1 .taken) _ _ (c .before .before .before .before .before .before .clear .ensures) (c .before .before .clear-row .ensures)
 
-check-factors-requires : tie.Need-check-factors-requires
-check-factors-requires c κs = search needs
+check-stored-requires : tie.Need-check-stored-requires
+check-stored-requires c κs = search needs
 
 enum-told : tie.Need-enum-told
 enum-told c = search needs
@@ -60,15 +60,15 @@ clear-requires-2 : tie.Need-clear-requires-2
 clear-requires-2 c κs = search needs
 
 same-length-3 : tie.Need-same-length-3
-same-length-3 c = search needs
+same-length-3 c = c .before .before .clear2 .kept .0
 
 same-length-4 : tie.Need-same-length-4
-same-length-4 c = search needs
+same-length-4 c = c .before .before .before .before .before .before .before .before .check-stored .kept .1 .1 .1 .1 .1 .1 .1 .1 .1 .1 .1 .1 .1 .1 .1 .0
 
 returns-2 : tie.Need-returns-2
 unfolding openFactorsOf
 returns-2 c = let t = c .before .before .before .before in let k = t .before .before .before .before in let e = k .before .before in let s = start (e .before) in
-    refuses (check s) (s .args .p) (s .args .m) (set s) (s .args .marks .now) (s .args .work .now) (e .if1 .left) (k .check-factors .result) _ (k .check-factors .ensures) _ _ (t .enum-told2 .given .1) _ (c .before .before .clear2 .ensures)
+    refuses (check s) (s .args .p) (s .args .m) (set s) (s .args .marks .now) (s .args .work .now) (e .if1 .left) (k .check-stored .result) _ (k .check-stored .ensures) _ _ (t .enum-told2 .given .1) _ (c .before .before .clear2 .ensures)
 
 slice-aggregate-open-columns : tie.Need-slice-aggregate-open-columns
 slice-aggregate-open-columns c = search needs
@@ -85,18 +85,18 @@ slice-aggregate-open-columns-4 c = search needs
 open-columns-requires : tie.Need-open-columns-requires
 open-columns-requires c κs = let t = c .before .before .before .before .before .before in let k = t .before .before .before .before in let e = k .before .before in let s = start (e .before) in
     ready-by (s .args .p) _ (set s) (s .args .marks .now) _ (set-lists (s .args .r) (s .args .ro .now) (s .args .co .now) (s .args .ls .now) (s .args .lc .now) (s .args .lv .now) (s .args .us .now) (s .args .uc .now) (s .args .uv .now))
-    (columns-ready (s .args .p) (s .args .n) (s .args .m) (plan s) (set s) (s .args .marks .now) _ (length (s .args .work .now)) (e .if1 .left) (factors-checked (s .args .p) (s .args .n) (s .args .m) (plan s) (length (s .args .work .now)) (set s) (passed t)) (k .check-factors .ensures .cleared))
+    (columns-ready (s .args .p) (s .args .n) (s .args .m) (plan s) (set s) (s .args .marks .now) _ (length (s .args .work .now)) (e .if1 .left) (factors-checked (s .args .p) (s .args .n) (s .args .m) (plan s) (length (s .args .work .now)) (set s) (passed t)) (k .check-stored .ensures .cleared))
 
 same-length-5 : tie.Need-same-length-5
-same-length-5 c = search needs
+same-length-5 c = c .before .before .before .before .open-columns .kept .1 .1 .1 .1 .1 .1 .1 .1 .1 .1 .0
 
 same-length-6 : tie.Need-same-length-6
-same-length-6 c = search needs
+same-length-6 c = c .before .before .before .before .open-columns .kept .1 .1 .1 .1 .1 .1 .1 .1 .1 .1 .1 .0 ∙ c .before .before .before .before .before .before .before .before .before .before .before .before .before .before .before .check-stored .kept .1 .1 .1 .1 .1 .1 .1 .1 .1 .1 .1 .1 .1 .1 .1 .0
 
 returns-3 : tie.Need-returns-3
 unfolding openFactorsOf
 returns-3 c = let j = c .before .before .before .before in let t = j .before .before .before .before .before .before .before in let k = t .before .before .before .before in let e = k .before .before in let s = start (e .before) in
-    lists (check s) (s .args .p) (s .args .m) (set s) (s .args .marks .now) (s .args .work .now) (e .if1 .left) (k .check-factors .result) _ (k .check-factors .ensures) (t .enum-told .given .1) _ _ (j .open-columns .kept .1 .1 .1 .1 .1 .1 .1 .1 .1 .1 .0) (j .open-columns .kept .1 .1 .1 .1 .1 .1 .1 .1 .1 .1 .1 .0)
+    lists (check s) (s .args .p) (s .args .m) (set s) (s .args .marks .now) (s .args .work .now) (e .if1 .left) (k .check-stored .result) _ (k .check-stored .ensures) (t .enum-told .given .1) _ _ (j .open-columns .kept .1 .1 .1 .1 .1 .1 .1 .1 .1 .1 .0) (j .open-columns .kept .1 .1 .1 .1 .1 .1 .1 .1 .1 .1 .1 .0)
     (columns-of (s .args .p) _ (set s) (length (s .args .marks .now)) _ _ (set-lists (s .args .r) (s .args .ro .now) (s .args .co .now) (s .args .ls .now) (s .args .lc .now) (s .args .lv .now) (s .args .us .now) (s .args .uc .now) (s .args .uv .now)) (j .open-columns .kept .1 .1 .1 .1 .1 .1 .1 .1 .1 .1 .0) (j .open-columns .ensures))
 
 pub open-columns-from-factors-spec : {M : Type 1} → statement M
@@ -108,7 +108,7 @@ open-columns-from-factors-spec =
     same-length
     same-length-2
     returns
-    check-factors-requires
+    check-stored-requires
     enum-told
     enum-told-2
     clear-requires-2

@@ -81,7 +81,7 @@ bytes-part-requires-2 : tie.Need-bytes-part-requires-2
 bytes-part-requires-2 c κs = let b = bounds (c .before .before .before) in (b .0, omega (arith, b .2, length-view (start (c .before .before .before) .args .uv .now) (start (c .before .before .before) .args .uvb .now)))
 
 row-times-requires : tie.Need-row-times-requires
-row-times-requires c κs = let s = start (c .before .before .before .before) in record { positive = s .pre .positive; row = rw (columns c, numbers c) (row s) }
+row-times-requires c κs = let s = start (c .before .before .before .before) in record { positive = s .pre .positive; row = rw (columns c, numbers c) (row s); small = s .pre .small }
 
 negate-requires : tie.Need-negate-requires
 negate-requires c κs = c .row-times .ensures .below

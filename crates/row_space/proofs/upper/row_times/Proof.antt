@@ -6,7 +6,7 @@ use lib.ListN.{length, getD}
 use borrow.Author.Needs.{needs}
 use Rattle.algebra.specs.Matrix.{vector}
 use Rattle.sparse.specs.Words.{view}
-use Rattle.sparse.proofs.Entries.{row-columns}
+use Rattle.sparse.proofs.Entries.{row-columns, row-values}
 use Rattle.row_space.proofs.UpperLoop.{Adding, adding-starts, adding-turn, adding-ends}
 use Rattle.row_space.proofs.upper.row_times.Statement.{statement}
 use Rattle.row_space.proofs.upper.row_times.Tie as tie
@@ -43,14 +43,22 @@ index-requires c κs = search needs
 word-requires-2 : tie.Need-word-requires-2 Inv-loop μ-loop
 word-requires-2 c κs = omega (arith, start (c .before .before) .pre .row .paired)
 
-mul-add-product : tie.Need-mul-add-product Inv-loop μ-loop
-mul-add-product c = omega (arith, column c)
+mul-multiply : tie.Need-mul-multiply Inv-loop μ-loop
+mul-multiply c = omega (arith, column c)
 
-shared-slice-read-add-product : tie.Need-shared-slice-read-add-product Inv-loop μ-loop
-shared-slice-read-add-product c = column (c .before)
+shared-slice-read-multiply : tie.Need-shared-slice-read-multiply Inv-loop μ-loop
+shared-slice-read-multiply c = column (c .before)
 
-add-product-requires : tie.Need-add-product-requires Inv-loop μ-loop
-add-product-requires c κs = start (c .before .before .before .before) .pre .positive
+-- the values of a row and the cells of z are residues
+multiply-requires : tie.Need-multiply-requires Inv-loop μ-loop
+multiply-requires c κs = let w = c .before in let turn = w .before .before .before in let s = start turn in
+    record {
+      left = rw (w .word2 .ensures) (row-values _ _ _ _ (s .pre .row) (turn .before .loop .t) (omega (arith, s .pre .row .paired)));
+      right = s .pre .small (w .before .index .result) (column w);
+    }
+
+add-requires : tie.Need-add-requires Inv-loop μ-loop
+add-requires c κs = record { left = c .before .before .before .before .before .before .loop .inv .below; right = c .multiply .ensures .below }
 
 add-t : tie.Need-add-t Inv-loop μ-loop
 add-t c = omega arith
@@ -59,9 +67,9 @@ loop-less : tie.Need-loop-less Inv-loop μ-loop
 loop-less c = omega arith
 
 loop-again : tie.Need-loop-again Inv-loop μ-loop
-loop-again c = let w = c .before .before in let turn = w .before .before .before in let s = start turn in let l = turn .before .loop in
-    adding-turn (s .args .q .p) _ _ _ (l .s) (c .add-product .result) (l .t) (w .before .index .result) (w .word2 .result)
-    (omega arith) (omega (arith, s .pre .row .paired)) (place w) (w .word2 .ensures) (c .add-product .ensures) (l .inv)
+loop-again c = let w = c .before .before .before in let turn = w .before .before .before in let s = start turn in let l = turn .before .loop in
+    adding-turn (s .args .q .p) _ _ _ (l .s) (c .add .result) (l .t) (w .before .index .result) (w .word2 .result)
+    (omega arith) (omega (arith, s .pre .row .paired)) (place w) (w .word2 .ensures) (c .before .multiply .result) (c .before .multiply .ensures) (c .add .ensures) (l .inv)
 
 returns : tie.Need-returns Inv-loop μ-loop
 returns c = let l = c .before .loop in adding-ends _ _ _ _ (l .s) (l .t) (omega arith) (l .inv)
@@ -77,9 +85,10 @@ row-times-spec =
     word-requires
     index-requires
     word-requires-2
-    mul-add-product
-    shared-slice-read-add-product
-    add-product-requires
+    mul-multiply
+    shared-slice-read-multiply
+    multiply-requires
+    add-requires
     add-t
     loop-less
     loop-again

@@ -34,7 +34,7 @@ column c =
     omega (arith, place c, l .inv .long, s .pre .places (l .k - 1) (omega (arith, l .inv .inside, s .pre .order)))
 
 loop-holds : tie.Need-loop-holds Inv-loop μ-loop
-loop-holds c = filling-starts _ _ _ _ _
+loop-holds c = filling-starts _ _ _ _ _ (c .before .before .before .before .before .before .before .before .before .pre .small)
 
 sub-k : tie.Need-sub-k Inv-loop μ-loop
 sub-k c = omega arith
@@ -47,7 +47,7 @@ index-requires c κs = search needs
 
 missing-value-requires : tie.Need-missing-value-requires Inv-loop μ-loop
 missing-value-requires c κs = let turn = c .before .before .before in let l = turn .before .loop in let s = start turn in
-    record { positive = s .pre .positive; formed = rw (l .inv .long) (s .pre .formed); inside = omega (arith, l .inv .inside, s .pre .rows) }
+    record { positive = s .pre .positive; formed = rw (l .inv .long) (s .pre .formed); inside = omega (arith, l .inv .inside, s .pre .rows); small = l .inv .small }
 
 mul-z : tie.Need-mul-z Inv-loop μ-loop
 mul-z c = omega (arith, column (c .before .before))
@@ -60,7 +60,7 @@ loop-less c = omega arith
 
 loop-again : tie.Need-loop-again Inv-loop μ-loop
 loop-again c = let i = c .before .before in let turn = i .before .before in let l = turn .before .loop in
-    filling-turn (start turn .args .q .p) _ _ _ _ (l .z) (l .k) (c .missing-value .result) (i .index .result) (omega arith) (place i) (column i) (c .missing-value .ensures) (l .inv)
+    filling-turn (start turn .args .q .p) _ _ _ _ (l .z) (l .k) (c .missing-value .result) (i .index .result) (start turn .pre .positive) (omega arith) (place i) (column i) (c .missing-value .ensures) (l .inv)
 
 same-length : tie.Need-same-length Inv-loop μ-loop
 same-length c = c .before .loop .inv .long

@@ -1,4 +1,4 @@
--- `check_factors` meets its contract. Assumes nothing.
+-- `check_stored` meets its contract. Assumes nothing.
 use mathlib.Core.Path.{_≡_, sym, ap, _∙_}
 use Rattle.sparse.specs.Matrix.{Compressed, compressed}
 use lib.ListN.{length}
@@ -9,11 +9,12 @@ use Rattle.sparse.specs.Set.{Set, setOf}
 use Rattle.pluq.specs.Judge.{judge}
 use Rattle.checker.specs.Needs.{Checkable}
 use Rattle.check_calls.specs.Calls.{factorsOutcome, checkFactorsOf}
+use Rattle.check_calls.proofs.Outcomes.{checks}
 use Rattle.check_calls.proofs.Tested.{checkable, factors-good}
 use Rattle.check_calls.proofs.Stored.{from-lists, by-lists}
 use borrow.Author.Needs.{needs}
-use Rattle.check_calls.proofs.check_factors.Statement.{statement}
-use Rattle.check_calls.proofs.check_factors.Tie as tie
+use Rattle.check_calls.proofs.from_factors.check_stored.Statement.{statement}
+use Rattle.check_calls.proofs.from_factors.check_stored.Tie as tie
 
 abbrev plan : tie.Start → Compressed
 plan s = compressed (s .args .ss .now) (s .args .cols .now) (s .args .vals .now)
@@ -28,8 +29,8 @@ start c = c .before .before .before .before .before .before .before .before .bef
 wide : (c : tie.After-factors-outcome) → length (c .before .before .before .clear-row .last .0) ≡ length (start c .args .work .now)
 wide c = ap length (c .before .before .before .clear-row .ensures) ∙ length-zeros (length (start c .args .work .now))
 
-tested : (c : tie.After-factors-outcome) → let s = start c in c .factors-outcome .result ≡ factorsOutcome (s .args .p) (s .args .n) (s .args .m) (plan s) (set s) (length (s .args .work .now))
-tested c = let s = start c in c .factors-outcome .ensures ∙ ap (factorsOutcome (s .args .p) (s .args .n) (s .args .m) (plan s) (set s)) (wide c)
+tested : (c : tie.After-factors-outcome) → let s = start c in c .factors-outcome .result ≡ factorsOutcome (s .args .q .p) (s .args .n) (s .args .m) (plan s) (set s) (length (s .args .work .now))
+tested c = let s = start c in c .factors-outcome .ensures ∙ ap (factorsOutcome (s .args .q .p) (s .args .n) (s .args .m) (plan s) (set s)) (wide c)
 
 clear-row-requires : tie.Need-clear-row-requires
 clear-row-requires c κs = search needs
@@ -49,19 +50,18 @@ same-length c = c .before .before .before .before .before .clear-row .kept .0
 returns : tie.Need-returns
 unfolding checkFactorsOf
 returns c = let o = c .before .before in let s = start o in
-    record {
-      outcome = refused (o .factors-outcome .result) (factorsOutcome (s .args .p) (s .args .n) (s .args .m) (plan s) (set s) (length (s .args .work .now))) (judge (s .args .p) (s .args .n) (s .args .m) (plan s) (set s)) _ _ (c .enum-told2 .given .1) (tested o);
-      cleared = o .before .before .before .clear-row .ensures;
-    }
+    checks _ _ _ _
+    (refused (o .factors-outcome .result) (factorsOutcome (s .args .q .p) (s .args .n) (s .args .m) (plan s) (set s) (length (s .args .work .now))) (judge (s .args .q .p) (s .args .n) (s .args .m) (plan s) (set s)) _ _ (c .enum-told2 .given .1) (tested o))
+    (o .before .before .before .clear-row .ensures)
 
 slice-aggregate-none : tie.Need-slice-aggregate-none
 slice-aggregate-none c = search needs
 
 check-requires : tie.Need-check-requires
 check-requires c κs = let t = c .before .before in let o = t .before .before in let s = start o in
-    let (g, z, w) = factors-good (s .args .p) (s .args .n) (s .args .m) (plan s) (set s) (length (s .args .work .now)) (sym (tested o) ∙ t .enum-told .given .1) in
-    from-lists (λ A s′. Checkable (s .args .p) (s .args .n) (s .args .m) A s′ (o .before .before .before .clear-row .last .0)) (s .args .ss .now) (s .args .cols .now) (s .args .vals .now) (s .args .r) (s .args .ro .now) (s .args .co .now) (s .args .ls .now) (s .args .lc .now) (s .args .lv .now) (s .args .us .now) (s .args .uc .now) (s .args .uv .now)
-    (checkable (s .args .p) (s .args .n) (s .args .m) (plan s) (set s) (o .before .before .before .clear-row .last .0) g z (wide o ∙ w) (o .before .before .before .clear-row .ensures ∙ ap zeros (sym (wide o))))
+    let (g, z, w) = factors-good (s .args .q .p) (s .args .n) (s .args .m) (plan s) (set s) (length (s .args .work .now)) (sym (tested o) ∙ t .enum-told .given .1) in
+    from-lists (λ A s′. Checkable (s .args .q .p) (s .args .n) (s .args .m) A s′ (o .before .before .before .clear-row .last .0)) (s .args .ss .now) (s .args .cols .now) (s .args .vals .now) (s .args .r) (s .args .ro .now) (s .args .co .now) (s .args .ls .now) (s .args .lc .now) (s .args .lv .now) (s .args .us .now) (s .args .uc .now) (s .args .uv .now)
+    (checkable (s .args .q .p) (s .args .n) (s .args .m) (plan s) (set s) (o .before .before .before .clear-row .last .0) g z (wide o ∙ w) (o .before .before .before .clear-row .ensures ∙ ap zeros (sym (wide o))))
 
 same-length-2 : tie.Need-same-length-2
 same-length-2 c = let k = c .before .before in ap length (k .check .ensures .1) ∙ wide (k .before .before .before .before .before)
@@ -69,15 +69,13 @@ same-length-2 c = let k = c .before .before in ap length (k .check .ensures .1) 
 returns-2 : tie.Need-returns-2
 unfolding checkFactorsOf
 returns-2 c = let k = c .before .before in let t = k .before .before .before in let o = t .before .before in let s = start o in
-    record {
-      outcome =
-          passed (o .factors-outcome .result) (factorsOutcome (s .args .p) (s .args .n) (s .args .m) (plan s) (set s) (length (s .args .work .now))) (judge (s .args .p) (s .args .n) (s .args .m) (plan s) (set s)) (k .check .result) (t .enum-told .given .1) (tested o)
-          (k .check .ensures .0 ∙ by-lists (judge (s .args .p) (s .args .n) (s .args .m)) (s .args .ss .now) (s .args .cols .now) (s .args .vals .now) (s .args .r) (s .args .ro .now) (s .args .co .now) (s .args .ls .now) (s .args .lc .now) (s .args .lv .now) (s .args .us .now) (s .args .uc .now) (s .args .uv .now));
-      cleared = k .check .ensures .1 ∙ o .before .before .before .clear-row .ensures;
-    }
+    checks _ _ _ _
+    (passed (o .factors-outcome .result) (factorsOutcome (s .args .q .p) (s .args .n) (s .args .m) (plan s) (set s) (length (s .args .work .now))) (judge (s .args .q .p) (s .args .n) (s .args .m) (plan s) (set s)) (k .check .result) (t .enum-told .given .1) (tested o)
+    (k .check .ensures .0 ∙ by-lists (judge (s .args .q .p) (s .args .n) (s .args .m)) (s .args .ss .now) (s .args .cols .now) (s .args .vals .now) (s .args .r) (s .args .ro .now) (s .args .co .now) (s .args .ls .now) (s .args .lc .now) (s .args .lv .now) (s .args .us .now) (s .args .uc .now) (s .args .uv .now)))
+    (k .check .ensures .1 ∙ o .before .before .before .clear-row .ensures)
 
-pub check-factors-spec : {M : Type 1} → statement M
-check-factors-spec =
+pub check-stored-spec : {M : Type 1} → statement M
+check-stored-spec =
     tie.close
     (tie.spec
     clear-row-requires

@@ -8,8 +8,8 @@ use Rattle.lists.specs.Refusals.{unless}
 use mathlib.Core.Bool.{Bool}
 use Rattle.check_calls.proofs.Tested.{plan-length, certificate-refused, certificate-work, certificate-plan, certificate-header}
 use borrow.Author.Needs.{needs}
-use Rattle.check_calls.proofs.certificate_outcome.Statement.{statement}
-use Rattle.check_calls.proofs.certificate_outcome.Tie as tie
+use Rattle.check_calls.proofs.from_certificate.certificate_outcome.Statement.{statement}
+use Rattle.check_calls.proofs.from_certificate.certificate_outcome.Tie as tie
 
 abbrev plan : tie.Start → Compressed
 plan s = compressed (s .args .ss .now) (s .args .cols .now) (s .args .vals .now)

@@ -7,8 +7,8 @@ use Rattle.sparse.specs.Set.{Set, setOf}
 use Rattle.call_tests.specs.Tests.{planLengths, setLengths}
 use Rattle.check_calls.proofs.Tested.{factors-plan, factors-set, factors-work, factors-next}
 use borrow.Author.Needs.{needs}
-use Rattle.check_calls.proofs.factors_outcome.Statement.{statement}
-use Rattle.check_calls.proofs.factors_outcome.Tie as tie
+use Rattle.check_calls.proofs.from_factors.factors_outcome.Statement.{statement}
+use Rattle.check_calls.proofs.from_factors.factors_outcome.Tie as tie
 
 abbrev plan : tie.Start → Compressed
 plan s = compressed (s .args .ss .now) (s .args .cols .now) (s .args .vals .now)

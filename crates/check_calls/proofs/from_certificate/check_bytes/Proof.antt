@@ -1,4 +1,4 @@
--- `check_certificate` meets its contract. Assumes nothing.
+-- `check_bytes` meets its contract. Assumes nothing.
 use mathlib.Core.Path.{_≡_, sym, ap, _∙_}
 use mathlib.Core.Bool.{true}
 use Rattle.sparse.specs.Words.{view}
@@ -18,10 +18,11 @@ use Rattle.call_tests.specs.Limits.{workLength}
 use Rattle.call_tests.proofs.Lists.{viewed-lists}
 use Rattle.check_calls.specs.Calls.{certificateOutcome, checkCertificateOf}
 use Rattle.call_tests.specs.Accepted.{GoodPlan}
+use Rattle.check_calls.proofs.Outcomes.{checks}
 use Rattle.check_calls.proofs.Tested.{checkable, checkable-as, certificate-good}
 use borrow.Author.Needs.{needs}
-use Rattle.check_calls.proofs.check_certificate.Statement.{statement}
-use Rattle.check_calls.proofs.check_certificate.Tie as tie
+use Rattle.check_calls.proofs.from_certificate.check_bytes.Statement.{statement}
+use Rattle.check_calls.proofs.from_certificate.check_bytes.Tie as tie
 
 abbrev plan : tie.Start → Compressed
 plan s = compressed (s .args .ss .now) (s .args .cols .now) (s .args .vals .now)
@@ -32,13 +33,13 @@ start c = c .before .before .before .before .before .before .before .before .bef
 wide : (c : tie.After-certificate-outcome) → length (c .before .before .before .clear-row .last .0) ≡ length (start c .args .work .now)
 wide c = ap length (c .before .before .before .clear-row .ensures) ∙ length-zeros (length (start c .args .work .now))
 
-tested : (c : tie.After-certificate-outcome) → let s = start c in c .certificate-outcome .result ≡ certificateOutcome (s .args .p) (s .args .n) (s .args .m) (plan s) (s .args .cert .now) (length (s .args .work .now))
-tested c = let s = start c in c .certificate-outcome .ensures ∙ ap (certificateOutcome (s .args .p) (s .args .n) (s .args .m) (plan s) (s .args .cert .now)) (wide c)
+tested : (c : tie.After-certificate-outcome) → let s = start c in c .certificate-outcome .result ≡ certificateOutcome (s .args .q .p) (s .args .n) (s .args .m) (plan s) (s .args .cert .now) (length (s .args .work .now))
+tested c = let s = start c in c .certificate-outcome .ensures ∙ ap (certificateOutcome (s .args .q .p) (s .args .n) (s .args .m) (plan s) (s .args .cert .now)) (wide c)
 
 -- plan, header and working row are good
 good : (c : tie.After-enum-told) → let s = start (c .before .before) in
-    GoodPlan (s .args .p) (s .args .n) (s .args .m) (plan s) × (headerOk (s .args .p) (s .args .n) (s .args .m) (s .args .cert .now) ≡ true) × (length (s .args .work .now) ≡ workLength)
-good c = let s = start (c .before .before) in certificate-good (s .args .p) (s .args .n) (s .args .m) (plan s) (s .args .cert .now) (length (s .args .work .now)) (sym (tested (c .before .before)) ∙ c .enum-told .given .1)
+    GoodPlan (s .args .q .p) (s .args .n) (s .args .m) (plan s) × (headerOk (s .args .q .p) (s .args .n) (s .args .m) (s .args .cert .now) ≡ true) × (length (s .args .work .now) ≡ workLength)
+good c = let s = start (c .before .before) in certificate-good (s .args .q .p) (s .args .n) (s .args .m) (plan s) (s .args .cert .now) (length (s .args .work .now)) (sym (tested (c .before .before)) ∙ c .enum-told .given .1)
 
 -- the parts mean the set that the certificate holds
 meant : (c : tie.After-number) → let s = start (c .before .before .before .before) in let q = c .before .places-in .result in let cert = s .args .cert .now in
@@ -67,16 +68,15 @@ same-length c = c .before .before .before .before .before .clear-row .kept .0
 returns : tie.Need-returns
 unfolding checkCertificateOf
 returns c = let o = c .before .before in let s = start o in
-    record {
-      outcome = refused (o .certificate-outcome .result) (certificateOutcome (s .args .p) (s .args .n) (s .args .m) (plan s) (s .args .cert .now) (length (s .args .work .now))) (judge (s .args .p) (s .args .n) (s .args .m) (plan s) (setOfCertificate (s .args .n) (s .args .m) (s .args .cert .now))) _ _ (c .enum-told2 .given .1) (tested o);
-      cleared = o .before .before .before .clear-row .ensures;
-    }
+    checks _ _ _ _
+    (refused (o .certificate-outcome .result) (certificateOutcome (s .args .q .p) (s .args .n) (s .args .m) (plan s) (s .args .cert .now) (length (s .args .work .now))) (judge (s .args .q .p) (s .args .n) (s .args .m) (plan s) (setOfCertificate (s .args .n) (s .args .m) (s .args .cert .now))) _ _ (c .enum-told2 .given .1) (tested o))
+    (o .before .before .before .clear-row .ensures)
 
 places-in-requires : tie.Need-places-in-requires
-places-in-requires c κs = let s = start (c .before .before) in headed (s .args .p) (s .args .n) (s .args .m) (s .args .cert .now) (good c .1) .long
+places-in-requires c κs = let s = start (c .before .before) in headed (s .args .q .p) (s .args .n) (s .args .m) (s .args .cert .now) (good c .1) .long
 
 number-requires : tie.Need-number-requires
-number-requires c κs = let t = c .before in let s = start (t .before .before) in (omega arith, header-fits (s .args .n) (s .args .m) (s .args .cert .now) (headed (s .args .p) (s .args .n) (s .args .m) (s .args .cert .now) (good t .1) .long))
+number-requires c κs = let t = c .before in let s = start (t .before .before) in (omega arith, header-fits (s .args .n) (s .args .m) (s .args .cert .now) (headed (s .args .q .p) (s .args .n) (s .args .m) (s .args .cert .now) (good t .1) .long))
 
 slice-aggregate-none : tie.Need-slice-aggregate-none
 slice-aggregate-none c = search needs
@@ -158,8 +158,8 @@ part-check-end-8 c = let q = c .before .before .before .before .before .before .
 
 check-requires : tie.Need-check-requires
 check-requires c κs = let k = c .before .before .before .before .before .before .before .before .before .before .before in let t = k .before .before in let o = t .before .before in let s = start o in let (g, h, w) = good t in
-    checkable-as (s .args .p) (s .args .n) (s .args .m) _ (plan s) _ (setOfCertificate (s .args .n) (s .args .m) (s .args .cert .now)) _ (viewed-lists (s .args .ss .now) (s .args .cols .now) (s .args .vals .now)) (meant k)
-    (checkable (s .args .p) (s .args .n) (s .args .m) (plan s) (setOfCertificate (s .args .n) (s .args .m) (s .args .cert .now)) (o .before .before .before .clear-row .last .0) g (passed-sized (s .args .p) (s .args .n) (s .args .m) (s .args .cert .now) h) (wide o ∙ w) (o .before .before .before .clear-row .ensures ∙ ap zeros (sym (wide o))))
+    checkable-as (s .args .q .p) (s .args .n) (s .args .m) _ (plan s) _ (setOfCertificate (s .args .n) (s .args .m) (s .args .cert .now)) _ (viewed-lists (s .args .ss .now) (s .args .cols .now) (s .args .vals .now)) (meant k)
+    (checkable (s .args .q .p) (s .args .n) (s .args .m) (plan s) (setOfCertificate (s .args .n) (s .args .m) (s .args .cert .now)) (o .before .before .before .clear-row .last .0) g (passed-sized (s .args .q .p) (s .args .n) (s .args .m) (s .args .cert .now) h) (wide o ∙ w) (o .before .before .before .clear-row .ensures ∙ ap zeros (sym (wide o))))
 
 same-length-2 : tie.Need-same-length-2
 same-length-2 c = let k = c .before .before in ap length (k .check .ensures .1) ∙ wide (k .before .before .before .before .before .before .before .before .before .before .before .before .before .before .before .before)
@@ -167,16 +167,14 @@ same-length-2 c = let k = c .before .before in ap length (k .check .ensures .1) 
 returns-2 : tie.Need-returns-2
 unfolding checkCertificateOf
 returns-2 c = let k = c .before .before in let u = k .before .before .before .before .before .before .before .before .before .before .before .before in let t = u .before .before in let o = t .before .before in let s = start o in
-    record {
-      outcome =
-          passed (o .certificate-outcome .result) (certificateOutcome (s .args .p) (s .args .n) (s .args .m) (plan s) (s .args .cert .now) (length (s .args .work .now))) (judge (s .args .p) (s .args .n) (s .args .m) (plan s) (setOfCertificate (s .args .n) (s .args .m) (s .args .cert .now))) (k .check .result) (t .enum-told .given .1) (tested o)
-          (k .check .ensures .0
-          ∙ (λ j. judge (s .args .p) (s .args .n) (s .args .m) (viewed-lists (s .args .ss .now) (s .args .cols .now) (s .args .vals .now) j) (meant u j)));
-      cleared = k .check .ensures .1 ∙ o .before .before .before .clear-row .ensures;
-    }
+    checks _ _ _ _
+    (passed (o .certificate-outcome .result) (certificateOutcome (s .args .q .p) (s .args .n) (s .args .m) (plan s) (s .args .cert .now) (length (s .args .work .now))) (judge (s .args .q .p) (s .args .n) (s .args .m) (plan s) (setOfCertificate (s .args .n) (s .args .m) (s .args .cert .now))) (k .check .result) (t .enum-told .given .1) (tested o)
+    (k .check .ensures .0
+    ∙ (λ j. judge (s .args .q .p) (s .args .n) (s .args .m) (viewed-lists (s .args .ss .now) (s .args .cols .now) (s .args .vals .now) j) (meant u j))))
+    (k .check .ensures .1 ∙ o .before .before .before .clear-row .ensures)
 
-pub check-certificate-spec : {M : Type 1} → statement M
-check-certificate-spec =
+pub check-bytes-spec : {M : Type 1} → statement M
+check-bytes-spec =
     tie.close
     (tie.spec
     clear-row-requires
