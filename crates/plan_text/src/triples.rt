@@ -32,7 +32,7 @@ pub fn read_triples(
     let mut b: u64 = 0;
     let mut count: u32 = 0;
     while at < text.len() {
-        let l = line_reader::line_from(text, at, line as usize);
+        let l = line_reader::line_from(text, at, line);
         let e = at + l.len();
         if e == text.len() {
             return TripleLines::Refused { number: 3, line };

@@ -36,9 +36,6 @@ loop-holds c =
     let z = s .pre .cleared in
     (progress-starts _ _ _ _ _ _ (s .pre), ap length (z .starts-zero) ∙ length-zeros startsLength, refl, ap length (z .values-zero) ∙ length-zeros _)
 
-cast-line-from : tie.Need-cast-line-from Inv-loop μ-loop
-cast-line-from c = search needs
-
 line-from-requires : tie.Need-line-from-requires Inv-loop μ-loop
 line-from-requires c κs = search needs
 
@@ -178,7 +175,6 @@ read-triples-spec =
     Inv-loop
     μ-loop
     loop-holds
-    cast-line-from
     line-from-requires
     add-e
     same-length
