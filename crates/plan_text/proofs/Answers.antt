@@ -41,22 +41,22 @@ shows-refused room (refused a b) c k r st co va h e = let q = refused-both (sym 
 shows-refused room (accepted s seen) c k r st co va h e = refused-read (sym e ∙ h .0)
 
 -- the triples are read: the starts can be extended to all rows, and that is the answer
-module _ (s : Sizes) (room : ℕ) (p : Pieces) (r : TripleLines) (st co va : List ℕ) (count row : ℕ) (is : r ≡ Read count row) (limit : s .n ≤ largestSize) where
-  pub extendable : (o : ReadResult) → o ≡ triples s room 3 [] p → Shows room o r st co va → (row ≤ s .n) × (s .n < startsLength) × (length st ≡ startsLength)
+module _ (s : Sizes) (room line : ℕ) (p : Pieces) (r : TripleLines) (st co va : List ℕ) (count row : ℕ) (is : r ≡ Read count row) (limit : s .n ≤ largestSize) where
+  pub extendable : (o : ReadResult) → o ≡ triples s room line [] p → Shows room o r st co va → (row ≤ s .n) × (s .n < startsLength) × (length st ≡ startsLength)
   extendable (refused a b) t h = refused-read (sym h ∙ is)
   extendable (accepted s′ seen) t h =
       let row-is = read-both (sym (h .0) ∙ is) .1 in
-      let inside = subst (λ (z : Sizes). row ≤ z .n) (triples-sizes s s′ room p 3 seen (sym t)) (omega (arith, row-is, h .2)) in
+      let inside = subst (λ (z : Sizes). row ≤ z .n) (triples-sizes s s′ room p line seen (sym t)) (omega (arith, row-is, h .2)) in
       (inside, omega arith, ap length (h .1 .starts-are) ∙ starts-length _ (kept seen) (omega (arith, row-is)))
 
-  pub gives-read : (o : ReadResult) → o ≡ triples s room 3 [] p → Shows room o r st co va → (st′ : List ℕ)
+  pub gives-read : (o : ReadResult) → o ≡ triples s room line [] p → Shows room o r st co va → (st′ : List ℕ)
       → ((es : List Entry) → RowsWithin row es → count ≡ length es → st ≡ startsOf row es → st′ ≡ startsOf (s .n) es)
       → Gives (answerOf room o) (record { number = 0; detail = 0; p = s .modulus .p; n = s .n; m = s .m; count = count }) st′ co va
   unfolding answerOf
   gives-read (refused a b) t h st′ extend = refused-read (sym h ∙ is)
   gives-read (accepted s′ seen) t h st′ extend =
       let both = read-both (sym is ∙ h .0) in
-      let same : s ≡ s′ = sym (triples-sizes s s′ room p 3 seen (sym t)) in
+      let same : s ≡ s′ = sym (triples-sizes s s′ room p line seen (sym t)) in
       let rows = subst (λ (n : ℕ). RowsWithin n (kept seen)) (sym (both .1)) (h .1 .rows) in
       record {
         result-is = (λ j. record { number = 0; detail = 0; p = same j .modulus .p; n = same j .n; m = same j .m; count = both .0 j });

@@ -8,8 +8,10 @@ use native.Mathlib.Omega.{arith}
 use lib.ListN.{drop-of-length-le, length, drop, length-append, length-drop}
 use lib.Dec.{eqb, leb}
 use borrow.Author.Tests.{eqb-true, eqb-false, ne-eqb, leb-false}
-use Rattle.fields.specs.Pieces.{Pieces, last, more, prepend, pieces, firstPiece}
+use Rattle.fields.specs.Pieces.{Pieces, last, more, prepend, pieces}
 use Rattle.fields.proofs.Cuts.{piece-end, piece-last, piece-more}
+use Rattle.line_reader.specs.Line.{lineAt, lineEnd, Ends}
+use Rattle.line_reader.specs.declared.Place.{Place}
 use Rattle.plan_text.specs.declared.judge.Sizes.{Sizes}
 use Rattle.plan_text.specs.declared.judge.Verdict.{Verdict}
 use Rattle.plan_text.specs.declared.judge.Verdict.the-variants.{Refused, Last, Entry as AnEntry}
@@ -24,20 +26,19 @@ use Rattle.plan_text.proofs.StoredForm.{starts-none, starts-length, col
 use Rattle.plan_text.proofs.Storing.{kept-zero, kept-more}
 use Rattle.plan_text.proofs.Verdicts.{IsEntry, judged-entry, within-bounds, before-row}
 
--- the loop at the place `at`, before the line of number `line`, after the triple at a and b, with so many entries stored
-pub record Progress (text : List ℕ) (from : ℕ) (s : Sizes) (room : ℕ) (st co va : List ℕ) (at line a b count : ℕ) : Type 0 where
-  pub limits : Limits text s at
+-- the loop before the line at `here`, after the triple at a and b, with so many entries stored
+pub record Progress (text : List ℕ) (from : Place) (s : Sizes) (room : ℕ) (st co va : List ℕ) (here : Place) (a b count : ℕ) : Type 0 where
+  pub limits : Limits text s here
   pub seen : List Entry
-  pub same : triples s room 3 [] (pieces 10 (drop from text)) ≡ triples s room line seen (pieces 10 (drop at text))
+  pub same : triples s room (from .line) [] (pieces 10 (drop (from .at) text)) ≡ triples s room (here .line) seen (pieces 10 (drop (here .at) text))
   pub last-a : a ≡ lastRow seen
   pub last-b : b ≡ lastColumn seen
   pub stored : EntriesStored a room (kept seen) count st co va
   pub row-limit : a ≤ s .n
-  pub few : count ≤ at
+  pub few : count ≤ here .at
   pub enough : count ≤ room
-  pub line-at : line ≤ at + 3
 
-pub progress-starts : (text : List ℕ) (from : ℕ) (s : Sizes) (st co va : List ℕ) → Begins text from s st co va → Progress text from s (length co) st co va from 3 0 0 0
+pub progress-starts : (text : List ℕ) (from : Place) (s : Sizes) (st co va : List ℕ) → Begins text from s st co va → Progress text from s (length co) st co va from 0 0 0
 unfolding kept RowsWithin
 progress-starts text from s st co va h = record {
   limits = h .limits;
@@ -55,7 +56,6 @@ progress-starts text from s st co va h = record {
   row-limit = zero-le;
   few = zero-le;
   enough = zero-le;
-  line-at = omega arith;
 }
 
 -- something follows the last line
@@ -81,9 +81,9 @@ count-step t seen room h le = go (eqb (t .value) 0) refl
         let long = ap length (kept-more t seen z) ∙ length-append (kept seen) (t ∷ []) in
         (omega (arith, long), omega (arith, long, h z))
 
-module _ {text : List ℕ} {from : ℕ} {s : Sizes} {room : ℕ} {st co va : List ℕ} {at line a b count : ℕ} (g : Progress text from s room st co va at line a b count) where
+module _ {text : List ℕ} {from : Place} {s : Sizes} {room : ℕ} {st co va : List ℕ} {here : Place} {a b count : ℕ} (g : Progress text from s room st co va here a b count) where
   abbrev whole : ReadResult
-  whole = triples s room 3 [] (pieces 10 (drop from text))
+  whole = triples s room (from .line) [] (pieces 10 (drop (from .at) text))
 
   pub starts-long : length st ≡ startsLength
   starts-long = ap length (g .stored .starts-are) ∙ starts-length a (kept (g .seen)) (omega (arith, g .row-limit, g .limits .n-limit))
@@ -110,47 +110,55 @@ module _ {text : List ℕ} {from : ℕ} {s : Sizes} {room : ℕ} {st co va : Lis
       )
 
   -- the text ends where a line should begin
-  pub no-line : length text ≤ at → whole ≡ refused 3 line
+  pub no-line : length text ≤ here .at → whole ≡ refused 3 (here .line)
   unfolding triples pieces
   no-line h = g .same ∙ rw (drop-of-length-le text h)
 
-  module _ {l : List ℕ} (e : l ≡ firstPiece (pieces 10 (drop at text))) where
-    pub line-end : at + length l ≤ length text
-    line-end = piece-end 10 text l at (g .limits .place) e
+  module _ {l : List ℕ} (e : l ≡ lineAt text (here .at)) where
+    pub line-end : here .at + length l ≤ length text
+    line-end = piece-end 10 text l (here .at) (g .limits .place) e
 
     -- the line has no line feed
-    pub no-feed : at + length l ≡ length text → whole ≡ refused 3 line
+    pub no-feed : here .at + length l ≡ length text → whole ≡ refused 3 (here .line)
     unfolding triples
-    no-feed h = g .same ∙ ap (triples s room line (g .seen)) (piece-last 10 text l at (g .limits .place) e h)
+    no-feed h = g .same ∙ ap (triples s room (here .line) (g .seen)) (piece-last 10 text l (here .at) (g .limits .place) e h)
 
-    module _ {verdict : Verdict} (j : verdict ≡ judge (mayStand a b (lineOf l)) (leb room count) s (lineOf l)) (short : at + length l < length text) where
-      abbrev next : ℕ
-      next = at + length l + 1
+    -- it has one, and so a next line
+    pub has-feed : (here .at + length l ≡ length text → ⊥) → Ends text (here .at) (here .line) (length l)
+    has-feed h = record { size-is = ap length e; feed = omega (arith, line-end, h); numbered = omega (arith, g .limits .numbered, g .limits .place, g .limits .short) }
+
+    module _ {verdict : Verdict} (j : verdict ≡ judge (mayStand a b (lineOf l)) (leb room count) s (lineOf l)) (ends : Ends text (here .at) (here .line) (length l))
+        (next : Place) (follows : (next .at ≡ lineEnd text (here .at) + 1) × (next .line ≡ here .line + 1)) where
+      pub next-place : next .at ≡ here .at + length l + 1
+      next-place = follows .0 ∙ ap (λ (x : List ℕ). here .at + length x + 1) (sym e)
 
       abbrev rest : Pieces
-      rest = pieces 10 (drop next text)
+      rest = pieces 10 (drop (next .at) text)
 
       verdict-is : verdict ≡ verdictOn s room (g .seen) l
       verdict-is = j ∙ (λ k. judge (mayStand (g .last-a k) (g .last-b k) (lineOf l)) (leb room (g .stored .number k)) s (lineOf l))
 
-      judged-line : whole ≡ onward s line (g .seen) rest (λ t. triples s room (line + 1) (t ∷ g .seen) rest) verdict
+      judged-line : whole ≡ onward s (here .line) (g .seen) rest (λ t. triples s room (here .line + 1) (t ∷ g .seen) rest) verdict
       unfolding triples
       judged-line =
           g .same
-          ∙ ap (triples s room line (g .seen)) (piece-more 10 text l at (g .limits .place) e next short refl)
-          ∙ ap (onward s line (g .seen) rest (λ t. triples s room (line + 1) (t ∷ g .seen) rest)) (sym verdict-is)
+          ∙ ap (triples s room (here .line) (g .seen)) (piece-more 10 text l (here .at) (g .limits .place) e (next .at) (ends .feed) next-place)
+          ∙ ap (onward s (here .line) (g .seen) rest (λ t. triples s room (here .line + 1) (t ∷ g .seen) rest)) (sym verdict-is)
 
-      pub is-refused : (c : ℕ) → verdict ≡ Refused c → whole ≡ refused c line
+      pub is-refused : (c : ℕ) → verdict ≡ Refused c → whole ≡ refused c (here .line)
       is-refused c v = judged-line ∙ rw v
 
       -- the last line, and nothing after it
-      pub is-finished : verdict ≡ Last → next ≡ length text → whole ≡ accepted s (g .seen)
+      pub is-finished : verdict ≡ Last → next .at ≡ length text → whole ≡ accepted s (g .seen)
       unfolding pieces
       is-finished v n = judged-line ∙ rw (v, drop-of-length-le text (le-of-eq (sym n)))
 
       -- the last line, and something after it
-      pub not-finished : verdict ≡ Last → (next ≡ length text → ⊥) → whole ≡ refused 3 (line + 1)
-      not-finished v n = judged-line ∙ rw v (ending-some s (line + 1) (g .seen) (drop next text) (λ q. n (omega (arith, length-drop next text))))
+      pub not-finished : verdict ≡ Last → (next .at ≡ length text → ⊥) → whole ≡ refused 3 (next .line)
+      not-finished v n =
+          judged-line
+          ∙ rw v (ending-some s (here .line + 1) (g .seen) (drop (next .at) text) (λ q. n (omega (arith, length-drop (next .at) text, next-place, ends .feed))))
+          ∙ ap (refused 3) (sym (follows .1))
 
       module _ {i k v : ℕ} (ve : verdict ≡ AnEntry i k v) where
         abbrev entry : Entry
@@ -184,21 +192,20 @@ module _ {text : List ℕ} {from : ℕ} {s : Sizes} {room : ℕ} {st co va : Lis
 
         pub goes-on : (st′ co′ va′ : List ℕ) (n : ℕ)
             → (EntriesStored a (length co) (kept (g .seen)) count st co va → EntriesStored i (length co) (kept (entry ∷ g .seen)) n st′ co′ va′)
-            → Progress text from s room st′ co′ va′ next (line + 1) i k n
+            → Progress text from s room st′ co′ va′ next i k n
         goes-on st′ co′ va′ n store =
             let h : EntriesStored i room (kept (entry ∷ g .seen)) n st′ co′ va′ =
             subst (λ (r : ℕ). EntriesStored a r (kept (g .seen)) count st co va → EntriesStored i r (kept (entry ∷ g .seen)) n st′ co′ va′) columns-long store (g .stored) in
             let c = count-step entry (g .seen) room (λ z. omega (arith, g .stored .number, space z)) (omega (arith, g .stored .number, g .enough)) in
             let old = g .limits in
             record {
-              limits = record { place = omega arith; short = old .short; modulus = old .modulus; n-limit = old .n-limit; m-limit = old .m-limit };
+              limits = record { place = omega (arith, next-place, ends .feed); numbered = omega (arith, next-place, follows .1, old .numbered); short = old .short; modulus = old .modulus; n-limit = old .n-limit; m-limit = old .m-limit };
               seen = entry ∷ g .seen;
-              same = judged-line ∙ rw ve;
+              same = judged-line ∙ rw ve (ap (λ (m : ℕ). triples s room m (entry ∷ g .seen) rest) (sym (follows .1)));
               last-a = refl;
               last-b = refl;
               stored = h;
               row-limit = within-bounds i (s .n) (judged .row-inside) .1;
-              few = omega (arith, c, h .number, g .few, g .stored .number);
+              few = omega (arith, next-place, c, h .number, g .few, g .stored .number);
               enough = omega (arith, c, h .number);
-              line-at = omega (arith, g .line-at);
             }

@@ -6,11 +6,11 @@
 --   callOf text a b c   the answer for lists of the lengths a, b and c: 9 where one is wrong
 --   Gives x r ..        the result and the lists are what the answer x says
 --   Cleared             the lists have their lengths and are all zero
---   Limits              a place in a text that is not too long, and sizes within their limits
+--   Limits              the place and number of a line of a text that is not too long, and sizes within their limits
 --   Begins, Shows       what reading the triples starts from, and what it returns and leaves
 --   Second              what reading the second line starts from
 --   afterOpen, Bounded  what the first two lines lead to, and the limits that sizes which were read keep
-use Prim.Native.Nat.{ℕ, _≤_}
+use Prim.Native.Nat.{ℕ, _+_, _≤_}
 use mathlib.Core.Path.{_≡_}
 use mathlib.Core.List.{List, []}
 use mathlib.Core.Bool.{true, cond, _&&_}
@@ -20,6 +20,7 @@ use Rattle.lists.specs.Table.{wrongLength}
 use Rattle.lists.specs.Filled.{zeros}
 use Rattle.residue.specs.Range.{isModulus}
 use Rattle.fields.specs.Pieces.{pieces}
+use Rattle.line_reader.specs.declared.Place.{Place}
 use Rattle.call_tests.specs.Limits.{largestSize}
 use Rattle.plan_text.specs.Limits.{largestText, startsLength}
 use Rattle.plan_text.specs.Reading.{Entry, kept, ReadResult, refused, accepted, lastRow, triples, readOf}
@@ -70,15 +71,16 @@ pub record Cleared (starts columns values : List ℕ) : Type 0 where
   pub values-zero : values ≡ zeros (length columns)
 
 -- ---- the triples
--- sizes that were read, and the place of the third line
-pub record Limits (text : List ℕ) (s : Sizes) (at : ℕ) : Type 0 where
-  pub place : at ≤ length text
+-- sizes that were read, and the line to read next. Each line before it has at least its line feed, so its number fits in 32 bits
+pub record Limits (text : List ℕ) (s : Sizes) (next : Place) : Type 0 where
+  pub place : next .at ≤ length text
+  pub numbered : next .line ≤ next .at + 1
   pub short : length text ≤ largestText
   pub modulus : isModulus (s .modulus .p) ≡ true
   pub n-limit : s .n ≤ largestSize
   pub m-limit : s .m ≤ largestSize
 
-pub record Begins (text : List ℕ) (from : ℕ) (s : Sizes) (starts columns values : List ℕ) : Type 0 where
+pub record Begins (text : List ℕ) (from : Place) (s : Sizes) (starts columns values : List ℕ) : Type 0 where
   pub limits : Limits text s from
   pub cleared : Cleared starts columns values
 
@@ -88,15 +90,17 @@ Shows room (accepted s seen) r starts columns values =
     (r ≡ Read (length (kept seen)) (lastRow seen)) × EntriesStored (lastRow seen) room (kept seen) (length (kept seen)) starts columns values × (lastRow seen ≤ s .n)
 
 -- ---- the first two lines
-pub record Second (text : List ℕ) (at p : ℕ) : Type 0 where
-  pub place : at ≤ length text
+pub record Second (text : List ℕ) (second : Place) (p : ℕ) : Type 0 where
+  pub place : second .at ≤ length text
+  pub numbered : second .line ≤ second .at + 1
+  pub number-is : second .line ≡ 2
   pub short : length text ≤ largestText
   pub modulus : isModulus p ≡ true
 
 abbrev pub afterOpen : ℕ → List ℕ → Opening → ReadResult
 afterOpen room text (NotOpened c d) = refused c d
-afterOpen room text (Opened s at) = triples s room 3 [] (pieces 10 (drop at text))
+afterOpen room text (Opened s third) = triples s room (third .line) [] (pieces 10 (drop (third .at) text))
 
 abbrev pub Bounded : List ℕ → Opening → Type 0
 Bounded text (NotOpened c d) = Unit {0}
-Bounded text (Opened s at) = Limits text s at
+Bounded text (Opened s third) = Limits text s third

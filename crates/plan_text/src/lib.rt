@@ -46,9 +46,9 @@ fn fill(text: &[u8], starts: &mut [u32], columns: &mut [u32], values: &mut [u32]
 {
     match opening::open(text) {
         Opening::Refused { number, detail } => refusal(number, detail),
-        Opening::Opened { s, at } => match triples::read_triples(
+        Opening::Opened { s, third } => match triples::read_triples(
             text,
-            at,
+            third,
             s,
             starts,
             columns,

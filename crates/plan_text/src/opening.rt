@@ -9,16 +9,17 @@ ghost use Rattle.plan_text.specs.Call.{afterOpen, Bounded, Second};
 use crate::header::Header;
 use crate::judge::Sizes;
 use fields::numbers::Number;
+use line_reader::Place;
 use residue::Modulus;
 
 const LARGEST_TEXT: usize = 65536;
 
 const LARGEST_SIZE: u64 = 2048;
 
-// What the first two lines lead to: a refusal, or the sizes and the place of the third line.
+// What the first two lines lead to: a refusal, or the sizes, and the place and number of the third line.
 pub enum Opening {
     Refused { number: u32, detail: u32 },
-    Opened { s: Sizes, at: usize },
+    Opened { s: Sizes, third: Place },
 }
 
 // Whether the number of the first line is a modulus.
@@ -31,19 +32,17 @@ fn accepts(p: u64) -> bool
     residue::is_modulus(p as u32)
 }
 
-// The second line, which starts at `at`.
-fn open_second(text: &[u8], at: usize, modulus: Modulus) -> Opening
-    requires { ⌜ Second (now text) at (modulus .p) ⌝ }
-    ensures { λ r. ⌜ ((room : ℕ) → fromSecond (modulus .p) room (pieces 10 (drop at (now (text .entry)))) ≡ afterOpen room (now (text .entry)) r) × Bounded (now (text .entry)) r ⌝ }
+// The second line, whose place and number are given.
+fn open_second(text: &[u8], second: Place, modulus: Modulus) -> Opening
+    requires { ⌜ Second (now text) second (modulus .p) ⌝ }
+    ensures { λ r. ⌜ ((room : ℕ) → fromSecond (modulus .p) room (pieces 10 (drop (second .at) (now (text .entry)))) ≡ afterOpen room (now (text .entry)) r) × Bounded (now (text .entry)) r ⌝ }
 {
-    let l = line_reader::line_from(text, at, 2);
-    let e = at + l.len();
-    if e == text.len() {
-        return Opening::Refused {
-            number: 3,
-            detail: 2,
-        };
+    let detail = second.line;
+    let l = line_reader::line_from(text, second.at, second.line);
+    if second.at + l.len() == text.len() {
+        return Opening::Refused { number: 3, detail };
     }
+    let third = line_reader::next_from(text, second.at, second.line, l.len());
     match crate::header::header_of(l) {
         Header::Given { n, m } => {
             if LARGEST_SIZE < n {
@@ -64,13 +63,10 @@ fn open_second(text: &[u8], at: usize, modulus: Modulus) -> Opening
                     n: n as u32,
                     m: m as u32,
                 },
-                at: e + 1,
+                third,
             }
         }
-        Header::NotHeader => Opening::Refused {
-            number: 3,
-            detail: 2,
-        },
+        Header::NotHeader => Opening::Refused { number: 3, detail },
     }
 }
 
@@ -84,27 +80,23 @@ pub fn open(text: &[u8]) -> Opening
             detail: 0,
         };
     }
-    let l = line_reader::line_from(text, 0, 1);
-    let e = l.len();
-    if e == text.len() {
-        return Opening::Refused {
-            number: 3,
-            detail: 1,
-        };
+    let first = Place { at: 0, line: 1 };
+    let detail = first.line;
+    let l = line_reader::line_from(text, first.at, first.line);
+    if first.at + l.len() == text.len() {
+        return Opening::Refused { number: 3, detail };
     }
+    let second = line_reader::next_from(text, first.at, first.line, l.len());
     match fields::numbers::number_of(l) {
         Number::Value(p) => {
             if accepts(p) {
-                return open_second(text, e + 1, Modulus { p: p as u32 });
+                return open_second(text, second, Modulus { p: p as u32 });
             }
             Opening::Refused {
                 number: 1,
                 detail: 0,
             }
         }
-        Number::NotNumber => Opening::Refused {
-            number: 3,
-            detail: 1,
-        },
+        Number::NotNumber => Opening::Refused { number: 3, detail },
     }
 }

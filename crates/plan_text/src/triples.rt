@@ -6,6 +6,7 @@ ghost use Rattle.plan_text.specs.Reading.{triples};
 ghost use Rattle.plan_text.specs.Call.{Begins, Shows};
 use crate::judge::Sizes;
 use crate::judge::Verdict;
+use line_reader::Place;
 
 // What they come to: a refusal and its line, or the number of entries and the row of the last triple.
 pub enum TripleLines {
@@ -13,43 +14,41 @@ pub enum TripleLines {
     Read { count: u32, row: u64 },
 }
 
-// Reads the lines from the place `from` on.
+// Reads the lines from the one at `from` on.
 pub fn read_triples(
     text: &[u8],
-    from: usize,
+    from: Place,
     s: Sizes,
     starts: &mut [u32],
     columns: &mut [u32],
     values: &mut [u32],
 ) -> TripleLines
     requires { ⌜ Begins (now text) from s (now starts) (now columns) (now values) ⌝ }
-    ensures { λ r. ⌜ Shows (length (now (columns .entry))) (triples s (length (now (columns .entry))) 3 [] (pieces 10 (drop from (now (text .entry))))) r (now (starts .exit)) (now (columns .exit)) (now (values .exit)) ⌝ }
+    ensures { λ r. ⌜ Shows (length (now (columns .entry))) (triples s (length (now (columns .entry))) (from .line) [] (pieces 10 (drop (from .at) (now (text .entry))))) r (now (starts .exit)) (now (columns .exit)) (now (values .exit)) ⌝ }
 {
     let room = columns.len();
-    let mut at = from;
-    let mut line: u32 = 3;
+    let mut here = from;
     let mut a: u64 = 0;
     let mut b: u64 = 0;
     let mut count: u32 = 0;
-    while at < text.len() {
-        let l = line_reader::line_from(text, at, line as usize);
-        let e = at + l.len();
-        if e == text.len() {
+    while here.at < text.len() {
+        let line = here.line;
+        let l = line_reader::line_from(text, here.at, line);
+        if here.at + l.len() == text.len() {
             return TripleLines::Refused { number: 3, line };
         }
+        let next = line_reader::next_from(text, here.at, line, l.len());
         let verdict = crate::judge::judge_after(a, b, room <= count as usize, s, l);
         match verdict {
             Verdict::Refused(number) => {
                 return TripleLines::Refused { number, line };
             }
             Verdict::Last => {
-                if e + 1 == text.len() {
+                if next.at == text.len() {
                     return TripleLines::Read { count, row: a };
                 }
-                return TripleLines::Refused {
-                    number: 3,
-                    line: line + 1,
-                };
+                let line = next.line;
+                return TripleLines::Refused { number: 3, line };
             }
             Verdict::Entry { i, j, v } => {
                 count = crate::filling::store(starts, columns, values, count, a, i, j, v);
@@ -57,8 +56,8 @@ pub fn read_triples(
                 b = j;
             }
         }
-        at = e + 1;
-        line += 1;
+        here = next;
     }
+    let line = here.line;
     TripleLines::Refused { number: 3, line }
 }

@@ -8,6 +8,7 @@ use borrow.Author.Needs.{needs}
 use Rattle.lists.specs.Filled.{zeros}
 use Rattle.lists.proofs.Filled.{length-zeros}
 use Rattle.fields.specs.Pieces.{Pieces, pieces}
+use Rattle.line_reader.specs.declared.Place.{Place}
 use Rattle.plan_text.specs.declared.judge.Sizes.{Sizes}
 use Rattle.plan_text.specs.declared.opening.Opening.{Opening}
 use Rattle.plan_text.specs.Limits.{startsLength}
@@ -21,18 +22,21 @@ use Rattle.plan_text.proofs.fill.Tie as tie
 limits : (c : tie.After-s) → Limits (now (c .before .before .before .before .before .before .before .args .text)) (c .s .given .0 .0) (c .s .given .0 .1 .0)
 limits c = subst (λ (o : Opening). Bounded (now (c .before .before .before .before .before .before .before .args .text)) o) (c .s .given .1) (c .before .before .open .ensures .1)
 
--- after the triples: the sizes, the room, the lines from the third one on, and what they come to
+-- after the triples: the sizes, the room, the place and number of the third line, the lines from there on, and what they come to
 abbrev sizes : tie.After-read-triples → Sizes
 sizes c = c .before .before .before .before .before .s .given .0 .0
 
 abbrev room : tie.After-read-triples → ℕ
 room c = length (now (c .before .before .before .before .before .before .before .before .before .before .before .before .args .columns))
 
+abbrev third : tie.After-read-triples → Place
+third c = c .before .before .before .before .before .s .given .0 .1 .0
+
 abbrev rest : tie.After-read-triples → Pieces
-rest c = pieces 10 (drop (c .before .before .before .before .before .s .given .0 .1 .0) (now (c .before .before .before .before .before .before .before .before .before .before .before .before .args .text)))
+rest c = pieces 10 (drop (third c .at) (now (c .before .before .before .before .before .before .before .before .before .before .before .before .args .text)))
 
 abbrev come-to : tie.After-read-triples → ReadResult
-come-to c = triples (sizes c) (room c) 3 [] (rest c)
+come-to c = triples (sizes c) (room c) (third c .line) [] (rest c)
 
 -- the whole text is read as they are
 whole : (c : tie.After-read-triples) → readOf (room c) (now (c .before .before .before .before .before .before .before .before .before .before .before .before .args .text)) ≡ come-to c
@@ -80,7 +84,7 @@ cast-extend-starts c = search needs
 extend-starts-requires : tie.Need-extend-starts-requires
 extend-starts-requires c κs =
     let t = c .before .before .before .before .before .before .before .before .before .before .before in
-    extendable (sizes t) (room t) (rest t) _ _ _ _ _ _ (c .before .before .before .count .given .1) (limits (t .before .before .before .before .before) .n-limit) (come-to t) refl (shown t)
+    extendable (sizes t) (room t) (third t .line) (rest t) _ _ _ _ _ _ (c .before .before .before .count .given .1) (limits (t .before .before .before .before .before) .n-limit) (come-to t) refl (shown t)
 
 returns : tie.Need-returns
 returns c =
@@ -122,7 +126,7 @@ returns-3 : tie.Need-returns-3
 returns-3 c =
     let t = c .before .before .before .before .before .before .before .before .before .before .before .before .before .before in
     rw (whole t)
-    (gives-read (sizes t) (room t) (rest t) _ _ _ _ _ _ (c .before .before .before .before .before .before .count .given .1) (limits (t .before .before .before .before .before) .n-limit) (come-to t) refl (shown t) _ (c .before .before .extend-starts .ensures))
+    (gives-read (sizes t) (room t) (third t .line) (rest t) _ _ _ _ _ _ (c .before .before .before .before .before .before .count .given .1) (limits (t .before .before .before .before .before) .n-limit) (come-to t) refl (shown t) _ (c .before .before .extend-starts .ensures))
 
 pub fill-spec : {M : Type 1} → statement M
 fill-spec =
