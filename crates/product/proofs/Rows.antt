@@ -17,10 +17,13 @@ use Rattle.algebra.specs.Congruence.{_≈⟨_⟩_}
 use Rattle.algebra.specs.Matrix.{Vector, Matrix}
 use Rattle.algebra.specs.Sum.{dot}
 use Rattle.algebra.proofs.Congruence.{exact, turn, _⊙_, _⊕_, same-refl, minus}
-use Rattle.sparse.specs.Row.{Below}
+use Rattle.sparse.specs.Matrix.{Compressed, rowOf, matrix, form}
+use Rattle.sparse.specs.Row.{Below, weigh, entry}
 use Rattle.sparse.specs.WorkingRow.{Subtracted}
-use Rattle.sparse.proofs.Subtraction.{subtracted-ext}
+use Rattle.sparse.proofs.Entries.{weigh-dot, row-columns}
+use Rattle.sparse.proofs.Rows.{form-row}
 use Rattle.pluq.specs.Judge.{agrees}
+use Rattle.product.specs.Combination.{isCombination}
 use Rattle.product.specs.Sweep.{TestedAndCleared}
 
 -- ---- tests
@@ -55,33 +58,28 @@ eqb-same a b c d h g = go (eqb a b) refl
 
 -- ---- the test of a row
 
--- from a row of zeros, the product taken away and A's row added: all cells stand for 0 exactly if they agree
-row-agrees : (p m r : ℕ) (A : Matrix) (R : Vector) (L U : Matrix) (i : ℕ) (w₀ w : List ℕ) → 1 ≤ p → length w₀ ≡ m → w₀ ≡ zeros (length w₀)
-    → Subtracted p (λ j. (p - 1) * A (R i) j + dot r (L i) (λ k. U k j)) w₀ w
-    → all m (λ j. eqb (getD w j 0 % p) 0) ≡ agrees p m r A R L U i
-unfolding agrees
-row-agrees p m r A R L U i w₀ w pos long none d =
-    all-same m (λ j. eqb (getD w j 0 % p) 0) (λ j. eqb (A (R i) j % p) (dot r (L i) (λ k. U k j) % p))
-    (λ j h. eqb-same (getD w j 0 % p) 0 (A (R i) j % p) (dot r (L i) (λ k. U k j) % p) (there j h) (back j h))
+-- from a row of zeros, b taken away and a added: all cells stand for 0 exactly if a is b modulo p
+row-agrees : (p m : ℕ) (a b : Vector) (w₀ w : List ℕ) → 1 ≤ p → length w₀ ≡ m → w₀ ≡ zeros (length w₀)
+    → Subtracted p (λ j. (p - 1) * a j + b j) w₀ w
+    → all m (λ j. eqb (getD w j 0 % p) 0) ≡ all m (λ j. eqb (a j % p) (b j % p))
+row-agrees p m a b w₀ w pos long none d =
+    all-same m (λ j. eqb (getD w j 0 % p) 0) (λ j. eqb (a j % p) (b j % p))
+    (λ j h. eqb-same (getD w j 0 % p) 0 (a j % p) (b j % p) (there j h) (back j h))
   where
-    whole : (j : ℕ) → j < m → getD w j 0 + ((p - 1) * A (R i) j + dot r (L i) (λ k. U k j)) ≈⟨ p ⟩ 0
+    whole : (j : ℕ) → j < m → getD w j 0 + ((p - 1) * a j + b j) ≈⟨ p ⟩ 0
     whole j h = d .cells j (omega arith) ⊙ exact (ap (λ (l : List ℕ). getD l j 0) none ∙ zeros-at (length w₀) j)
 
-    there : (j : ℕ) → j < m → getD w j 0 % p ≡ 0 → A (R i) j % p ≡ dot r (L i) (λ k. U k j) % p
+    there : (j : ℕ) → j < m → getD w j 0 % p ≡ 0 → a j % p ≡ b j % p
     there j h e =
-        let a = A (R i) j in
-        let s = dot r (L i) (λ k. U k j) in
         let z : getD w j 0 ≈⟨ p ⟩ 0 = record { same = e ∙ sym (zero-mod p) } in
-        let q : (p - 1) * a + s ≈⟨ p ⟩ 0 = exact (omega arith) ⊙ turn z ⊕ same-refl ((p - 1) * a + s) ⊙ whole j h in
-        let f : a ≈⟨ p ⟩ s = exact (omega arith) ⊙ turn q ⊕ same-refl a ⊙ exact (omega arith) ⊙ minus s a pos in
+        let q : (p - 1) * a j + b j ≈⟨ p ⟩ 0 = exact (omega arith) ⊙ turn z ⊕ same-refl ((p - 1) * a j + b j) ⊙ whole j h in
+        let f : a j ≈⟨ p ⟩ b j = exact (omega arith) ⊙ turn q ⊕ same-refl (a j) ⊙ exact (omega arith) ⊙ minus (b j) (a j) pos in
         f .same
 
-    back : (j : ℕ) → j < m → A (R i) j % p ≡ dot r (L i) (λ k. U k j) % p → getD w j 0 % p ≡ 0
+    back : (j : ℕ) → j < m → a j % p ≡ b j % p → getD w j 0 % p ≡ 0
     back j h e =
-        let a = A (R i) j in
-        let s = dot r (L i) (λ k. U k j) in
-        let f : a ≈⟨ p ⟩ s = record { same = e } in
-        let q : (p - 1) * a + s ≈⟨ p ⟩ 0 = same-refl ((p - 1) * a) ⊕ turn f ⊙ exact (omega arith) ⊙ minus 0 a pos in
+        let f : a j ≈⟨ p ⟩ b j = record { same = e } in
+        let q : (p - 1) * a j + b j ≈⟨ p ⟩ 0 = same-refl ((p - 1) * a j) ⊕ turn f ⊙ exact (omega arith) ⊙ minus 0 (a j) pos in
         let z : getD w j 0 ≈⟨ p ⟩ 0 = exact (omega arith) ⊙ same-refl (getD w j 0) ⊕ turn q ⊙ whole j h in
         z .same ∙ zero-mod p
 
@@ -141,13 +139,32 @@ scanning-turn n t w₀ w w′ i b h e q l s =
 pub zero-below : (p : ℕ) (w : List ℕ) → 0 < p → w ≡ zeros (length w) → Below (p * p) w
 zero-below p w h z i g = omega (arith, ap (λ (l : List ℕ). getD l i 0) z ∙ zeros-at (length w) i, mul-le-mul-left {m = 1} {n = p} p h)
 
--- the row tested and cleared: whether A's row k = R[i] is row i of the product, and the row is as it was first
-pub cleared-agrees : (p r : ℕ) (A : Matrix) (R : Vector) (L U : Matrix) (i k : ℕ) (w₀ w w′ : List ℕ) (z : Bool) → 1 ≤ p → w₀ ≡ zeros (length w₀) → k ≡ R i
-    → Subtracted p (λ j. (p - 1) * A k j + dot r (L i) (λ u. U u j)) w₀ w → TestedAndCleared p w w′ z → (z ≡ agrees p (length w₀) r A R L U i) × (w′ ≡ w₀)
-cleared-agrees p r A R L U i k w₀ w w′ z pos none e d t = (
+-- the row tested and cleared: whether the two rows are one, and the working row is as it was first
+pub cleared-combination : (p : ℕ) (cols vals ks vs : List ℕ) (U : Matrix) (w₀ w w′ : List ℕ) (z : Bool) → 1 ≤ p → w₀ ≡ zeros (length w₀)
+    → Subtracted p (λ j. (p - 1) * entry cols vals j + weigh ks vs (λ k. U k j)) w₀ w → TestedAndCleared p w w′ z
+    → (z ≡ isCombination p (length w₀) cols vals ks vs U) × (w′ ≡ w₀)
+unfolding isCombination
+cleared-combination p cols vals ks vs U w₀ w w′ z pos none d t = (
   t .tested
       ∙ ap (λ (n : ℕ). all n (λ j. eqb (getD w j 0 % p) 0)) (d .long)
-      ∙ row-agrees p (length w₀) r A R L U i w₀ w pos refl none
-      (subtracted-ext p (λ j. (p - 1) * A k j + dot r (L i) (λ u. U u j)) (λ j. (p - 1) * A (R i) j + dot r (L i) (λ u. U u j)) w₀ w (λ j. ap (λ (x : ℕ). (p - 1) * A x j + dot r (L i) (λ u. U u j)) e) d),
+      ∙ row-agrees p (length w₀) (entry cols vals) (λ j. weigh ks vs (λ k. U k j)) w₀ w pos refl none d,
   t .cleared ∙ ap zeros (d .long) ∙ sym none,
 )
+
+-- rows that are A's row R[i] and L's row i: whether they agree
+pub combination-agrees : (p m r : ℕ) (A : Compressed) (R : Vector) (L : Compressed) (U : Matrix) (i k : ℕ) (cols vals ks vs : List ℕ) → form p r L ≡ true → k ≡ R i
+    → cols ≡ rowOf (A .starts) k (A .cols) → vals ≡ rowOf (A .starts) k (A .vals) → ks ≡ rowOf (L .starts) i (L .cols) → vs ≡ rowOf (L .starts) i (L .vals)
+    → isCombination p m cols vals ks vs U ≡ agrees p m r (matrix A) R (matrix L) U i
+unfolding isCombination agrees
+combination-agrees p m r A R L U i k cols vals ks vs f e ec ev ek es =
+    all-same m (λ j. eqb (entry cols vals j % p) (weigh ks vs (λ u. U u j) % p)) (λ j. eqb (matrix A (R i) j % p) (dot r (matrix L i) (λ u. U u j) % p))
+    (λ j h. λ x. eqb (own j x % p) (product j x % p))
+  where
+    own : (j : ℕ) → entry cols vals j ≡ matrix A (R i) j
+    own j = (λ x. entry (ec x) (ev x) j) ∙ ap (λ (u : ℕ). matrix A u j) e
+
+    product : (j : ℕ) → weigh ks vs (λ u. U u j) ≡ dot r (matrix L i) (λ u. U u j)
+    product j =
+        (λ x. weigh (ek x) (es x) (λ u. U u j))
+        ∙ weigh-dot r (rowOf (L .starts) i (L .cols)) (rowOf (L .starts) i (L .vals)) (λ u. U u j)
+        (row-columns p r (rowOf (L .starts) i (L .cols)) (rowOf (L .starts) i (L .vals)) (form-row p r (L .starts) (L .cols) (L .vals) f i))
