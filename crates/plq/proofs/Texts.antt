@@ -55,7 +55,7 @@ use Rattle.write_calls.proofs.Theorems.{write-room}
 use Rattle.factoring.specs.Outcome as Outcomes
 use Rattle.stages.specs.Stages.{reading, readOutcome, factoredOf, factorOutcome, setIn}
 use Rattle.stages.specs.Meaning.{factorsOf, FitsAll}
-use Rattle.stages.proofs.Reads.{reading-good, outcome-passed, reading-numbers, firstRow, wholeSet, fits-all, factored-is, factored-whole, factored-over}
+use Rattle.stages.proofs.ReadText.{reading-good, outcome-passed, reading-numbers, firstRow, wholeSet, fits-all, factored-is, factored-whole, factored-over}
 use Rattle.plq.specs.Calls.{checkReadOf, checkTextOf, makeReadOf, makeTextOf, certificateFor, packed, Makes}
 use Rattle.plq.specs.Meaning.{ownCertificate, Made, TextPasses, PackedFrom}
 use Rattle.plq.proofs.Own.{factors-pass}

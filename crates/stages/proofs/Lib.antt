@@ -4,4 +4,4 @@ pub mod Lending
 pub mod Rows
 pub mod Counts
 pub mod Factored
-pub mod Reads
+pub mod ReadText
