@@ -3,13 +3,19 @@
 --   factors-checked        stored factors that passed
 --   certificate-checked    the set of a certificate that passed
 --   checked-ready          such a set is ready to answer
+--   SetTest .. X           a check of a set: it passes exactly X, it refuses by 9, 1, 2, 8 or 10 to 14, and what passes is `Checked`
+--   stored-test            the check of stored factors
+--   bytes-test             the check of a certificate
 use mathlib.Core.Path.{_≡_}
+use mathlib.Core.Logic.{_↔_}
 use mathlib.Core.Bool.{true}
-use mathlib.Core.List.{List}
+use mathlib.Core.List.{List, _++_}
 use Prim.Native.Nat.{ℕ, _≤_}
 use native.Mathlib.Omega.{arith}
+use Rattle.lists.specs.Table.{planFaults, setFaults}
+use Rattle.lists.specs.declared.Outcome.{Outcome}
 use Rattle.lists.specs.declared.Outcome.the-variants.{Passed}
-use Rattle.lists.proofs.Refusals.{both-passed}
+use Rattle.lists.proofs.Refusals.{RefusedBy, both-passed}
 use Rattle.algebra.specs.Prime.{Prime}
 use Rattle.residue.proofs.Primes.{modulus-prime}
 use Rattle.sparse.specs.Matrix.{Compressed}
@@ -21,7 +27,9 @@ use Rattle.certificate.proofs.Passed.{passed-sized}
 use Rattle.answers.specs.Answering.{SetReady}
 use Rattle.answers.proofs.Passed.{passed-ready}
 use Rattle.check_calls.specs.Calls.{factorsOutcome, certificateOutcome, checkFactorsOf, checkCertificateOf}
+use Rattle.check_calls.specs.Passing.{StoredPasses, CertificatePasses}
 use Rattle.check_calls.proofs.Tested.{factors-good, certificate-good}
+use Rattle.check_calls.proofs.Theorems.{factors-exactly, factors-numbers, certificate-exactly, certificate-numbers}
 
 pub record Checked (p n m : ℕ) (A : Compressed) (s : Set) (w : ℕ) : Type 0 where
   pub prime : Prime p
@@ -53,3 +61,29 @@ module _ (p n m : ℕ) (A : Compressed) (w : ℕ) where
 
 pub checked-ready : (p n m : ℕ) (A : Compressed) (s : Set) (w : ℕ) → Checked p n m A s w → SetReady p n m s
 checked-ready p n m A s w c = let z = c .sized in passed-ready p n m A s (c .prime) (z .row-order) (z .column-order) (z .lower-starts) (z .upper-starts) (c .judged)
+
+-- ---- the two checks, with what they pass
+
+pub record SetTest (p n m : ℕ) (A : Compressed) (s : Set) (w : ℕ) (X : Type 0) : Type 0 where
+  pub check : Outcome
+  pub exactly : (check ≡ Passed) ↔ X
+  pub numbers : RefusedBy (planFaults ++ setFaults) check
+  pub checked : check ≡ Passed → Checked p n m A s w
+
+abbrev pub stored-test : (p n m : ℕ) (A : Compressed) (s : Set) (w : ℕ) → SetTest p n m A s w (StoredPasses p n m A s w)
+stored-test p n m A s w =
+    record {
+      check = checkFactorsOf p n m A s w;
+      exactly = factors-exactly p n m A s w;
+      numbers = factors-numbers p n m A s w;
+      checked = factors-checked p n m A w s;
+    }
+
+abbrev pub bytes-test : (p n m : ℕ) (A : Compressed) (cert : List ℕ) (w : ℕ) → SetTest p n m A (setOfCertificate n m cert) w (CertificatePasses p n m A cert w)
+bytes-test p n m A cert w =
+    record {
+      check = checkCertificateOf p n m A cert w;
+      exactly = certificate-exactly p n m A cert w;
+      numbers = certificate-numbers p n m A cert w;
+      checked = certificate-checked p n m A w cert;
+    }

@@ -42,13 +42,12 @@ use Rattle.certificate.specs.Layout.{Sized}
 use Rattle.certificate.specs.Reading.{headerOk, setOfCertificate}
 use Rattle.call_tests.specs.Limits.{workLength}
 use Rattle.call_tests.specs.Accepted.{GoodPlan}
-use Rattle.check_calls.specs.Calls.{checkFactorsOf, checkCertificateOf}
 use Rattle.check_calls.specs.Passing.{StoredPasses, CertificatePasses}
-use Rattle.check_calls.proofs.Theorems.{factors-exactly, factors-numbers, factors-none, certificate-exactly, certificate-numbers, certificate-none}
+use Rattle.check_calls.proofs.Theorems.{factors-none, certificate-none}
 use Rattle.answer_calls.specs.Calls.{answerNumber, answerOf, questionLengths, questionAfter, given, answerFactorsOf, answerCertificateOf, Answers}
 use Rattle.answer_calls.specs.Meaning.{Askable, LeftOpen, LeftClosed, AnswersRight}
 use Rattle.answer_calls.specs.declared.Answer.{Answer}
-use Rattle.answer_calls.proofs.Checked.{Checked, factors-checked, certificate-checked}
+use Rattle.answer_calls.proofs.Checked.{Checked, SetTest, stored-test, bytes-test}
 use Rattle.answer_calls.proofs.Ways.{asked-parts}
 
 -- ---- verdicts and answers
@@ -96,21 +95,20 @@ faults = (wrongLength ∷ []) ++ ((planFaults ++ setFaults) ++ (questionTooLarge
 
 -- ---- for any check of a set, which passes exactly X
 
-module _ (check : Outcome) (X : Type 0) (exactly : (check ≡ Outcome.Passed) ↔ X) (numbers : RefusedBy (planFaults ++ setFaults) check)
-    (p n m : ℕ) (A : Compressed) (s : Set) (y : List ℕ) (r : Answer) (x₀ x z₀ z w₀ w : List ℕ) (checked : check ≡ Outcome.Passed → Checked p n m A s (length w₀))
-    (call : Answers (given (questionAfter check p n m y (length x₀) (length z₀)) (solve p n m s (vector y))) r x₀ x z₀ z w₀ w) where
+module _ (X : Type 0) (p n m : ℕ) (A : Compressed) (s : Set) (y : List ℕ) (r : Answer) (x₀ x z₀ z w₀ w : List ℕ) (t : SetTest p n m A s (length w₀) X)
+    (call : Answers (given (questionAfter (t .check) p n m y (length x₀) (length z₀)) (solve p n m s (vector y))) r x₀ x z₀ z w₀ w) where
   abbrev solved : Solved
   solved = solve p n m s (vector y)
 
   abbrev asked : Outcome
-  asked = questionAfter check p n m y (length x₀) (length z₀)
+  asked = questionAfter (t .check) p n m y (length x₀) (length z₀)
 
   asked-numbers : RefusedBy faults asked
   unfolding questionAfter among
   asked-numbers =
-      refused-then (9 ∷ []) ((planFaults ++ setFaults) ++ (15 ∷ [])) (unless (questionLengths n m y (length x₀) (length z₀)) 9 0) (check ▷ questionOutcome p y)
+      refused-then (9 ∷ []) ((planFaults ++ setFaults) ++ (15 ∷ [])) (unless (questionLengths n m y (length x₀) (length z₀)) 9 0) (t .check ▷ questionOutcome p y)
       (refused-unless (9 ∷ []) (questionLengths n m y (length x₀) (length z₀)) 9 0 refl)
-      (refused-then (planFaults ++ setFaults) (15 ∷ []) check (questionOutcome p y) numbers (question-numbers p y))
+      (refused-then (planFaults ++ setFaults) (15 ∷ []) (t .check) (questionOutcome p y) (t .numbers) (question-numbers p y))
 
   number-is : answerNumber r ≡ numberOf asked
   number-is = call .number ∙ ap numberOf (given-outcome asked solved)
@@ -128,12 +126,12 @@ module _ (check : Outcome) (X : Type 0) (exactly : (check ≡ Outcome.Passed) �
   unfolding questionAfter
   answered = (
     (λ e.
-        let (long, judged, small) = asked-parts check p n m y (length x₀) (length z₀) (asked-passed .0 e) in
-        (exactly .0 judged, record { values = long .values; rows = long .rows; columns = long .columns; residues = question-passed p y small })),
+        let (long, judged, small) = asked-parts (t .check) p n m y (length x₀) (length z₀) (asked-passed .0 e) in
+        (t .exactly .0 judged, record { values = long .values; rows = long .rows; columns = long .columns; residues = question-passed p y small })),
     λ h.
         asked-passed .1
-        (unless-holds (questionLengths n m y (length x₀) (length z₀)) 9 0 (check ▷ questionOutcome p y) (askable-lengths p n m y (length x₀) (length z₀) (h .1))
-        (after-passed check (questionOutcome p y) (exactly .1 (h .0)) ∙ question-holds p y (h .1 .residues))),
+        (unless-holds (questionLengths n m y (length x₀) (length z₀)) 9 0 (t .check ▷ questionOutcome p y) (askable-lengths p n m y (length x₀) (length z₀) (h .1))
+        (after-passed (t .check) (questionOutcome p y) (t .exactly .1 (h .0)) ∙ question-holds p y (h .1 .residues))),
   )
 
   cleared : ¬ (answerNumber r ≡ 0) → (x ≡ zeros (length x₀)) × (z ≡ zeros (length z₀))
@@ -146,12 +144,12 @@ module _ (check : Outcome) (X : Type 0) (exactly : (check ≡ Outcome.Passed) �
         call .z-is ∙ ap (λ (o : Outcome). filled (length z₀) (given o solved .z)) e ∙ filled-none (length z₀),
       )
 
-  -- what follows the check gives none of its numbers
-  judged-none : (Y : Type 0) → Askable p n m y (length x₀) (length z₀) → ((among (numberOf (check ▷ questionOutcome p y)) setFaults ≡ false) ↔ Y) → (among (answerNumber r) setFaults ≡ false) ↔ Y
+  -- what follows the check gives none of its (t .numbers)
+  judged-none : (Y : Type 0) → Askable p n m y (length x₀) (length z₀) → ((among (numberOf (t .check ▷ questionOutcome p y)) setFaults ≡ false) ↔ Y) → (among (answerNumber r) setFaults ≡ false) ↔ Y
   unfolding questionAfter
   judged-none Y h k =
       subst (λ (i : ℕ). (among i setFaults ≡ false) ↔ Y)
-      (sym (number-is ∙ ap (λ (b : Bool). numberOf (unless b 9 0 ▷ check ▷ questionOutcome p y)) (askable-lengths p n m y (length x₀) (length z₀) h))) k
+      (sym (number-is ∙ ap (λ (b : Bool). numberOf (unless b 9 0 ▷ (t .check) ▷ questionOutcome p y)) (askable-lengths p n m y (length x₀) (length z₀) h))) k
 
   -- ---- the answer
 
@@ -163,7 +161,7 @@ module _ (check : Outcome) (X : Type 0) (exactly : (check ≡ Outcome.Passed) �
     ask = answered .0 done .1
 
     c : Checked p n m A s (length w₀)
-    c = checked (asked-parts check p n m y (length x₀) (length z₀) passed .1)
+    c = t .checked (asked-parts (t .check) p n m y (length x₀) (length z₀) passed .1)
 
     inside : (j : ℕ) → j < m → vector y j < p
     inside j h = ask .residues j (omega (arith, ask .values))
@@ -226,26 +224,26 @@ module _ (p n m : ℕ) (A : Compressed) (s : Set) (y : List ℕ) (r : Answer) (x
   pub stored-answered : (answerNumber r ≡ 0) ↔ (StoredPasses p n m A s (length w₀) × Askable p n m y (length x₀) (length z₀))
   unfolding answerFactorsOf
   stored-answered =
-      answered (checkFactorsOf p n m A s (length w₀)) _ (factors-exactly p n m A s (length w₀)) (factors-numbers p n m A s (length w₀)) p n m A s y r x₀ x z₀ z w₀ w (factors-checked p n m A (length w₀) s) call
+      answered _ p n m A s y r x₀ x z₀ z w₀ w (stored-test p n m A s (length w₀)) call
 
   pub stored-right : answerNumber r ≡ 0 → AnswersRight p n m A s y r x z
   unfolding answerFactorsOf
   stored-right =
-      right (checkFactorsOf p n m A s (length w₀)) _ (factors-exactly p n m A s (length w₀)) (factors-numbers p n m A s (length w₀)) p n m A s y r x₀ x z₀ z w₀ w (factors-checked p n m A (length w₀) s) call
+      right _ p n m A s y r x₀ x z₀ z w₀ w (stored-test p n m A s (length w₀)) call
 
   pub stored-by : NumberFrom faults (answerNumber r)
   unfolding answerFactorsOf
-  stored-by = by (checkFactorsOf p n m A s (length w₀)) _ (factors-exactly p n m A s (length w₀)) (factors-numbers p n m A s (length w₀)) p n m A s y r x₀ x z₀ z w₀ w (factors-checked p n m A (length w₀) s) call
+  stored-by = by _ p n m A s y r x₀ x z₀ z w₀ w (stored-test p n m A s (length w₀)) call
 
   pub stored-cleared : ¬ (answerNumber r ≡ 0) → (x ≡ zeros (length x₀)) × (z ≡ zeros (length z₀))
   unfolding answerFactorsOf
   stored-cleared =
-      cleared (checkFactorsOf p n m A s (length w₀)) _ (factors-exactly p n m A s (length w₀)) (factors-numbers p n m A s (length w₀)) p n m A s y r x₀ x z₀ z w₀ w (factors-checked p n m A (length w₀) s) call
+      cleared _ p n m A s y r x₀ x z₀ z w₀ w (stored-test p n m A s (length w₀)) call
 
   pub stored-judged : GoodPlan p n m A → Sized n m s → length w₀ ≡ workLength → Askable p n m y (length x₀) (length z₀) → (among (answerNumber r) setFaults ≡ false) ↔ Passes p n m A s
   unfolding answerFactorsOf
   stored-judged g t l h =
-      judged-none (checkFactorsOf p n m A s (length w₀)) _ (factors-exactly p n m A s (length w₀)) (factors-numbers p n m A s (length w₀)) p n m A s y r x₀ x z₀ z w₀ w (factors-checked p n m A (length w₀) s) call (Passes p n m A s) h
+      judged-none _ p n m A s y r x₀ x z₀ z w₀ w (stored-test p n m A s (length w₀)) call (Passes p n m A s) h
       (factors-none p n m A s (length w₀) g t l (questionOutcome p y) (question-none p y))
 
 -- ---- from a certificate
@@ -258,27 +256,27 @@ module _ (p n m : ℕ) (A : Compressed) (cert y : List ℕ) (r : Answer) (x₀ x
   pub bytes-answered : (answerNumber r ≡ 0) ↔ (CertificatePasses p n m A cert (length w₀) × Askable p n m y (length x₀) (length z₀))
   unfolding answerCertificateOf
   bytes-answered =
-      answered (checkCertificateOf p n m A cert (length w₀)) _ (certificate-exactly p n m A cert (length w₀)) (certificate-numbers p n m A cert (length w₀)) p n m A set y r x₀ x z₀ z w₀ w (certificate-checked p n m A (length w₀) cert) call
+      answered _ p n m A set y r x₀ x z₀ z w₀ w (bytes-test p n m A cert (length w₀)) call
 
   pub bytes-right : answerNumber r ≡ 0 → AnswersRight p n m A set y r x z
   unfolding answerCertificateOf
   bytes-right =
-      right (checkCertificateOf p n m A cert (length w₀)) _ (certificate-exactly p n m A cert (length w₀)) (certificate-numbers p n m A cert (length w₀)) p n m A set y r x₀ x z₀ z w₀ w (certificate-checked p n m A (length w₀) cert) call
+      right _ p n m A set y r x₀ x z₀ z w₀ w (bytes-test p n m A cert (length w₀)) call
 
   pub bytes-by : NumberFrom faults (answerNumber r)
   unfolding answerCertificateOf
   bytes-by =
-      by (checkCertificateOf p n m A cert (length w₀)) _ (certificate-exactly p n m A cert (length w₀)) (certificate-numbers p n m A cert (length w₀)) p n m A set y r x₀ x z₀ z w₀ w (certificate-checked p n m A (length w₀) cert) call
+      by _ p n m A set y r x₀ x z₀ z w₀ w (bytes-test p n m A cert (length w₀)) call
 
   pub bytes-cleared : ¬ (answerNumber r ≡ 0) → (x ≡ zeros (length x₀)) × (z ≡ zeros (length z₀))
   unfolding answerCertificateOf
   bytes-cleared =
-      cleared (checkCertificateOf p n m A cert (length w₀)) _ (certificate-exactly p n m A cert (length w₀)) (certificate-numbers p n m A cert (length w₀)) p n m A set y r x₀ x z₀ z w₀ w (certificate-checked p n m A (length w₀) cert) call
+      cleared _ p n m A set y r x₀ x z₀ z w₀ w (bytes-test p n m A cert (length w₀)) call
 
   pub bytes-judged : GoodPlan p n m A → length w₀ ≡ workLength → Askable p n m y (length x₀) (length z₀) → (among (answerNumber r) setFaults ≡ false) ↔ ((headerOk p n m cert ≡ true) × Passes p n m A set)
   unfolding answerCertificateOf
   bytes-judged g l h =
-      judged-none (checkCertificateOf p n m A cert (length w₀)) _ (certificate-exactly p n m A cert (length w₀)) (certificate-numbers p n m A cert (length w₀)) p n m A set y r x₀ x z₀ z w₀ w (certificate-checked p n m A (length w₀) cert) call
+      judged-none _ p n m A set y r x₀ x z₀ z w₀ w (bytes-test p n m A cert (length w₀)) call
       ((headerOk p n m cert ≡ true) × Passes p n m A set) h
       (certificate-none p n m A cert (length w₀) g l (questionOutcome p y) (question-none p y))
 

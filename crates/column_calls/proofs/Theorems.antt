@@ -30,10 +30,9 @@ use Rattle.certificate.specs.Layout.{Sized}
 use Rattle.certificate.specs.Reading.{headerOk, setOfCertificate}
 use Rattle.call_tests.specs.Limits.{workLength}
 use Rattle.call_tests.specs.Accepted.{GoodPlan}
-use Rattle.check_calls.specs.Calls.{checkFactorsOf, checkCertificateOf}
 use Rattle.check_calls.specs.Passing.{StoredPasses, CertificatePasses}
-use Rattle.check_calls.proofs.Theorems.{factors-exactly, factors-numbers, factors-none, certificate-exactly, certificate-numbers, certificate-none}
-use Rattle.answer_calls.proofs.Checked.{Checked, factors-checked, certificate-checked}
+use Rattle.check_calls.proofs.Theorems.{factors-none, certificate-none}
+use Rattle.answer_calls.proofs.Checked.{Checked, SetTest, stored-test, bytes-test}
 use Rattle.column_calls.specs.Calls.{columnsAfter, listed, openFactorsOf, openCertificateOf, Lists}
 use Rattle.column_calls.specs.Meaning.{MarksOpen}
 
@@ -51,18 +50,17 @@ faults = (wrongLength ∷ []) ++ (planFaults ++ setFaults)
 
 -- ---- for any check of a set, which passes exactly X
 
-module _ (check : Outcome) (X : Type 0) (exactly : (check ≡ Passed) ↔ X) (numbers : RefusedBy (planFaults ++ setFaults) check)
-    (p n m : ℕ) (A : Compressed) (s : Set) (r : Outcome) (l₀ l w₀ w : List ℕ) (checked : check ≡ Passed → Checked p n m A s (length w₀))
-    (call : Lists (listed (columnsAfter check m (length l₀)) (openColumns p m s)) r l₀ l w₀ w) where
+module _ (X : Type 0) (p n m : ℕ) (A : Compressed) (s : Set) (r : Outcome) (l₀ l w₀ w : List ℕ) (t : SetTest p n m A s (length w₀) X)
+    (call : Lists (listed (columnsAfter (t .check) m (length l₀)) (openColumns p m s)) r l₀ l w₀ w) where
   abbrev after : Outcome
-  after = columnsAfter check m (length l₀)
+  after = columnsAfter (t .check) m (length l₀)
 
   outcome-is : r ≡ after
   outcome-is = call .outcome ∙ listed-outcome after (openColumns p m s)
 
   after-numbers : RefusedBy faults after
   unfolding columnsAfter among
-  after-numbers = refused-then (9 ∷ []) (planFaults ++ setFaults) (unless (eqb (length l₀) m) 9 0) check (refused-unless (9 ∷ []) (eqb (length l₀) m) 9 0 refl) numbers
+  after-numbers = refused-then (9 ∷ []) (planFaults ++ setFaults) (unless (eqb (length l₀) m) 9 0) (t .check) (refused-unless (9 ∷ []) (eqb (length l₀) m) 9 0 refl) (t .numbers)
 
   by : NumberFrom faults (numberOf r)
   by = subst (λ (o : Outcome). NumberFrom faults (numberOf o)) (sym outcome-is) (number-from faults after after-numbers)
@@ -73,21 +71,21 @@ module _ (check : Outcome) (X : Type 0) (exactly : (check ≡ Passed) ↔ X) (nu
       let (there, back) = zero-passed faults after after-numbers refl in
       ((λ e. there (ap numberOf (sym outcome-is) ∙ e)), λ e. ap numberOf outcome-is ∙ back e)
 
-  parts : numberOf r ≡ 0 → (length l₀ ≡ m) × (check ≡ Passed)
+  parts : numberOf r ≡ 0 → (length l₀ ≡ m) × ((t .check) ≡ Passed)
   unfolding columnsAfter
-  parts e = let (long, judged) = unless-passed (eqb (length l₀) m) 9 0 check (after-passed .0 e) in (eqb-true (length l₀) m long, judged)
+  parts e = let (long, judged) = unless-passed (eqb (length l₀) m) 9 0 (t .check) (after-passed .0 e) in (eqb-true (length l₀) m long, judged)
 
   lists-exactly : (numberOf r ≡ 0) ↔ (X × (length l₀ ≡ m))
   unfolding columnsAfter
   lists-exactly = (
-    (λ e. let (long, judged) = parts e in (exactly .0 judged, long)),
-    λ h. after-passed .1 (unless-holds (eqb (length l₀) m) 9 0 check (eq-eqb (length l₀) m (h .1)) (exactly .1 (h .0))),
+    (λ e. let (long, judged) = parts e in (t .exactly .0 judged, long)),
+    λ h. after-passed .1 (unless-holds (eqb (length l₀) m) 9 0 (t .check) (eq-eqb (length l₀) m (h .1)) (t .exactly .1 (h .0))),
   )
 
   marks : numberOf r ≡ 0 → MarksOpen p n m A l
   marks e =
       let (long, judged) = parts e in
-      let c = checked judged in
+      let c = t .checked judged in
       let same : l ≡ openColumns p m s =
       call .list-is ∙ ap (λ (o : Outcome). filled (length l₀) (listed o (openColumns p m s) .list)) (after-passed .0 e)
       ∙ filled-whole (length l₀) (openColumns p m s) (columns-long p m s ∙ sym long) in
@@ -105,35 +103,35 @@ module _ (check : Outcome) (X : Type 0) (exactly : (check ≡ Passed) ↔ X) (nu
       go Passed e = absurd (f (after-passed .1 e))
       go (Refused k d) e = call .list-is ∙ ap (λ (o : Outcome). filled (length l₀) (listed o (openColumns p m s) .list)) e ∙ filled-none (length l₀)
 
-  judged-none : (Y : Type 0) → length l₀ ≡ m → ((among (numberOf (check ▷ Passed)) setFaults ≡ false) ↔ Y) → (among (numberOf r) setFaults ≡ false) ↔ Y
+  judged-none : (Y : Type 0) → length l₀ ≡ m → ((among (numberOf (t .check ▷ Passed)) setFaults ≡ false) ↔ Y) → (among (numberOf r) setFaults ≡ false) ↔ Y
   unfolding columnsAfter
   judged-none Y long k =
       subst (λ (o : Outcome). (among (numberOf o) setFaults ≡ false) ↔ Y)
-      (sym (outcome-is ∙ ap (λ (b : Bool). unless b 9 0 ▷ check) (eq-eqb (length l₀) m long) ∙ sym (then-nothing check))) k
+      (sym (outcome-is ∙ ap (λ (b : Bool). unless b 9 0 ▷ (t .check)) (eq-eqb (length l₀) m long) ∙ sym (then-nothing (t .check)))) k
 
 -- ---- from stored factors
 
 module _ (p n m : ℕ) (A : Compressed) (s : Set) (r : Outcome) (l₀ l w₀ w : List ℕ) (call : Lists (openFactorsOf p n m A s (length l₀) (length w₀)) r l₀ l w₀ w) where
   pub stored-listed : (numberOf r ≡ 0) ↔ (StoredPasses p n m A s (length w₀) × (length l₀ ≡ m))
   unfolding openFactorsOf
-  stored-listed = lists-exactly (checkFactorsOf p n m A s (length w₀)) _ (factors-exactly p n m A s (length w₀)) (factors-numbers p n m A s (length w₀)) p n m A s r l₀ l w₀ w (factors-checked p n m A (length w₀) s) call
+  stored-listed = lists-exactly _ p n m A s r l₀ l w₀ w (stored-test p n m A s (length w₀)) call
 
   pub stored-marks : numberOf r ≡ 0 → MarksOpen p n m A l
   unfolding openFactorsOf
-  stored-marks = marks (checkFactorsOf p n m A s (length w₀)) _ (factors-exactly p n m A s (length w₀)) (factors-numbers p n m A s (length w₀)) p n m A s r l₀ l w₀ w (factors-checked p n m A (length w₀) s) call
+  stored-marks = marks _ p n m A s r l₀ l w₀ w (stored-test p n m A s (length w₀)) call
 
   pub stored-by : NumberFrom faults (numberOf r)
   unfolding openFactorsOf
-  stored-by = by (checkFactorsOf p n m A s (length w₀)) _ (factors-exactly p n m A s (length w₀)) (factors-numbers p n m A s (length w₀)) p n m A s r l₀ l w₀ w (factors-checked p n m A (length w₀) s) call
+  stored-by = by _ p n m A s r l₀ l w₀ w (stored-test p n m A s (length w₀)) call
 
   pub stored-cleared : ¬ (numberOf r ≡ 0) → l ≡ zeros (length l₀)
   unfolding openFactorsOf
-  stored-cleared = cleared (checkFactorsOf p n m A s (length w₀)) _ (factors-exactly p n m A s (length w₀)) (factors-numbers p n m A s (length w₀)) p n m A s r l₀ l w₀ w (factors-checked p n m A (length w₀) s) call
+  stored-cleared = cleared _ p n m A s r l₀ l w₀ w (stored-test p n m A s (length w₀)) call
 
   pub stored-judged : GoodPlan p n m A → Sized n m s → length w₀ ≡ workLength → length l₀ ≡ m → (among (numberOf r) setFaults ≡ false) ↔ Passes p n m A s
   unfolding openFactorsOf among
   stored-judged g t k long =
-      judged-none (checkFactorsOf p n m A s (length w₀)) _ (factors-exactly p n m A s (length w₀)) (factors-numbers p n m A s (length w₀)) p n m A s r l₀ l w₀ w (factors-checked p n m A (length w₀) s) call (Passes p n m A s) long
+      judged-none _ p n m A s r l₀ l w₀ w (stored-test p n m A s (length w₀)) call (Passes p n m A s) long
       (factors-none p n m A s (length w₀) g t k Passed refl)
 
 -- ---- from a certificate
@@ -145,25 +143,25 @@ module _ (p n m : ℕ) (A : Compressed) (cert : List ℕ) (r : Outcome) (l₀ l 
   pub bytes-listed : (numberOf r ≡ 0) ↔ (CertificatePasses p n m A cert (length w₀) × (length l₀ ≡ m))
   unfolding openCertificateOf
   bytes-listed =
-      lists-exactly (checkCertificateOf p n m A cert (length w₀)) _ (certificate-exactly p n m A cert (length w₀)) (certificate-numbers p n m A cert (length w₀)) p n m A set r l₀ l w₀ w (certificate-checked p n m A (length w₀) cert) call
+      lists-exactly _ p n m A set r l₀ l w₀ w (bytes-test p n m A cert (length w₀)) call
 
   pub bytes-marks : numberOf r ≡ 0 → MarksOpen p n m A l
   unfolding openCertificateOf
   bytes-marks =
-      marks (checkCertificateOf p n m A cert (length w₀)) _ (certificate-exactly p n m A cert (length w₀)) (certificate-numbers p n m A cert (length w₀)) p n m A set r l₀ l w₀ w (certificate-checked p n m A (length w₀) cert) call
+      marks _ p n m A set r l₀ l w₀ w (bytes-test p n m A cert (length w₀)) call
 
   pub bytes-by : NumberFrom faults (numberOf r)
   unfolding openCertificateOf
   bytes-by =
-      by (checkCertificateOf p n m A cert (length w₀)) _ (certificate-exactly p n m A cert (length w₀)) (certificate-numbers p n m A cert (length w₀)) p n m A set r l₀ l w₀ w (certificate-checked p n m A (length w₀) cert) call
+      by _ p n m A set r l₀ l w₀ w (bytes-test p n m A cert (length w₀)) call
 
   pub bytes-cleared : ¬ (numberOf r ≡ 0) → l ≡ zeros (length l₀)
   unfolding openCertificateOf
   bytes-cleared =
-      cleared (checkCertificateOf p n m A cert (length w₀)) _ (certificate-exactly p n m A cert (length w₀)) (certificate-numbers p n m A cert (length w₀)) p n m A set r l₀ l w₀ w (certificate-checked p n m A (length w₀) cert) call
+      cleared _ p n m A set r l₀ l w₀ w (bytes-test p n m A cert (length w₀)) call
 
   pub bytes-judged : GoodPlan p n m A → length w₀ ≡ workLength → length l₀ ≡ m → (among (numberOf r) setFaults ≡ false) ↔ ((headerOk p n m cert ≡ true) × Passes p n m A set)
   unfolding openCertificateOf among
   bytes-judged g k long =
-      judged-none (checkCertificateOf p n m A cert (length w₀)) _ (certificate-exactly p n m A cert (length w₀)) (certificate-numbers p n m A cert (length w₀)) p n m A set r l₀ l w₀ w (certificate-checked p n m A (length w₀) cert) call
+      judged-none _ p n m A set r l₀ l w₀ w (bytes-test p n m A cert (length w₀)) call
       ((headerOk p n m cert ≡ true) × Passes p n m A set) long (certificate-none p n m A cert (length w₀) g k Passed refl)
