@@ -1,5 +1,5 @@
 -- What the line of an answer says, with what the call left: its first `size` bytes of the buffer are what is printed.
---   ask-right      a text that states a plan whose factors fit, and a question of m residues: the line of an answer that is right (`AsksRight`)
+--   ask-right      a text that states a plan whose factors fit, and a question of m residues: the line of an answer that is right (`AskRight`)
 --   ask-refused    a text that states no plan: the line of a refusal by one of the numbers of a text
 --   ask-storage    a plan whose factors overflow: the line of refusal 7 at the first row that does, counted from 1
 --   ask-length     a question that has not m values: the line of refusal 9
@@ -48,7 +48,7 @@ use Rattle.stages.specs.Meaning.{factorsOf, FitsAll, OverflowsAt}
 use Rattle.stages.proofs.Reads.{reading-good, outcome-passed, reading-numbers, factored-whole, factored-over}
 use Rattle.stages.proofs.Passing.{factors-pass}
 use Rattle.asking.specs.Asking.{answerFor, isOpenAnswer, givenLine, askReadOf, askOf, Asks}
-use Rattle.asking.specs.Meaning.{AsksRight, FirstTooLarge}
+use Rattle.asking.specs.Meaning.{AskRight, FirstTooLarge}
 use Rattle.asking.proofs.Answered.{solved-sized}
 
 -- ---- the values of a question: all residues, or refused at the first that is none
@@ -193,7 +193,7 @@ module _ (text y : List ℕ) (size : ℕ) (b₀ b w₀ w : List ℕ) (call : Ask
             let (i, refused, found) = value-refused p₁ y f in
             (i, shown-whole _ (given-values p₁ n₁ m₁ plan set passes₁ y long (Refused 15 i) refused), found)
 
-        pub ask-right : Below p₁ y → AsksRight (reading text) y (take size b)
+        pub ask-right : Below p₁ y → AskRight (reading text) y (take size b)
         unfolding givenLine
         ask-right residues =
             let a = solve p₁ n₁ m₁ set (vector y) in

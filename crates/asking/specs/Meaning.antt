@@ -1,6 +1,6 @@
 -- What an answer's line says of the plan that was read.
---   AsksRight x y out        out is the line of an answer to y, with its x or z, that is right (`AnswersRight`) for the plan and its factors by the pivot rules
---   FirstTooLarge p y i      i is the index of the first value of y that is p or more
+--   AskRight x y out       out is the line of an answer to y, with its x or z, that is right (`AnswersRight`) for the plan and its factors by the pivot rules
+--   FirstTooLarge p y i    i is the index of the first value of y that is p or more
 use mathlib.Core.Path.{_≡_}
 use mathlib.Core.List.{List}
 use Prim.Native.Nat.{ℕ, _≤_, _<_}
@@ -13,7 +13,7 @@ use Rattle.report_text.specs.Answer.{answerText}
 use Rattle.stages.specs.Meaning.{factorsOf}
 use Rattle.asking.specs.Asking.{isOpenAnswer}
 
-pub record AsksRight (x : ReadAnswer) (y out : List ℕ) : Type 0 where
+pub record AskRight (x : ReadAnswer) (y out : List ℕ) : Type 0 where
   pub answer : Answer
   pub for-open : List ℕ
   pub for-closed : List ℕ

@@ -60,7 +60,7 @@ use Rattle.reporting.specs.Reporting.{Reports}
 use Rattle.reporting.specs.Meaning.{ReportsRight}
 use Rattle.reporting.proofs.Theorems as reports
 use Rattle.asking.specs.Asking.{Asks}
-use Rattle.asking.specs.Meaning.{AsksRight}
+use Rattle.asking.specs.Meaning.{AskRight}
 use Rattle.asking.proofs.Theorems as asks
 
 -- ---- factoring
@@ -140,5 +140,5 @@ pub report-right : (text : List ℕ) (size : ℕ) (b₀ b w₀ w : List ℕ) →
 report-right = reports.report-right
 
 pub ask-right : (text y : List ℕ) (size : ℕ) (b₀ b w₀ w : List ℕ) → Asks text y size b₀ b w₀ w → StatesPlan largestEntries text → FitsAll (reading text)
-    → length y ≡ reading text .result .m → Below (reading text .result .p) y → AsksRight (reading text) y (take size b)
+    → length y ≡ reading text .result .m → Below (reading text .result .p) y → AskRight (reading text) y (take size b)
 ask-right = asks.ask-right
