@@ -287,8 +287,8 @@ module _ (text : List ℕ) where
 
     pub made-exactly : (z ≡ 0) ↔ Made text (length b₀)
     made-exactly = (
-      (λ e. let states = zero-states e in let (fit, room) = zero-parts states .0 e in record { states = states; fits = fit; room = room }),
-      λ h. zero-parts (h .states) .1 (h .fits, h .room),
+      (λ e. let states = zero-states e in let (fit, room) = zero-parts states .0 e in record { states = states; fits = fit; enough = room }),
+      λ h. zero-parts (h .states) .1 (h .fits, h .enough),
     )
 
     pub made-buffer : z ≡ 0 → b ≡ filled (length b₀) (ownCertificate (reading text))

@@ -26,7 +26,7 @@ ownCertificate x = certificateOf (x .result .p) (x .result .n) (x .result .m) (f
 pub record Made (text : List ℕ) (room : ℕ) : Type 0 where
   pub states : StatesPlan largestEntries text
   pub fits : FitsAll (reading text)
-  pub room : length (ownCertificate (reading text)) ≤ room
+  pub enough : length (ownCertificate (reading text)) ≤ room
 
 pub record TextPasses (text cert : List ℕ) : Type 0 where
   pub states : StatesPlan largestEntries text

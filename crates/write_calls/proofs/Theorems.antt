@@ -45,8 +45,8 @@ module _ (p n m : ℕ) (A : Compressed) (s : Set) (w room : ℕ) where
   write-exactly = (
     (λ e.
         let (checked, fits) = both-passed (checkFactorsOf p n m A s w) (roomFor room cert) e in
-        record { set = factors-exactly p n m A s w .0 checked; room = leb-true (length cert) room (unless-true (leb (length cert) room) 9 0 fits) }),
-    λ h. after-passed (checkFactorsOf p n m A s w) (roomFor room cert) (factors-exactly p n m A s w .1 (h .set)) ∙ ap (λ (b : Bool). unless b 9 0) (le-leb (length cert) room (h .room)),
+        record { set = factors-exactly p n m A s w .0 checked; enough = leb-true (length cert) room (unless-true (leb (length cert) room) 9 0 fits) }),
+    λ h. after-passed (checkFactorsOf p n m A s w) (roomFor room cert) (factors-exactly p n m A s w .1 (h .set)) ∙ ap (λ (b : Bool). unless b 9 0) (le-leb (length cert) room (h .enough)),
   )
 
   -- a set that passes is refused for one reason alone

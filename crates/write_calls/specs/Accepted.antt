@@ -9,4 +9,4 @@ use Rattle.check_calls.specs.Passing.{StoredPasses}
 
 pub record CanWrite (p n m : ℕ) (A : Compressed) (s : Set) (w room : ℕ) : Type 0 where
   pub set : StoredPasses p n m A s w
-  pub room : length (certificateOf p n m s) ≤ room
+  pub enough : length (certificateOf p n m s) ≤ room
