@@ -8,7 +8,7 @@ use mathlib.Core.Path.{_≡_, refl, sym, ap, subst, _∙_}
 use mathlib.Core.Logic.{_⊎_, inl, inr}
 use mathlib.Core.Bool.{Bool, true, false}
 use mathlib.Core.List.{List}
-use Prim.Native.Nat.{ℕ, _+_, _≤_, _<_}
+use Prim.Native.Nat.{ℕ, _+_, _<_}
 use native.Mathlib.Omega.{arith}
 use lib.Dec.{leb, ltb}
 use lib.ListN.{length, getD, take}
@@ -33,21 +33,20 @@ use Rattle.plan_text.specs.Held.{planOf, StatesPlan}
 use Rattle.check_calls.specs.Calls.{checkFactorsOf}
 use Rattle.check_calls.specs.Passing.{StoredPasses}
 use Rattle.check_calls.proofs.Theorems.{factors-exactly}
-use Rattle.answer_calls.specs.Calls.{answerNumber, answerOf, questionLengths, questionAfter, Given, given, answerFactorsOf, Answers}
+use Rattle.answer_calls.specs.Calls.{answerOf, Given, given, answerFactorsOf, Answers}
 use Rattle.answer_calls.specs.Meaning.{AnswersRight}
 use Rattle.answer_calls.proofs.Lengths.{values-differ, columns-tested}
 use Rattle.answer_calls.proofs.Ways.{wrong-lengths, question-tested, answered-number, answered-detail}
 use Rattle.answer_calls.proofs.Theorems.{stored-right}
 use Rattle.factoring.specs.Outcome as factorings
 use Rattle.report_text.specs.Report.{refusalText}
-use Rattle.report_text.specs.Answer.{answerText}
 use Rattle.report_text.specs.Printed.{countedFromOne, printed, PrintsRefusal}
 use Rattle.report_text.proofs.Shown.{fills-shown, first-refusal}
 use Rattle.stages.specs.Stages.{reading, readOutcome, factoredOf, factorOutcome}
 use Rattle.stages.specs.Meaning.{factorsOf, FitsAll, OverflowsAt}
-use Rattle.stages.proofs.Reads.{reading-good, outcome-passed, reading-numbers, factored-whole, factored-over}
+use Rattle.stages.proofs.ReadText.{reading-good, outcome-passed, reading-numbers, factored-whole, factored-over}
 use Rattle.stages.proofs.Passing.{factors-pass}
-use Rattle.asking.specs.Asking.{answerFor, isOpenAnswer, givenLine, askReadOf, askOf, Asks}
+use Rattle.asking.specs.Asking.{answerFor, givenLine, askReadOf, askOf, Asks}
 use Rattle.asking.specs.Meaning.{AskRight, FirstTooLarge}
 use Rattle.asking.proofs.Answered.{solved-sized}
 

@@ -52,7 +52,7 @@ use Rattle.write_calls.proofs.Theorems.{write-room}
 use Rattle.factoring.specs.Outcome as Outcomes
 use Rattle.stages.specs.Stages.{reading, readOutcome, factoredOf, factorOutcome, setIn}
 use Rattle.stages.specs.Meaning.{factorsOf, FitsAll, OverflowsAt}
-use Rattle.stages.proofs.Reads.{reading-good, outcome-passed, reading-numbers, firstRow, wholeSet, fits-all, row-overflows, factored-is, factored-whole}
+use Rattle.stages.proofs.ReadText.{reading-good, outcome-passed, reading-numbers, firstRow, wholeSet, fits-all, row-overflows, factored-is, factored-whole}
 use Rattle.stages.proofs.Passing.{factors-pass}
 use Rattle.plq.specs.Calls.{checkReadOf, checkTextOf, makeReadOf, makeTextOf, certificateFor, packed, Makes}
 use Rattle.plq.specs.Meaning.{ownCertificate, Made, TextPasses, PackedFrom}

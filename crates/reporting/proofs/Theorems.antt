@@ -35,7 +35,7 @@ use Rattle.report_text.specs.Printed.{countedFromOne, printed, PrintsRefusal}
 use Rattle.report_text.proofs.Shown.{fills-shown, first-refusal}
 use Rattle.stages.specs.Stages.{reading, readOutcome, factoredOf, factorOutcome}
 use Rattle.stages.specs.Meaning.{factorsOf, FitsAll, OverflowsAt}
-use Rattle.stages.proofs.Reads.{reading-good, outcome-passed, reading-numbers, wholeSet, factored-whole, factored-over}
+use Rattle.stages.proofs.ReadText.{reading-good, outcome-passed, reading-numbers, wholeSet, factored-whole, factored-over}
 use Rattle.stages.proofs.Passing.{factors-sized, factors-pass}
 use Rattle.reporting.specs.Reporting.{summaryOf, openListOf, reportReadOf, reportOf, Reports}
 use Rattle.reporting.specs.Meaning.{ReportsRight}

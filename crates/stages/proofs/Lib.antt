@@ -4,5 +4,5 @@ pub mod Lending
 pub mod Rows
 pub mod Counts
 pub mod Factored
-pub mod Reads
+pub mod ReadText
 pub mod Passing

@@ -1,7 +1,7 @@
 -- The factors of a good plan, by the pivot rules, are taken by every later call.
 --   factors-sized    their lists have their lengths
 --   factors-pass     they pass the check
-use mathlib.Core.Path.{_≡_, refl, sym}
+use mathlib.Core.Path.{refl, sym}
 use Prim.Native.Nat.{ℕ}
 use Rattle.sparse.specs.Matrix.{Compressed, matrix}
 use Rattle.sparse.proofs.Rows.{form-paired}

@@ -7,17 +7,15 @@
 --   factored-is        factoring it is done, or refused by 7 at the first row that overflows
 --   factored-whole     done, with the set of the pivot rules, where L and U fit
 --   factored-over      else refused by 7 at the first row in processing order that overflows
-use mathlib.Core.Path.{_≡_, refl, sym, ap, subst, _∙_}
+use mathlib.Core.Path.{_≡_, refl, sym, ap, _∙_}
 use mathlib.Core.Logic.{_↔_, inl, inr}
 use mathlib.Core.Bool.{Bool, true, false}
 use mathlib.Core.List.{List}
 use mathlib.Core.Option.{Option, none, some}
-use Prim.Native.Nat.{ℕ, _+_, _≤_}
+use Prim.Native.Nat.{ℕ, _+_}
 use native.Mathlib.Omega.{arith}
 use lib.Dec.{eqb}
-use lib.ListN.{length}
 use borrow.Author.Tests.{eq-eqb, eqb-false}
-use Rattle.lists.specs.Tests.{among}
 use Rattle.lists.specs.Table.{textFaults, storageTooShort}
 use Rattle.lists.specs.Refusals.{unless, NumberFrom}
 use Rattle.lists.specs.declared.Outcome.the-variants.{Passed, Refused}
