@@ -93,15 +93,6 @@ returns c =
     let o = c .before .before .before .before .open .ensures .0 r ∙ ap (afterOpen r (now (s .args .text))) (c .before .before .number .given .1) in
     gives-refusal r _ _ _ _ _ _ _ o (c .refusal .ensures) (s .pre .starts-zero) (s .pre .columns-zero) (s .pre .values-zero)
 
-same-length : tie.Need-same-length
-same-length c = c .before .before .before .before .before .before .before .before .before .before .before .clear .kept .0 ∙ c .before .before .before .before .before .before .before .before .before .before .before .before .before .before .before .before .before .before .before .before .before .before .read-triples .kept .1 .1 .1 .0
-
-same-length-2 : tie.Need-same-length-2
-same-length-2 c = c .before .before .before .before .before .before .before .clear2 .kept .0 ∙ c .before .before .before .before .before .before .before .before .before .before .before .before .before .before .before .before .before .before .before .before .before .before .read-triples .kept .1 .1 .1 .1 .0
-
-same-length-3 : tie.Need-same-length-3
-same-length-3 c = c .before .before .before .clear3 .kept .0 ∙ c .before .before .before .before .before .before .before .before .before .before .before .before .before .before .before .before .before .before .before .before .before .before .read-triples .kept .1 .1 .1 .1 .1 .0
-
 returns-2 : tie.Need-returns-2
 returns-2 c =
     let t = c .before .before .before .before .before .before .before .before .before .before .before .before .before .before .before .before .before .before .before .before .before .before in
@@ -112,6 +103,15 @@ returns-2 c =
     (c .before .before .before .before .before .before .before .before .before .before .before .clear .ensures ∙ ap zeros (kept .1 .1 .1 .0 ∙ ap length (z .starts-zero) ∙ length-zeros startsLength))
     (c .before .before .before .before .before .before .before .clear2 .ensures ∙ ap zeros (kept .1 .1 .1 .1 .0))
     (c .before .before .before .clear3 .ensures ∙ ap zeros (kept .1 .1 .1 .1 .1 .0 ∙ ap length (z .values-zero) ∙ length-zeros (room t)))
+
+same-length : tie.Need-same-length
+same-length c = c .before .before .before .before .before .before .before .before .before .before .before .clear .kept .0 ∙ c .before .before .before .before .before .before .before .before .before .before .before .before .before .before .before .before .before .before .before .before .before .before .read-triples .kept .1 .1 .1 .0
+
+same-length-2 : tie.Need-same-length-2
+same-length-2 c = c .before .before .before .before .before .before .before .clear2 .kept .0 ∙ c .before .before .before .before .before .before .before .before .before .before .before .before .before .before .before .before .before .before .before .before .before .before .read-triples .kept .1 .1 .1 .1 .0
+
+same-length-3 : tie.Need-same-length-3
+same-length-3 c = c .before .before .before .clear3 .kept .0 ∙ c .before .before .before .before .before .before .before .before .before .before .before .before .before .before .before .before .before .before .before .before .before .before .read-triples .kept .1 .1 .1 .1 .1 .0
 
 same-length-4 : tie.Need-same-length-4
 same-length-4 c = c .before .before .extend-starts .kept .0 ∙ c .before .before .before .before .before .before .before .before .before .before .before .before .before .before .read-triples .kept .1 .1 .1 .0

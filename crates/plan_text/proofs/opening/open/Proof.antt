@@ -11,15 +11,15 @@ use borrow.Author.Needs.{needs}
 use Rattle.plan_text.proofs.opening.open.Statement.{statement}
 use Rattle.plan_text.proofs.opening.open.Tie as tie
 
+returns : tie.Need-returns
+returns c = (too-long (now (c .before .before .args .text)) (c .if1 .taken), tt)
+
 -- the line has a line feed
 ends : (c : tie.Else2) → Ends (now (c .before .before .before .before .before .args .text)) 0 1 (length (now (c .before .before .line-from .result)))
 ends c = first-ends _ (c .before .before .before .if1 .left) (c .before .before .line-from .ensures) (c .if2 .left)
 
 accepted : (c : tie.Then3) → isModulus (c .before .before .before .p .given .0 .0) ≡ true
 accepted c = sym (c .before .accepts .ensures) ∙ c .if3 .taken
-
-returns : tie.Need-returns
-returns c = (too-long (now (c .before .before .args .text)) (c .if1 .taken), tt)
 
 line-from-requires : tie.Need-line-from-requires
 line-from-requires c κs = search needs
