@@ -70,11 +70,11 @@ answer-ready p n m A s y x z w width l c small clear =
 pub from-set : (p a b : ℕ) (s s′ : Set) (y : List ℕ) (v : Verdict) (x z w : List ℕ) → s ≡ s′ → Answered (solve p a b s (vector y)) v x z w → Answered (solve p a b s′ (vector y)) v x z w
 from-set p a b s s′ y v x z w e h = subst (λ (t : Set). Answered (solve p a b t (vector y)) v x z w) e h
 
-answered-number : (v : Verdict) → answerNumber (answerOf v) ≡ 0
+pub answered-number : (v : Verdict) → answerNumber (answerOf v) ≡ 0
 answered-number Verdict.Open = refl
 answered-number Verdict.Closed = refl
 
-answered-detail : (v : Verdict) → answerDetail (answerOf v) ≡ 0
+pub answered-detail : (v : Verdict) → answerDetail (answerOf v) ≡ 0
 answered-detail Verdict.Open = refl
 answered-detail Verdict.Closed = refl
 

@@ -34,10 +34,10 @@ use Rattle.asking.proofs.Details.{question-small}
 
 -- ---- the lists of an answer have their lengths
 
-abbrev Sized : ℕ → ℕ → Solved → Type 0
+abbrev pub Sized : ℕ → ℕ → Solved → Type 0
 Sized n m a = (length (a .x) ≡ n) × (length (a .z) ≡ m)
 
-solved-sized : (p n m : ℕ) (s : Set) (y : Vector) → Sized n m (solve p n m s y)
+pub solved-sized : (p n m : ℕ) (s : Set) (y : Vector) → Sized n m (solve p n m s y)
 unfolding solve
 solved-sized p n m s y = go (leb m (lowest p m s y))
   where

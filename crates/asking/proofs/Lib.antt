@@ -2,3 +2,4 @@ pub mod Details
 pub mod Lines
 pub mod Answered
 pub mod Asked
+pub mod Theorems

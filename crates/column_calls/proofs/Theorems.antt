@@ -40,7 +40,7 @@ listed-outcome : (o : Outcome) (l : List ℕ) → listed o l .outcome ≡ o
 listed-outcome Passed l = refl
 listed-outcome (Refused k d) l = refl
 
-columns-long : (p m : ℕ) (s : Set) → length (openColumns p m s) ≡ m
+pub columns-long : (p m : ℕ) (s : Set) → length (openColumns p m s) ≡ m
 unfolding openColumns
 columns-long p m s = length-tabulate m _
 

@@ -6,15 +6,10 @@ use mathlib.Core.Path.{_≡_, refl, sym, subst}
 use mathlib.Core.List.{List}
 use Prim.Native.Nat.{ℕ}
 use Rattle.lists.specs.declared.Outcome.the-variants.{Passed}
-use Rattle.sparse.specs.Matrix.{Compressed, matrix}
-use Rattle.sparse.proofs.Rows.{form-paired}
-use Rattle.elimination.specs.Factoring.{factor}
-use Rattle.elimination.proofs.Theorem.{StoredFactors, factor-stored}
+use Rattle.sparse.specs.Matrix.{Compressed}
 use Rattle.certificate.specs.Layout.{certificateOf, Sized}
 use Rattle.certificate.specs.Writing.{roomFor}
 use Rattle.call_tests.specs.Limits.{workLength}
-use Rattle.call_tests.specs.Accepted.{GoodPlan}
-use Rattle.call_tests.proofs.Plans.{good-prime}
 use Rattle.check_calls.specs.Calls.{checkFactorsOf, checkCertificateOf}
 use Rattle.check_calls.specs.Passing.{StoredPasses}
 use Rattle.check_calls.proofs.Theorems.{factors-exactly, stored-certificate}
@@ -25,29 +20,7 @@ use Rattle.factoring.specs.OwnSet.{ownSet}
 use Rattle.factor_calls.specs.Calls.{factorCallOf}
 use Rattle.factor_calls.specs.declared.Lent.{Lent}
 use Rattle.factor_calls.proofs.Theorems.{factored-exactly, factored-set, factored-passes}
-
--- ---- the factors of a good plan
-
-module _ (p n m : ℕ) (A : Compressed) (g : GoodPlan p n m A) where
-  stored : StoredFactors p n m (matrix A) (factor p n m A)
-  stored = factor-stored p n m A (good-prime g) (g .formed) (g .rows)
-
-  factors-sized : Sized n m (factor p n m A)
-  factors-sized =
-      let s = factor p n m A in
-      record {
-        row-order = stored .R-length;
-        column-order = stored .C-length;
-        lower-starts = stored .L-starts;
-        lower-values = sym (form-paired p (s .r) (s .L .starts) (s .L .cols) (s .L .vals) (stored .L-form));
-        upper-starts = stored .U-starts;
-        upper-values = sym (form-paired p m (s .U .starts) (s .U .cols) (s .U .vals) (stored .U-form));
-      }
-
-  pub factors-pass : StoredPasses p n m A (factor p n m A) workLength
-  factors-pass = record { plan = g; sized = factors-sized; work = refl; passes = record { L-form = stored .L-form; U-form = stored .U-form; factors = stored .factors } }
-
--- ---- what a call left
+use Rattle.stages.proofs.Passing.{factors-sized}
 
 module _ (p n m : ℕ) (A : Compressed) (l : Lent) (number detail rank structural : ℕ) (R C : List ℕ) (L U : Compressed) (w : List ℕ)
     (call : Leaves (factorCallOf p n m A l) number detail rank structural R C L U w) (zero : number ≡ 0) where

@@ -39,9 +39,6 @@ use Rattle.algebra.specs.Factors.{Factors}
 use Rattle.algebra.proofs.Rank as ranks
 use Rattle.sparse.specs.Matrix.{Compressed, matrix}
 use Rattle.sparse.specs.Set.{Set}
-use Rattle.elimination.specs.Structural.{structural}
-use Rattle.elimination.specs.Factoring.{schedule, nothing}
-use Rattle.elimination.specs.Overflow.{Overflows}
 use Rattle.certificate.specs.Layout.{certificateOf}
 use Rattle.certificate.specs.Reading.{setOfCertificate}
 use Rattle.certificate.specs.Writing.{roomFor}
@@ -54,11 +51,11 @@ use Rattle.write_calls.specs.Call.{writeOutcome, kept}
 use Rattle.write_calls.proofs.Theorems.{write-room}
 use Rattle.factoring.specs.Outcome as Outcomes
 use Rattle.stages.specs.Stages.{reading, readOutcome, factoredOf, factorOutcome, setIn}
-use Rattle.stages.specs.Meaning.{factorsOf, FitsAll}
-use Rattle.stages.proofs.ReadText.{reading-good, outcome-passed, reading-numbers, firstRow, wholeSet, fits-all, factored-is, factored-whole, factored-over}
+use Rattle.stages.specs.Meaning.{factorsOf, FitsAll, OverflowsAt}
+use Rattle.stages.proofs.ReadText.{reading-good, outcome-passed, reading-numbers, firstRow, wholeSet, fits-all, row-overflows, factored-is, factored-whole}
+use Rattle.stages.proofs.Passing.{factors-pass}
 use Rattle.plq.specs.Calls.{checkReadOf, checkTextOf, makeReadOf, makeTextOf, certificateFor, packed, Makes}
 use Rattle.plq.specs.Meaning.{ownCertificate, Made, TextPasses, PackedFrom}
-use Rattle.plq.proofs.Own.{factors-pass}
 
 -- ---- one number
 
@@ -272,8 +269,8 @@ module _ (text : List ℕ) where
       seven-at : (i : ℕ) → (z ≡ 7 + 256 * i) ↔ (firstRow text ≡ some i)
       seven-at i = let (there, back) = stage-seven (leb (length cert₁) (length b₀)) (firstRow text) i in ((λ e. there (sym is ∙ e)), λ q. is ∙ back q)
 
-      pub made-row : (i : ℕ) → z ≡ 7 + 256 * i → Overflows p₁ m₁ (matrix x) largestEntries largestEntries nothing (schedule n₁ (structural x n₁ m₁)) i
-      made-row i e = factored-over text states i (seven-at i .0 e) .1
+      pub made-row : (i : ℕ) → z ≡ 7 + 256 * i → OverflowsAt (reading text) i
+      made-row i e = row-overflows text i (seven-at i .0 e)
 
       pub made-seven : ((i : ℕ) × (z ≡ 7 + 256 * i)) ↔ (¬ FitsAll (reading text))
       made-seven = (

@@ -2,3 +2,4 @@ pub mod Ending
 pub mod Stepping
 pub mod Room
 pub mod Example
+pub mod Shown

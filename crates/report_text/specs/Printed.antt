@@ -3,13 +3,15 @@
 --   countedFromOne k o     the outcome with its detail so
 --   printed o text         the one line of a refusal, else the text
 --   Prints text size ..    the contract of whoever prints: the length, every byte of the buffer, and the working row left all zero
+--   PrintsRefusal ks out   out is the one line of a refusal by one of the numbers ks
 use Prim.Native.Nat.{ℕ, _+_}
 use mathlib.Core.Path.{_≡_}
-use mathlib.Core.Bool.{cond}
+use mathlib.Core.Bool.{true, cond}
 use mathlib.Core.List.{List}
 use lib.Dec.{eqb}
 use lib.ListN.{length}
 use Rattle.lists.specs.Filled.{zeros}
+use Rattle.lists.specs.Tests.{among}
 use Rattle.lists.specs.declared.Outcome.{Outcome}
 use Rattle.lists.specs.declared.Outcome.the-variants.{Passed, Refused}
 use Rattle.byte_buffer.specs.Stored.{Fills}
@@ -29,3 +31,9 @@ printed (Refused c d) text = refusalText c d
 pub record Prints (text : List ℕ) (size : ℕ) (b₀ b w₀ w : List ℕ) : Type 0 where
   pub text-is : Fills b₀ b size text
   pub cleared : w ≡ zeros (length w₀)
+
+pub record PrintsRefusal (ks out : List ℕ) : Type 0 where
+  pub number : ℕ
+  pub detail : ℕ
+  pub line-is : out ≡ refusalText number detail
+  pub from : among number ks ≡ true

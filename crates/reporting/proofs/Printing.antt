@@ -12,13 +12,13 @@ use Rattle.lists.specs.Table.{storageTooShort}
 use Rattle.lists.specs.declared.Outcome.{Outcome}
 use Rattle.lists.specs.declared.Outcome.the-variants.{Passed, Refused}
 use Rattle.lists.proofs.Filled.{filled-whole}
-use Rattle.lists.proofs.Tabulate.{length-tabulate}
 use Rattle.sparse.specs.Matrix.{Compressed}
 use Rattle.row_space.specs.Solve.{openColumns}
 use Rattle.byte_buffer.specs.Stored.{Fills}
 use Rattle.call_tests.specs.Limits.{workLength}
 use Rattle.check_calls.specs.Calls.{checkFactorsOf}
 use Rattle.column_calls.specs.Calls.{Listed, listed, columnsAfter, openFactorsOf, Lists}
+use Rattle.column_calls.proofs.Theorems.{columns-long}
 use Rattle.report_text.specs.declared.lines.Summary.{Summary}
 use Rattle.report_text.specs.Report.{reportText, refusalText}
 use Rattle.report_text.specs.Printed.{detailFromOne, countedFromOne, printed, Prints}
@@ -49,8 +49,8 @@ module _ (s : Stages) (A : Compressed) (R C : List ℕ) (L U : Compressed) where
       let r = s .reading in columnsAfter (checkFactorsOf (r .p) (r .n) (r .m) (heldPlan r (A .starts) (A .cols) (A .vals)) (heldSet s R C L U) workLength) (r .m) (r .m)
 
   list-length : list .outcome ≡ Passed → length (list .list) ≡ s .reading .m
-  unfolding openFactorsOf openColumns
-  list-length e = ap length (listed-whole check (openColumns (s .reading .p) (s .reading .m) (heldSet s R C L U)) e) ∙ length-tabulate (s .reading .m) _
+  unfolding openFactorsOf
+  list-length e = ap length (listed-whole check (openColumns (s .reading .p) (s .reading .m) (heldSet s R C L U)) e) ∙ columns-long (s .reading .p) (s .reading .m) (heldSet s R C L U)
 
   -- ---- reading and factoring were done
 

@@ -5,3 +5,4 @@ pub mod Rows
 pub mod Counts
 pub mod Factored
 pub mod ReadText
+pub mod Passing

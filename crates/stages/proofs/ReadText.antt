@@ -3,30 +3,27 @@
 --   reading-holds      and then it holds that plan
 --   reading-good       which every later call takes
 --   reading-numbers    else it is refused by 9 or 1 to 7
+--   row-overflows      the row at which its factors overflow is the first in processing order
 --   factored-is        factoring it is done, or refused by 7 at the first row that overflows
 --   factored-whole     done, with the set of the pivot rules, where L and U fit
---   factored-over      else refused at the first row in processing order that overflows
-use mathlib.Core.Path.{_≡_, refl, sym, ap, subst, _∙_}
+--   factored-over      else refused by 7 at the first row in processing order that overflows
+use mathlib.Core.Path.{_≡_, refl, sym, ap, _∙_}
 use mathlib.Core.Logic.{_↔_, inl, inr}
 use mathlib.Core.Bool.{Bool, true, false}
 use mathlib.Core.List.{List}
 use mathlib.Core.Option.{Option, none, some}
-use Prim.Native.Nat.{ℕ, _+_, _≤_}
+use Prim.Native.Nat.{ℕ, _+_}
 use native.Mathlib.Omega.{arith}
 use lib.Dec.{eqb}
-use lib.ListN.{length}
 use borrow.Author.Tests.{eq-eqb, eqb-false}
-use Rattle.lists.specs.Tests.{among}
-use Rattle.lists.specs.Table.{textFaults}
+use Rattle.lists.specs.Table.{textFaults, storageTooShort}
 use Rattle.lists.specs.Refusals.{unless, NumberFrom}
-use Rattle.lists.specs.declared.Outcome.the-variants.{Passed}
+use Rattle.lists.specs.declared.Outcome.the-variants.{Passed, Refused}
 use Rattle.lists.proofs.Refusals.{RefusedBy, number-passed}
 use Rattle.residue.specs.Range.{isModulus}
 use Rattle.sparse.specs.Matrix.{Compressed, form, matrix}
 use Rattle.sparse.proofs.Rows.{form-paired}
 use Rattle.elimination.specs.Structural.{structural}
-use Rattle.elimination.specs.Factoring.{schedule, nothing}
-use Rattle.elimination.specs.Overflow.{Overflows}
 use Rattle.elimination.proofs.Room.{some-overflows}
 use Rattle.call_tests.specs.Limits.{largestEntries}
 use Rattle.call_tests.specs.Accepted.{GoodPlan}
@@ -37,8 +34,8 @@ use Rattle.plan_text.proofs.Done.{done-exactly, holds-stated, read-by}
 use Rattle.factoring.specs.Outcome.{Outcome, unlessOver}
 use Rattle.factor_calls.specs.Accepted.{LentRight}
 use Rattle.factor_calls.proofs.Theorems.{over, whole, call-is, lent-passes, fits-exactly}
-use Rattle.stages.specs.Stages.{reading, readOutcome, lentFor, factoredOf}
-use Rattle.stages.specs.Meaning.{FitsAll}
+use Rattle.stages.specs.Stages.{reading, readOutcome, lentFor, factoredOf, factorOutcome}
+use Rattle.stages.specs.Meaning.{FitsAll, OverflowsAt}
 
 module _ (text : List ℕ) where
   -- the reading as a call
@@ -112,6 +109,9 @@ module _ (text : List ℕ) where
   pub fits-all : (firstRow ≡ none) ↔ FitsAll (reading text)
   fits-all = fits-exactly p n m A (lentFor n m)
 
+  pub row-overflows : (i : ℕ) → firstRow ≡ some i → OverflowsAt (reading text) i
+  row-overflows i e = some-overflows p n m (matrix A) (structural A n m) largestEntries largestEntries i e
+
   module _ (states : StatesPlan largestEntries text) where
     lent-right : LentRight n m (lentFor n m)
     lent-right = record { rows = refl; columns = refl; lstarts = refl; lower = refl; ustarts = refl; upper = refl; work = refl }
@@ -123,8 +123,9 @@ module _ (text : List ℕ) where
     pub factored-whole : FitsAll (reading text) → factoredOf (reading text) ≡ wholeSet
     factored-whole h = factored-is ∙ ap (λ (o : Option ℕ). unlessOver o wholeSet) (fits-all .1 h)
 
-    pub factored-over : (i : ℕ) → firstRow ≡ some i → (factoredOf (reading text) ≡ unlessOver (some i) wholeSet) × Overflows p m (matrix A) largestEntries largestEntries nothing (schedule n (structural A n m)) i
-    factored-over i e = (
-      factored-is ∙ ap (λ (o : Option ℕ). unlessOver o wholeSet) e,
-      some-overflows p n m (matrix A) (structural A n m) largestEntries largestEntries i e,
-    )
+    pub factored-over : ¬ FitsAll (reading text) → (i : ℕ) × (factorOutcome (factoredOf (reading text)) ≡ Refused storageTooShort i) × OverflowsAt (reading text) i
+    factored-over f = go firstRow refl
+      where
+        go : (o : Option ℕ) → firstRow ≡ o → (i : ℕ) × (factorOutcome (factoredOf (reading text)) ≡ Refused storageTooShort i) × OverflowsAt (reading text) i
+        go none e = absurd (f (fits-all .0 e))
+        go (some i) e = (i, ap factorOutcome (factored-is ∙ ap (λ (o : Option ℕ). unlessOver o wholeSet) e), row-overflows i e)

@@ -9,6 +9,9 @@
 --   list-stored, list-bytes               the open columns (document 01's open words) listed
 --   make                                  the call for C that makes a certificate; `make-seven`, `make-row`, `make-nine`, `make-numbers`: after a text that is accepted
 --   check-text                            the call for C that checks one; `check-text-judged`: after a text that is accepted
+-- What the two programs print where there is no plan to report and no question to answer: the line of the first refusal, its row or index counted from 1.
+--   report, ask                           `-refused`: the text states no plan; `-storage`: its factors overflow; `ask-length`, `ask-value`: the question is no
+--                                         list of m residues
 -- What the words mean:
 --   moduli               a modulus is accepted exactly if it is a prime that is not above the largest
 --   accepted-exactly     a text is accepted, as these sizes and entries, exactly if it states that plan: it is the canonical text of a modulus that is
@@ -21,7 +24,7 @@ use mathlib.Core.Logic.{_↔_, _⊎_}
 use mathlib.Core.Bool.{Bool, true}
 use mathlib.Core.List.{List, [], _∷_, _++_}
 use native.Mathlib.Omega.{arith}
-use lib.ListN.{length}
+use lib.ListN.{length, take}
 use Rattle.lists.specs.Filled.{zeros}
 use Rattle.lists.specs.Table.{textFaults, planFaults, setFaults, storageTooShort, wrongLength, questionTooLarge}
 use Rattle.lists.specs.Refusals.{numberOf, NumberFrom}
@@ -33,6 +36,7 @@ use Rattle.residue.specs.Signed.{residueOf}
 use Rattle.residue.proofs.Primes.{modulus-prime, modulus-range, prime-modulus}
 use Rattle.sparse.specs.Matrix.{Compressed, matrix}
 use Rattle.sparse.specs.Set.{Set}
+use Rattle.sparse.specs.Row.{Below}
 use Rattle.elimination.specs.Structural.{structural}
 use Rattle.elimination.specs.Factoring.{schedule, nothing}
 use Rattle.elimination.specs.Overflow.{Overflows}
@@ -42,7 +46,7 @@ use Rattle.plan_text.specs.Limits.{startsLength}
 use Rattle.plan_text.specs.Reading.{Entry, accepted, kept, readOf}
 use Rattle.plan_text.specs.Stating.{States, StatedEntry, Plan, planText, integerOf}
 use Rattle.plan_text.specs.Call.{callOf, Gives}
-use Rattle.plan_text.specs.Held.{heldPlan, planOf, StatesPlan, HoldsPlan, ReadCleared}
+use Rattle.plan_text.specs.Held.{heldPlan, StatesPlan, HoldsPlan, ReadCleared}
 use Rattle.plan_text.proofs.Accepted.{accepted-states}
 use Rattle.plan_text.proofs.Printed.{reads-stated}
 use Rattle.plan_text.proofs.EntryLimit.{few-entries}
@@ -71,10 +75,17 @@ use Rattle.answer_calls.proofs.Theorems as answers
 use Rattle.column_calls.specs.Calls.{openFactorsOf, openCertificateOf, Lists}
 use Rattle.column_calls.proofs.Theorems as columns
 use Rattle.stages.specs.Stages.{reading}
-use Rattle.stages.specs.Meaning.{FitsAll}
+use Rattle.stages.specs.Meaning.{FitsAll, OverflowsAt}
 use Rattle.plq.specs.Calls.{checkTextOf, packed, Makes}
 use Rattle.plq.specs.Meaning.{ownCertificate, Made, TextPasses, PackedFrom}
 use Rattle.plq.proofs.Texts as texts
+use Rattle.report_text.specs.Report.{refusalText}
+use Rattle.report_text.specs.Printed.{PrintsRefusal}
+use Rattle.reporting.specs.Reporting.{Reports}
+use Rattle.reporting.proofs.Theorems as reports
+use Rattle.asking.specs.Asking.{Asks}
+use Rattle.asking.specs.Meaning.{FirstTooLarge}
+use Rattle.asking.proofs.Theorems as asks
 
 -- ---- reading: a, b and c are the lengths of the lent starts, columns and values; r is the result
 
@@ -210,8 +221,7 @@ module _ (text : List ℕ) (z : ℕ) (b₀ b : List ℕ) (call : Makes text z b�
     pub make-seven : ((i : ℕ) × (z ≡ 7 + 256 * i)) ↔ (¬ FitsAll (reading text))
     make-seven = texts.made-seven text z b₀ b call states
 
-    pub make-row : (i : ℕ) → z ≡ 7 + 256 * i
-        → let A = planOf (reading text) in let r = reading text .result in Overflows (r .p) (r .m) (matrix A) largestEntries largestEntries nothing (schedule (r .n) (structural A (r .n) (r .m))) i
+    pub make-row : (i : ℕ) → z ≡ 7 + 256 * i → OverflowsAt (reading text) i
     make-row = texts.made-row text z b₀ b call states
 
     pub make-nine : (z ≡ 9) ↔ (FitsAll (reading text) × (length b₀ < length (ownCertificate (reading text))))
@@ -226,6 +236,30 @@ module _ (text cert : List ℕ) (z : ℕ) (call : z ≡ packed (checkTextOf text
 
   pub check-text-judged : StatesPlan largestEntries text → PackedFrom setFaults z
   check-text-judged = texts.checked-judged text cert z call
+
+-- ---- the programs: what is printed stands in the first `size` bytes of the buffer b; Demand2 has what they print where nothing is refused
+
+module _ (text : List ℕ) (size : ℕ) (b₀ b w₀ w : List ℕ) (call : Reports text size b₀ b w₀ w) where
+  pub report-refused : ¬ StatesPlan largestEntries text → PrintsRefusal textFaults (take size b)
+  report-refused = reports.report-refused text size b₀ b w₀ w call
+
+  pub report-storage : StatesPlan largestEntries text → ¬ FitsAll (reading text) → (i : ℕ) × (take size b ≡ refusalText storageTooShort (i + 1)) × OverflowsAt (reading text) i
+  report-storage = reports.report-storage text size b₀ b w₀ w call
+
+module _ (text y : List ℕ) (size : ℕ) (b₀ b w₀ w : List ℕ) (call : Asks text y size b₀ b w₀ w) where
+  pub ask-refused : ¬ StatesPlan largestEntries text → PrintsRefusal textFaults (take size b)
+  ask-refused = asks.ask-refused text y size b₀ b w₀ w call
+
+  module _ (states : StatesPlan largestEntries text) where
+    pub ask-storage : ¬ FitsAll (reading text) → (i : ℕ) × (take size b ≡ refusalText storageTooShort (i + 1)) × OverflowsAt (reading text) i
+    ask-storage = asks.ask-storage text y size b₀ b w₀ w call states
+
+    pub ask-length : FitsAll (reading text) → ¬ (length y ≡ reading text .result .m) → take size b ≡ refusalText wrongLength 0
+    ask-length = asks.ask-length text y size b₀ b w₀ w call states
+
+    pub ask-value : FitsAll (reading text) → length y ≡ reading text .result .m → ¬ Below (reading text .result .p) y
+        → (i : ℕ) × (take size b ≡ refusalText questionTooLarge (i + 1)) × FirstTooLarge (reading text .result .p) y i
+    ask-value = asks.ask-value text y size b₀ b w₀ w call states
 
 -- ---- what the words mean
 

@@ -13,11 +13,14 @@
 --   .. -columns          the list of open columns has 1 at j exactly if the unit vector of j is in the row space, and 0 exactly if not
 -- The set of the pivot rules, for every good plan:
 --   rules-right          has the published shape and the product A, and passes the check
+-- What the two programs print, for a text that states a plan whose factors fit:
+--   report-right         the report has the plan's sizes, its rank, the number of structural pivots, the entries of L and U, and its open words
+--   ask-right            the line has the right verdict on a question of m residues, with the x or the z that `.. -x` and `.. -z` describe
 use Prim.Native.Nat.{ℕ}
 use mathlib.Core.Path.{_≡_}
 use mathlib.Core.Logic.{_↔_}
 use mathlib.Core.List.{List}
-use lib.ListN.{length}
+use lib.ListN.{length, take}
 use Rattle.lists.specs.Filled.{filled}
 use Rattle.lists.specs.Refusals.{numberOf}
 use Rattle.lists.specs.declared.Outcome.{Outcome}
@@ -25,12 +28,14 @@ use Rattle.algebra.specs.Matrix.{vector}
 use Rattle.algebra.specs.Rank.{Rank}
 use Rattle.algebra.specs.RowSpace.{InRowSpace}
 use Rattle.algebra.specs.Factors.{Factors}
+use Rattle.sparse.specs.Row.{Below}
 use Rattle.sparse.specs.Matrix.{Compressed, matrix}
 use Rattle.sparse.specs.Set.{Set}
 use Rattle.elimination.specs.Structural.{structural}
 use Rattle.elimination.specs.Factoring.{factor}
 use Rattle.certificate.specs.Reading.{setOfCertificate}
-use Rattle.call_tests.specs.Limits.{workLength}
+use Rattle.plan_text.specs.Held.{StatesPlan}
+use Rattle.call_tests.specs.Limits.{largestEntries, workLength}
 use Rattle.call_tests.specs.Accepted.{GoodPlan}
 use Rattle.check_calls.specs.Passing.{StoredPasses}
 use Rattle.factoring.specs.Outcome.{Leaves}
@@ -46,10 +51,17 @@ use Rattle.column_calls.specs.Calls.{openFactorsOf, openCertificateOf, Lists}
 use Rattle.column_calls.specs.Meaning.{MarksOpen}
 use Rattle.column_calls.proofs.Theorems as columns
 use Rattle.stages.specs.Stages.{reading}
+use Rattle.stages.specs.Meaning.{FitsAll}
+use Rattle.stages.proofs.Passing.{factors-pass}
 use Rattle.plq.specs.Calls.{Makes}
 use Rattle.plq.specs.Meaning.{ownCertificate}
-use Rattle.plq.proofs.Own.{factors-pass}
 use Rattle.plq.proofs.Texts as texts
+use Rattle.reporting.specs.Reporting.{Reports}
+use Rattle.reporting.specs.Meaning.{ReportsRight}
+use Rattle.reporting.proofs.Theorems as reports
+use Rattle.asking.specs.Asking.{Asks}
+use Rattle.asking.specs.Meaning.{AskRight}
+use Rattle.asking.proofs.Theorems as asks
 
 -- ---- factoring
 
@@ -120,3 +132,13 @@ bytes-columns = columns.bytes-marks
 
 pub rules-right : (p n m : ℕ) (A : Compressed) → GoodPlan p n m A → StoredPasses p n m A (factor p n m A) workLength
 rules-right = factors-pass
+
+-- ---- the programs: what is printed stands in the first `size` bytes of the buffer b
+
+pub report-right : (text : List ℕ) (size : ℕ) (b₀ b w₀ w : List ℕ) → Reports text size b₀ b w₀ w → StatesPlan largestEntries text → FitsAll (reading text)
+    → ReportsRight (reading text) (take size b)
+report-right = reports.report-right
+
+pub ask-right : (text y : List ℕ) (size : ℕ) (b₀ b w₀ w : List ℕ) → Asks text y size b₀ b w₀ w → StatesPlan largestEntries text → FitsAll (reading text)
+    → length y ≡ reading text .result .m → Below (reading text .result .p) y → AskRight (reading text) y (take size b)
+ask-right = asks.ask-right
