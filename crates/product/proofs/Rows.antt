@@ -16,11 +16,14 @@ use Rattle.lists.proofs.Filled.{zeros-at, length-zeros}
 use Rattle.algebra.specs.Congruence.{_≈⟨_⟩_}
 use Rattle.algebra.specs.Matrix.{Vector, Matrix}
 use Rattle.algebra.specs.Sum.{dot}
-use Rattle.algebra.proofs.Congruence.{exact, turn, _⊙_, _⊕_, same-refl, minus}
-use Rattle.sparse.specs.Row.{Below}
+use Rattle.algebra.proofs.Congruence.{exact, turn, _⊙_, _⊕_, same-refl, minus, cancel, cancel-zero}
+use Rattle.sparse.specs.Matrix.{Compressed, rowOf, matrix, form}
+use Rattle.sparse.specs.Row.{Below, weigh}
 use Rattle.sparse.specs.WorkingRow.{Subtracted}
-use Rattle.sparse.proofs.Subtraction.{subtracted-ext}
+use Rattle.sparse.proofs.Entries.{weigh-dot, row-columns}
+use Rattle.sparse.proofs.Rows.{form-row}
 use Rattle.pluq.specs.Judge.{agrees}
+use Rattle.product.specs.Combination.{isCombination}
 use Rattle.product.specs.Sweep.{TestedAndCleared}
 
 -- ---- tests
@@ -55,35 +58,31 @@ eqb-same a b c d h g = go (eqb a b) refl
 
 -- ---- the test of a row
 
--- from a row of zeros, the product taken away and A's row added: all cells stand for 0 exactly if they agree
-row-agrees : (p m r : ℕ) (A : Matrix) (R : Vector) (L U : Matrix) (i : ℕ) (w₀ w : List ℕ) → 1 ≤ p → length w₀ ≡ m → w₀ ≡ zeros (length w₀)
-    → Subtracted p (λ j. (p - 1) * A (R i) j + dot r (L i) (λ k. U k j)) w₀ w
-    → all m (λ j. eqb (getD w j 0 % p) 0) ≡ agrees p m r A R L U i
-unfolding agrees
-row-agrees p m r A R L U i w₀ w pos long none d =
-    all-same m (λ j. eqb (getD w j 0 % p) 0) (λ j. eqb (A (R i) j % p) (dot r (L i) (λ k. U k j) % p))
-    (λ j h. eqb-same (getD w j 0 % p) 0 (A (R i) j % p) (dot r (L i) (λ k. U k j) % p) (there j h) (back j h))
+-- b taken away from the working row: all cells stand for 0 exactly if the row was b modulo p
+row-agrees : (p m : ℕ) (b : Vector) (w₀ w : List ℕ) → length w₀ ≡ m → Subtracted p b w₀ w
+    → all m (λ j. eqb (getD w j 0 % p) 0) ≡ all m (λ j. eqb (getD w₀ j 0 % p) (b j % p))
+row-agrees p m b w₀ w long d =
+    all-same m (λ j. eqb (getD w j 0 % p) 0) (λ j. eqb (getD w₀ j 0 % p) (b j % p))
+    (λ j h. eqb-same (getD w j 0 % p) 0 (getD w₀ j 0 % p) (b j % p) (there j h) (back j h))
   where
-    whole : (j : ℕ) → j < m → getD w j 0 + ((p - 1) * A (R i) j + dot r (L i) (λ k. U k j)) ≈⟨ p ⟩ 0
-    whole j h = d .cells j (omega arith) ⊙ exact (ap (λ (l : List ℕ). getD l j 0) none ∙ zeros-at (length w₀) j)
-
-    there : (j : ℕ) → j < m → getD w j 0 % p ≡ 0 → A (R i) j % p ≡ dot r (L i) (λ k. U k j) % p
+    there : (j : ℕ) → j < m → getD w j 0 % p ≡ 0 → getD w₀ j 0 % p ≡ b j % p
     there j h e =
-        let a = A (R i) j in
-        let s = dot r (L i) (λ k. U k j) in
         let z : getD w j 0 ≈⟨ p ⟩ 0 = record { same = e ∙ sym (zero-mod p) } in
-        let q : (p - 1) * a + s ≈⟨ p ⟩ 0 = exact (omega arith) ⊙ turn z ⊕ same-refl ((p - 1) * a + s) ⊙ whole j h in
-        let f : a ≈⟨ p ⟩ s = exact (omega arith) ⊙ turn q ⊕ same-refl a ⊙ exact (omega arith) ⊙ minus s a pos in
+        let f : getD w₀ j 0 ≈⟨ p ⟩ b j = turn (d .cells j (omega arith)) ⊙ z ⊕ same-refl (b j) ⊙ exact (omega arith) in
         f .same
 
-    back : (j : ℕ) → j < m → A (R i) j % p ≡ dot r (L i) (λ k. U k j) % p → getD w j 0 % p ≡ 0
+    back : (j : ℕ) → j < m → getD w₀ j 0 % p ≡ b j % p → getD w j 0 % p ≡ 0
     back j h e =
-        let a = A (R i) j in
-        let s = dot r (L i) (λ k. U k j) in
-        let f : a ≈⟨ p ⟩ s = record { same = e } in
-        let q : (p - 1) * a + s ≈⟨ p ⟩ 0 = same-refl ((p - 1) * a) ⊕ turn f ⊙ exact (omega arith) ⊙ minus 0 a pos in
-        let z : getD w j 0 ≈⟨ p ⟩ 0 = exact (omega arith) ⊙ same-refl (getD w j 0) ⊕ turn q ⊙ whole j h in
+        let f : getD w₀ j 0 ≈⟨ p ⟩ b j = record { same = e } in
+        let z : getD w j 0 ≈⟨ p ⟩ 0 = cancel-zero (b j) (d .cells j (omega arith) ⊙ f) in
         z .same ∙ zero-mod p
+
+-- from a row of zeros a is taken away p - 1 times: the cells stand for a
+loaded : (p : ℕ) (a : Vector) (w₀ w : List ℕ) → 1 ≤ p → w₀ ≡ zeros (length w₀) → Subtracted p (λ j. (p - 1) * a j) w₀ w → (j : ℕ) → j < length w₀ → getD w j 0 % p ≡ a j % p
+loaded p a w₀ w pos none d j h =
+    let whole : getD w j 0 + (p - 1) * a j ≈⟨ p ⟩ 0 = d .cells j h ⊙ exact (ap (λ (l : List ℕ). getD l j 0) none ∙ zeros-at (length w₀) j) in
+    let f : getD w j 0 ≈⟨ p ⟩ a j = cancel ((p - 1) * a j) (whole ⊙ turn (minus 0 (a j) pos) ⊙ exact (omega arith)) in
+    f .same
 
 -- ---- the test and the clearing of the working row
 
@@ -141,13 +140,32 @@ scanning-turn n t w₀ w w′ i b h e q l s =
 pub zero-below : (p : ℕ) (w : List ℕ) → 0 < p → w ≡ zeros (length w) → Below (p * p) w
 zero-below p w h z i g = omega (arith, ap (λ (l : List ℕ). getD l i 0) z ∙ zeros-at (length w) i, mul-le-mul-left {m = 1} {n = p} p h)
 
--- the row tested and cleared: whether A's row k = R[i] is row i of the product, and the row is as it was first
-pub cleared-agrees : (p r : ℕ) (A : Matrix) (R : Vector) (L U : Matrix) (i k : ℕ) (w₀ w w′ : List ℕ) (z : Bool) → 1 ≤ p → w₀ ≡ zeros (length w₀) → k ≡ R i
-    → Subtracted p (λ j. (p - 1) * A k j + dot r (L i) (λ u. U u j)) w₀ w → TestedAndCleared p w w′ z → (z ≡ agrees p (length w₀) r A R L U i) × (w′ ≡ w₀)
-cleared-agrees p r A R L U i k w₀ w w′ z pos none e d t = (
+-- the product taken away, and the row tested and cleared
+pub cleared-combination : (p : ℕ) (ks vs : List ℕ) (U : Matrix) (w₀ w w′ : List ℕ) (z : Bool) → Subtracted p (λ j. weigh ks vs (λ k. U k j)) w₀ w → TestedAndCleared p w w′ z
+    → (z ≡ isCombination p w₀ ks vs U) × (w′ ≡ zeros (length w₀))
+unfolding isCombination
+cleared-combination p ks vs U w₀ w w′ z d t = (
   t .tested
       ∙ ap (λ (n : ℕ). all n (λ j. eqb (getD w j 0 % p) 0)) (d .long)
-      ∙ row-agrees p (length w₀) r A R L U i w₀ w pos refl none
-      (subtracted-ext p (λ j. (p - 1) * A k j + dot r (L i) (λ u. U u j)) (λ j. (p - 1) * A (R i) j + dot r (L i) (λ u. U u j)) w₀ w (λ j. ap (λ (x : ℕ). (p - 1) * A x j + dot r (L i) (λ u. U u j)) e) d),
-  t .cleared ∙ ap zeros (d .long) ∙ sym none,
+      ∙ row-agrees p (length w₀) (λ j. weigh ks vs (λ k. U k j)) w₀ w refl d,
+  t .cleared ∙ ap zeros (d .long),
 )
+
+-- where A's row R[i] stands in the working row and the other row is L's row i: whether they agree
+pub combination-agrees : (p r : ℕ) (A : Compressed) (R : Vector) (L : Compressed) (U : Matrix) (i k : ℕ) (ks vs w₀ w : List ℕ) → 1 ≤ p → w₀ ≡ zeros (length w₀) → form p r L ≡ true → k ≡ R i
+    → ks ≡ rowOf (L .starts) i (L .cols) → vs ≡ rowOf (L .starts) i (L .vals) → Subtracted p (λ j. (p - 1) * matrix A k j) w₀ w
+    → isCombination p w ks vs U ≡ agrees p (length w₀) r (matrix A) R (matrix L) U i
+unfolding isCombination agrees
+combination-agrees p r A R L U i k ks vs w₀ w pos none f e ek es d =
+    ap (λ (n : ℕ). all n (λ j. eqb (getD w j 0 % p) (weigh ks vs (λ u. U u j) % p))) (d .long)
+    ∙ all-same (length w₀) (λ j. eqb (getD w j 0 % p) (weigh ks vs (λ u. U u j) % p)) (λ j. eqb (matrix A (R i) j % p) (dot r (matrix L i) (λ u. U u j) % p))
+    (λ j h. λ x. eqb (own j h x) (product j x % p))
+  where
+    own : (j : ℕ) → j < length w₀ → getD w j 0 % p ≡ matrix A (R i) j % p
+    own j h = loaded p (matrix A k) w₀ w pos none d j h ∙ ap (λ (u : ℕ). matrix A u j % p) e
+
+    product : (j : ℕ) → weigh ks vs (λ u. U u j) ≡ dot r (matrix L i) (λ u. U u j)
+    product j =
+        (λ x. weigh (ek x) (es x) (λ u. U u j))
+        ∙ weigh-dot r (rowOf (L .starts) i (L .cols)) (rowOf (L .starts) i (L .vals)) (λ u. U u j)
+        (row-columns p r (rowOf (L .starts) i (L .cols)) (rowOf (L .starts) i (L .vals)) (form-row p r (L .starts) (L .cols) (L .vals) f i))

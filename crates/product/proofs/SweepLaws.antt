@@ -3,28 +3,26 @@ use mathlib.Core.Path.{_≡_, refl, sym, ap, _∙_}
 use mathlib.Core.Logic.{_⊎_, inl, inr}
 use mathlib.Core.Bool.{Bool, true, false, _&&_}
 use mathlib.Core.List.{List, [], _∷_}
-use Prim.Native.Nat.{ℕ, suc, _+_, _-_, _*_, _%_, _≤_, _<_}
+use Prim.Native.Nat.{ℕ, suc, _+_, _*_, _%_, _≤_, _<_}
 use native.Mathlib.Omega.{arith}
 use native.Mathlib.Nat.{zero-mod}
 use native.Mathlib.Decide.{ℕ-discrete}
 use lib.Dec.{eqb}
 use lib.ListN.{length, getD, set, length-set}
-use lib.Seq.{length-slice, getD-set-same, getD-set-other, ext-getD}
+use lib.Seq.{getD-set-same, getD-set-other, ext-getD}
 use borrow.Author.Tests.{eqb-true, eq-eqb}
 use Rattle.lists.specs.Filled.{zeros}
 use Rattle.lists.specs.Tests.{all}
 use Rattle.lists.proofs.Bools.{and-both, and-left, and-right}
 use Rattle.lists.proofs.Filled.{zeros-at, length-zeros}
-use Rattle.lists.proofs.Steps.{getD-slice}
 use Rattle.lists.proofs.Tests.{all-at, all-pass}
-use Rattle.algebra.specs.Sum.{dot}
-use Rattle.sparse.specs.Row.{Below, weigh}
+use Rattle.sparse.specs.Row.{weigh, entry}
 use Rattle.sparse.specs.Matrix.{Compressed, rowOf, matrix, form}
 use Rattle.sparse.specs.WorkingRow.{Subtracted}
-use Rattle.sparse.proofs.Entries.{weigh-dot, row-columns, entry-absent}
+use Rattle.sparse.proofs.Entries.{row-columns, entry-absent}
 use Rattle.sparse.proofs.Rows.{form-starts, form-row}
-use Rattle.product.specs.Sweep.{Some, InRow, InRows, Swept, TestedAndCleared}
-use Rattle.product.specs.Needs.{Comparable, RowsInside, ClearsTouched}
+use Rattle.product.specs.Sweep.{Some, Among, AmongRows, Swept, TestedAndCleared}
+use Rattle.product.specs.Needs.{ComparesRow, RowsInside, ClearsTouched}
 
 -- ---- one after another
 
@@ -65,37 +63,30 @@ swept-cell p k z z′ w h e =
     same j q (yes r) = ap (λ (i : ℕ). getD w i 0 % p) r ∙ q ∙ sym (ap (λ (x : ℕ). x % p) (ap (λ (i : ℕ). getD (set w k 0) i 0) r ∙ gone) ∙ zero-mod p)
     same j q (no r) = ap (λ (x : ℕ). x % p) (sym (getD-set-other w k j 0 0 r))
 
--- ---- a loop over the places of ks from a on, which sweeps the columns Q k for each number k of ks
+-- ---- a loop over the places of ks, which sweeps the columns Q k for each number k of ks
 
-pub record Sweeping (p a : ℕ) (ks : List ℕ) (Q : ℕ → ℕ → Type 0) (z₀ : Bool) (w₀ w : List ℕ) (z : Bool) (t : ℕ) : Type 0 where
-  pub from : a ≤ t
-  pub so-far : Swept p (λ j. Some a t (λ s. Q (getD ks s 0) j)) z₀ w₀ w z
+pub record Sweeping (p : ℕ) (ks : List ℕ) (Q : ℕ → ℕ → Type 0) (z₀ : Bool) (w₀ w : List ℕ) (z : Bool) (t : ℕ) : Type 0 where
+  pub so-far : Swept p (λ j. Some t (λ s. Q (getD ks s 0) j)) z₀ w₀ w z
 
-pub sweeping-starts : (p a : ℕ) (ks : List ℕ) (Q : ℕ → ℕ → Type 0) (z : Bool) (w : List ℕ) (t : ℕ) → t ≡ a → Sweeping p a ks Q z w w z t
-sweeping-starts p a ks Q z w t e =
-    record {
-      from = omega arith;
-      so-far = record { long = refl; cleared = λ j s. absurd (omega (arith, s .from, s .upto)); still = λ j q. q; passed = λ q. (q, λ j. refl); passes = λ q h. q };
-    }
+pub sweeping-starts : (p : ℕ) (ks : List ℕ) (Q : ℕ → ℕ → Type 0) (z : Bool) (w : List ℕ) → Sweeping p ks Q z w w z 0
+sweeping-starts p ks Q z w =
+    record { so-far = record { long = refl; cleared = λ j s. absurd (omega (arith, s .upto)); still = λ j q. q; passed = λ q. (q, λ j. refl); passes = λ q h. q } }
 
-pub sweeping-turn : (p a : ℕ) (ks : List ℕ) (Q : ℕ → ℕ → Type 0) (z₀ z z′ : Bool) (w₀ w w′ : List ℕ) (t k : ℕ) → k ≡ getD ks t 0
-    → Sweeping p a ks Q z₀ w₀ w z t → Swept p (Q k) z w w′ z′ → Sweeping p a ks Q z₀ w₀ w′ z′ (t + 1)
-sweeping-turn p a ks Q z₀ z z′ w₀ w w′ t k e s d =
-    record {
-      from = omega (arith, s .from);
-      so-far = swept-then p (λ j. Some a (t + 1) (λ u. Q (getD ks u 0) j)) (λ j. Some a t (λ u. Q (getD ks u 0) j)) (Q k) z₀ z z′ w₀ w w′ (λ j h. split j h (ℕ-discrete (h .place) t)) (s .so-far) d;
-    }
+pub sweeping-turn : (p : ℕ) (ks : List ℕ) (Q : ℕ → ℕ → Type 0) (z₀ z z′ : Bool) (w₀ w w′ : List ℕ) (t k : ℕ) → k ≡ getD ks t 0
+    → Sweeping p ks Q z₀ w₀ w z t → Swept p (Q k) z w w′ z′ → Sweeping p ks Q z₀ w₀ w′ z′ (t + 1)
+sweeping-turn p ks Q z₀ z z′ w₀ w w′ t k e s d =
+    record { so-far = swept-then p (λ j. Some (t + 1) (λ u. Q (getD ks u 0) j)) (λ j. Some t (λ u. Q (getD ks u 0) j)) (Q k) z₀ z z′ w₀ w w′ (λ j h. split j h (ℕ-discrete (h .place) t)) (s .so-far) d }
   where
-    split : (j : ℕ) (h : Some a (t + 1) (λ u. Q (getD ks u 0) j)) → Dec (h .place ≡ t) → Some a t (λ u. Q (getD ks u 0) j) ⊎ Q k j
+    split : (j : ℕ) (h : Some (t + 1) (λ u. Q (getD ks u 0) j)) → Dec (h .place ≡ t) → Some t (λ u. Q (getD ks u 0) j) ⊎ Q k j
     split j h (yes q) = inr (rw (e, sym q) (h .holds))
-    split j h (no q) = inl (record { place = h .place; from = h .from; upto = omega (arith, h .upto, q); holds = h .holds })
+    split j h (no q) = inl (record { place = h .place; upto = omega (arith, h .upto, q); holds = h .holds })
 
-pub sweeping-ends : (p a e : ℕ) (ks : List ℕ) (Q : ℕ → ℕ → Type 0) (z₀ z : Bool) (w₀ w : List ℕ) (t : ℕ) → e ≤ t
-    → Sweeping p a ks Q z₀ w₀ w z t → Swept p (λ j. Some a e (λ s. Q (getD ks s 0) j)) z₀ w₀ w z
-sweeping-ends p a e ks Q z₀ z w₀ w t h s = let d = s .so-far in
+pub sweeping-ends : (p : ℕ) (ks : List ℕ) (Q : ℕ → ℕ → Type 0) (z₀ z : Bool) (w₀ w : List ℕ) (t : ℕ) → length ks ≤ t
+    → Sweeping p ks Q z₀ w₀ w z t → Swept p (λ j. Some (length ks) (λ s. Q (getD ks s 0) j)) z₀ w₀ w z
+sweeping-ends p ks Q z₀ z w₀ w t h s = let d = s .so-far in
     record {
       long = d .long;
-      cleared = λ j g. d .cleared j (record { place = g .place; from = g .from; upto = omega (arith, g .upto); holds = g .holds });
+      cleared = λ j g. d .cleared j (record { place = g .place; upto = omega (arith, g .upto); holds = g .holds });
       still = d .still;
       passed = d .passed;
       passes = d .passes;
@@ -137,27 +128,11 @@ swept-all p P₁ P₂ w₀ w₁ w z₁ z others a b =
 -- what the form says of row starts and columns alone
 form-inside : (p width m : ℕ) (h : Compressed) → form p width h ≡ true → width ≤ m → RowsInside m (h .starts) (h .cols)
 form-inside p width m h f le =
-    record { rise = λ k g. form-starts p width (h .starts) (h .cols) (h .vals) f k g .0; end = λ k g. form-starts p width (h .starts) (h .cols) (h .vals) f k g .1; column = below }
-  where
-    below : (k t : ℕ) → k + 1 < length (h .starts) → getD (h .starts) k 0 ≤ t → t < getD (h .starts) (k + 1) 0 → getD (h .cols) t 0 < m
-    below k t g b u =
-        let a = getD (h .starts) k 0 in
-        let e = getD (h .starts) (k + 1) 0 in
-        let end = form-starts p width (h .starts) (h .cols) (h .vals) f k g .1 in
-        omega (
-          arith,
-          row-columns p width (rowOf (h .starts) k (h .cols)) (rowOf (h .starts) k (h .vals)) (form-row p width (h .starts) (h .cols) (h .vals) f k) (t - a) (omega (arith, length-slice a e (h .cols) end)),
-          getD-slice a e (h .cols) (t - a) (omega arith) ∙ ap (λ (i : ℕ). getD (h .cols) i 0) (let q : a + (t - a) ≡ t = omega arith in q),
-        )
-
--- a property that no place of a row has, no entry of the row has
-none-in-row : (starts cols : List ℕ) (k : ℕ) (Q : ℕ → Type 0) → getD starts (k + 1) 0 ≤ length cols → (Some (getD starts k 0) (getD starts (k + 1) 0) (λ t. Q (getD cols t 0)) → ⊥)
-    → (t : ℕ) → t < length (rowOf starts k cols) → Q (getD (rowOf starts k cols) t 0) → ⊥
-none-in-row starts cols k Q end none t h q =
-    let a = getD starts k 0 in
-    let e = getD starts (k + 1) 0 in
-    let b : a + t < e = omega (arith, length-slice a e cols end) in
-    none (record { place = a + t; from = omega arith; upto = b; holds = rw (sym (getD-slice a e cols t b)) q })
+    record {
+      rise = λ k g. form-starts p width (h .starts) (h .cols) (h .vals) f k g .0;
+      end = λ k g. form-starts p width (h .starts) (h .cols) (h .vals) f k g .1;
+      row = λ k t g. omega (arith, row-columns p width (rowOf (h .starts) k (h .cols)) (rowOf (h .starts) k (h .vals)) (form-row p width (h .starts) (h .cols) (h .vals) f k) t g);
+    }
 
 -- where no row has an entry, the sum is 0
 weigh-none : (cols vals : List ℕ) (f : ℕ → ℕ) → ((t : ℕ) → t < length cols → f (getD cols t 0) ≡ 0) → weigh cols vals f ≡ 0
@@ -166,50 +141,31 @@ weigh-none [] vals f h = refl
 weigh-none (c ∷ cs) [] f h = refl
 weigh-none (c ∷ cs) (v ∷ vs) f h = omega (arith, ap (λ (z : ℕ). v * z) (h 0 (omega arith)), weigh-none cs vs f (λ t g. h (suc t) (omega arith)))
 
-module _ (p n r i k : ℕ) (A : Compressed) (R : List ℕ) (L U : Compressed) (w₀ w : List ℕ) (h : i < n) (place : k ≡ getD R i 0) (c : Comparable p n r A R L U w₀) where
-  A-row : k + 1 < length (A .starts)
-  A-row = omega (arith, c .A-rows, place, c .inside i (omega (arith, c .order)))
+-- a working row that was all zero and has a row in it: it is 0 outside the columns of that row
+pub loaded-others : (p c : ℕ) (cols vals w₀ w : List ℕ) → w₀ ≡ zeros (length w₀) → Subtracted p (λ j. c * entry cols vals j) w₀ w
+    → (j : ℕ) → j < length w → (Among cols j → ⊥) → getD w j 0 ≡ 0
+loaded-others p c cols vals w₀ w cleared d j h none =
+    d .kept j (omega (arith, d .long)) (omega (arith, ap (λ (x : ℕ). c * x) (entry-absent cols vals j (λ t g e. none (record { place = t; upto = g; holds = e })))))
+    ∙ ap (λ (l : List ℕ). getD l j 0) cleared
+    ∙ zeros-at (length w₀) j
 
-  L-row : i + 1 < length (L .starts)
-  L-row = omega (arith, c .L-rows)
-
-  A-none : (j : ℕ) → (InRow (A .starts) (A .cols) k j → ⊥) → matrix A k j ≡ 0
-  A-none j none =
-      entry-absent (rowOf (A .starts) k (A .cols)) (rowOf (A .starts) k (A .vals)) j
-      (none-in-row (A .starts) (A .cols) k (λ col. col ≡ j) (form-inside p (length w₀) (length w₀) A (c .A-form) (omega arith) .end k A-row) none)
-
-  product-none : (j : ℕ) → (InRows i (L .starts) (L .cols) (U .starts) (U .cols) j → ⊥) → dot r (matrix L i) (λ u. matrix U u j) ≡ 0
+module _ (p r : ℕ) (cols ks vs : List ℕ) (U : Compressed) (w₀ w : List ℕ) (c : ComparesRow p r cols ks vs U w₀) where
+  product-none : (j : ℕ) → (AmongRows ks (U .starts) (U .cols) j → ⊥) → weigh ks vs (λ k. matrix U k j) ≡ 0
   product-none j none =
-      sym (weigh-dot r Lc Lv (λ u. matrix U u j) below)
-      ∙ weigh-none Lc Lv (λ u. matrix U u j)
-      (λ t g. entry-absent (rowOf (U .starts) (getD Lc t 0) (U .cols)) (rowOf (U .starts) (getD Lc t 0) (U .vals)) j
-      (none-in-row (U .starts) (U .cols) (getD Lc t 0) (λ col. col ≡ j) (form-inside p (length w₀) (length w₀) U (c .U-form) (omega arith) .end (getD Lc t 0) (omega (arith, below t g, c .U-rows)))
-      (none-in-row (L .starts) (L .cols) i (λ u. InRow (U .starts) (U .cols) u j) (form-inside p r r L (c .L-form) (omega arith) .end i L-row) none t g)))
-    where
-      Lc : List ℕ
-      Lc = rowOf (L .starts) i (L .cols)
+      weigh-none ks vs (λ k. matrix U k j)
+      (λ t g. entry-absent (rowOf (U .starts) (getD ks t 0) (U .cols)) (rowOf (U .starts) (getD ks t 0) (U .vals)) j
+      (λ s h e. none (record { place = t; upto = g; holds = record { place = s; upto = h; holds = e } })))
 
-      Lv : List ℕ
-      Lv = rowOf (L .starts) i (L .vals)
-
-      below : Below r Lc
-      below = row-columns p r Lc Lv (form-row p r (L .starts) (L .cols) (L .vals) (c .L-form) i)
-
-  -- from a row of zeros, the product taken away and A's row added: only cells at their columns are other than 0
-  pub clears-touched : Subtracted p (λ j. (p - 1) * matrix A k j + dot r (matrix L i) (λ u. matrix U u j)) w₀ w
-      → ClearsTouched p i k (A .starts) (A .cols) (L .starts) (L .cols) (U .starts) (U .cols) w
-  clears-touched d =
+  -- the product taken away from a working row with A's row in it: only cells at their columns are other than 0
+  pub clears-touched : Subtracted p (λ j. weigh ks vs (λ k. matrix U k j)) w₀ w → ClearsTouched p cols ks (U .starts) (U .cols) w
+  clears-touched d = let f = c .combines in
       record {
         product =
             record {
-              positive = c .positive;
-              inside = L-row;
-              L-rows = form-inside p r (length (U .starts) - 1) L (c .L-form) (omega (arith, c .U-rows));
-              U-rows = form-inside p (length w₀) (length w) U (c .U-form) (omega (arith, d .long));
+              positive = f .positive;
+              rows = λ t g. omega (arith, row-columns p r ks vs (f .row) t g, f .U-rows);
+              U-rows = form-inside p (length w₀) (length w) U (f .U-form) (omega (arith, d .long));
             };
-        own = record { positive = c .positive; inside = A-row; rows = form-inside p (length w₀) (length w) A (c .A-form) (omega (arith, d .long)) };
-        others = λ j b notProduct notOwn.
-            d .kept j (omega (arith, d .long)) (omega (arith, ap (λ (x : ℕ). (p - 1) * x) (A-none j notOwn), product-none j notProduct))
-            ∙ ap (λ (l : List ℕ). getD l j 0) (c .cleared)
-            ∙ zeros-at (length w₀) j;
+        own = record { positive = f .positive; cells = λ t g. omega (arith, c .cells t g, d .long) };
+        others = λ j b notProduct notOwn. d .kept j (omega (arith, d .long)) (product-none j notProduct) ∙ c .others j (omega (arith, d .long)) notOwn;
       }

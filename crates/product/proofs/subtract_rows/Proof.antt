@@ -1,7 +1,5 @@
 use Prim.Native.Nat.{_-_}
-use mathlib.Core.Path.{_≡_, _∙_}
 use native.Mathlib.Omega.{arith}
-use lib.ListN.{getD}
 use borrow.Author.Needs.{needs}
 use Rattle.sparse.specs.Matrix.{compressed, matrix}
 use Rattle.sparse.specs.Words.{view}
@@ -22,32 +20,24 @@ start-count c = c .before .before .before .before .before .before .before .befor
 abbrev start : tie.In-loop Inv-loop μ-loop → tie.Start Inv-loop μ-loop
 start c = start-count (c .before .before)
 
--- the index is the column
-place : (c : tie.After-word2 Inv-loop μ-loop)
-    → c .before .index .result ≡ getD (view (start (c .before .before .before) .args .ks .now) (start (c .before .before .before) .args .kb .now)) (c .before .before .before .before .loop .t) 0
-place c = c .before .index .ensures ∙ c .before .before .word .ensures
-
 count-requires : tie.Need-count-requires Inv-loop μ-loop
 count-requires c κs = search needs
 
 loop-holds : tie.Need-loop-holds Inv-loop μ-loop
 loop-holds c = combining-starts _ _ _ _ _ (start-count c .pre .below)
 
+index-at-requires : tie.Need-index-at-requires Inv-loop μ-loop
+index-at-requires c κs = omega arith
+
 word-requires : tie.Need-word-requires Inv-loop μ-loop
-word-requires c κs = omega arith
-
-index-requires : tie.Need-index-requires Inv-loop μ-loop
-index-requires c κs = search needs
-
-word-requires-2 : tie.Need-word-requires-2 Inv-loop μ-loop
-word-requires-2 c κs = omega (arith, start (c .before .before) .pre .row .paired)
+word-requires c κs = omega (arith, start (c .before) .pre .row .paired)
 
 subtract-row-requires : tie.Need-subtract-row-requires Inv-loop μ-loop
-subtract-row-requires c κs = let w = c .before in let turn = w .before .before .before in let s = start turn in let l = turn .before .loop in
+subtract-row-requires c κs = let w = c .before in let turn = w .before .before in let s = start turn in let l = turn .before .loop in
     record {
       formed = rw (l .inv .long) (s .pre .U-form);
-      inside = omega (arith, s .pre .U-rows, place w, row-columns _ _ _ _ (s .pre .row) (l .t) (omega arith));
-      residue = rw (w .word2 .ensures) (row-values _ _ _ _ (s .pre .row) (l .t) (omega (arith, s .pre .row .paired)));
+      inside = omega (arith, s .pre .U-rows, w .before .index-at .ensures, row-columns _ _ _ _ (s .pre .row) (l .t) (omega arith));
+      residue = rw (w .word .ensures) (row-values _ _ _ _ (s .pre .row) (l .t) (omega (arith, s .pre .row .paired)));
       below = l .inv .below;
     }
 
@@ -58,8 +48,8 @@ loop-less : tie.Need-loop-less Inv-loop μ-loop
 loop-less c = omega arith
 
 loop-again : tie.Need-loop-again Inv-loop μ-loop
-loop-again c = let w = c .before .before .before .before in let turn = w .before .before .before in let s = start turn in let l = turn .before .loop in
-    combining-turn (s .args .q .p) _ _ _ _ _ _ (l .t) (w .before .index .result) (w .word2 .result) (omega arith) (omega (arith, s .pre .row .paired)) (place w) (w .word2 .ensures) (l .inv) (c .before .before .subtract-row .ensures)
+loop-again c = let w = c .before .before .before .before in let turn = w .before .before in let s = start turn in let l = turn .before .loop in
+    combining-turn (s .args .q .p) _ _ _ _ _ _ (l .t) (w .before .index-at .result) (w .word .result) (omega arith) (omega (arith, s .pre .row .paired)) (w .before .index-at .ensures) (w .word .ensures) (l .inv) (c .before .before .subtract-row .ensures)
 
 same-length : tie.Need-same-length Inv-loop μ-loop
 same-length c = c .before .loop .inv .long
@@ -75,9 +65,8 @@ subtract-rows-spec =
     μ-loop
     count-requires
     loop-holds
+    index-at-requires
     word-requires
-    index-requires
-    word-requires-2
     subtract-row-requires
     add-t
     loop-less

@@ -1,22 +1,24 @@
 use mathlib.Core.Path.{ap, _∙_}
-use native.Mathlib.Omega.{arith}
 use lib.ListN.{length}
+use borrow.Author.Needs.{needs}
 use Rattle.lists.proofs.Filled.{length-zeros}
 use Rattle.sparse.specs.Words.{view}
-use Rattle.product.specs.Sweep.{InRow}
+use Rattle.product.specs.Sweep.{Among}
 use Rattle.product.proofs.SweepLaws.{swept-all}
 use Rattle.product.proofs.sweep.clear_touched.Statement.{statement}
 use Rattle.product.proofs.sweep.clear_touched.Tie as tie
 
-abbrev start : tie.After-touches-few → tie.Start
-start c = c .before .before .before .before .before .before .before .before .before .before .before .before .before .before .before
+abbrev start-count : tie.After-count → tie.Start
+start-count c = c .before .before .before .before .before .before .before .before .before .before
 
-row-length-requires : tie.Need-row-length-requires
-row-length-requires c κs = let s = c .before .before .before .before .before .before .before .before .before .before .before .before .before in (s .pre .own .inside, s .pre .own .rows .rise)
+abbrev start : tie.After-touches-few → tie.Start
+start c = start-count (c .before)
+
+count-requires : tie.Need-count-requires
+count-requires c κs = search needs
 
 touches-few-requires : tie.Need-touches-few-requires
-touches-few-requires c κs = let s = c .before .before .before .before .before .before .before .before .before .before .before .before .before .before in
-    record { inside = s .pre .product .inside; L-rows = s .pre .product .L-rows; U-rise = s .pre .product .U-rows .rise }
+touches-few-requires c κs = let product = start-count c .pre .product in record { rows = product .rows; U-rise = product .U-rows .rise }
 
 zero-and-clear-requires : tie.Need-zero-and-clear-requires
 zero-and-clear-requires c κs = start (c .before .before) .pre .product .positive
@@ -32,20 +34,20 @@ sweep-rows-requires c κs = start (c .before .before) .pre .product
 
 sweep-row-requires : tie.Need-sweep-row-requires
 sweep-row-requires c κs = let d = c .before .before .before in let own = start (d .before .before .before) .pre .own in
-    record { positive = own .positive; inside = omega (arith, own .inside); rows = rw (d .sweep-rows .ensures .long) (own .rows) }
+    record { positive = own .positive; cells = rw (d .sweep-rows .ensures .long) (own .cells) }
 
 same-length-2 : tie.Need-same-length-2
 same-length-2 c = c .before .before .sweep-row .ensures .long ∙ c .before .before .before .before .before .before .sweep-rows .ensures .long
 
 returns-2 : tie.Need-returns-2
 returns-2 c = let d = c .before .before .before .before .before .before in let s = start (d .before .before .before) in
-    swept-all (s .args .q .p) _ (InRow (view (s .args .ss .now) (s .args .sb .now)) (view (s .args .cols .now) (s .args .cb .now)) (s .args .k)) _ _ _ _ _ (s .pre .others) (d .sweep-rows .ensures) (c .before .before .sweep-row .ensures)
+    swept-all (s .args .q .p) _ (Among (view (s .args .cols .now) (s .args .cb .now))) _ _ _ _ _ (s .pre .others) (d .sweep-rows .ensures) (c .before .before .sweep-row .ensures)
 
 pub clear-touched-spec : {M : Type 1} → statement M
 clear-touched-spec =
     tie.close
     (tie.spec
-    row-length-requires
+    count-requires
     touches-few-requires
     zero-and-clear-requires
     same-length

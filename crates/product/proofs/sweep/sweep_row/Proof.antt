@@ -1,41 +1,35 @@
 use Prim.Native.Nat.{_-_, _<_}
 use mathlib.Core.Path.{_≡_}
 use native.Mathlib.Omega.{arith}
-use lib.ListN.{length, getD}
+use lib.ListN.{length}
+use borrow.Author.Needs.{needs}
 use Rattle.sparse.specs.Words.{view}
-use Rattle.sparse.proofs.WordLaws.{length-view}
 use Rattle.product.proofs.SweepLaws.{Sweeping, sweeping-starts, sweeping-turn, sweeping-ends, swept-cell}
 use Rattle.product.proofs.sweep.sweep_row.Statement.{statement}
 use Rattle.product.proofs.sweep.sweep_row.Tie as tie
 
 abbrev Inv-loop : tie.InvT-loop
-Inv-loop q ss sb cols cb k zero work₀ end so-far₀ t₀ work so-far t = Sweeping (q .p) (getD (view ss sb) k 0) (view cols cb) (λ c j. c ≡ j) zero work₀ work so-far t
+Inv-loop q cols cb zero work₀ n so-far₀ t₀ work so-far t = Sweeping (q .p) (view cols cb) (λ c j. c ≡ j) zero work₀ work so-far t
 
 abbrev μ-loop : tie.MeasureT-loop
-μ-loop q ss sb cols cb k zero work₀ end so-far₀ t₀ work so-far t = end - t
+μ-loop q cols cb zero work₀ n so-far₀ t₀ work so-far t = n - t
 
 abbrev start : tie.In-loop Inv-loop μ-loop → tie.Start Inv-loop μ-loop
-start c = c .before .before .before .before .before .before .before .before .before
+start c = c .before .before .before .before .before .before
 
 -- the column is a cell
-cell : (c : tie.After-index-at3 Inv-loop μ-loop) → c .index-at3 .result < length (c .before .before .loop .work)
-cell c = let turn = c .before in let s = start turn in let l = turn .before .loop in
-    omega (arith, c .index-at3 .ensures, l .inv .so-far .long, s .pre .rows .column (s .args .k) (l .t) (s .pre .inside) (l .inv .from) (omega (arith, turn .before .before .before .index-at .ensures)))
+cell : (c : tie.After-index-at Inv-loop μ-loop) → c .index-at .result < length (c .before .before .loop .work)
+cell c = let turn = c .before in let l = turn .before .loop in
+    omega (arith, c .index-at .ensures, l .inv .so-far .long, start turn .pre .cells (l .t) (omega (arith, turn .before .before .count .ensures)))
 
-add-index-at : tie.Need-add-index-at Inv-loop μ-loop
-add-index-at c = let s = c .before .before .before .before .before in omega (arith, s .pre .inside, length-view (s .args .ss .now) (s .args .sb .now))
-
-index-at-requires : tie.Need-index-at-requires Inv-loop μ-loop
-index-at-requires c κs = c .before .before .before .before .before .pre .inside
-
-index-at-requires-2 : tie.Need-index-at-requires-2 Inv-loop μ-loop
-index-at-requires-2 c κs = omega (arith, c .before .before .before .before .before .before .pre .inside)
+count-requires : tie.Need-count-requires Inv-loop μ-loop
+count-requires c κs = search needs
 
 loop-holds : tie.Need-loop-holds Inv-loop μ-loop
-loop-holds c = sweeping-starts _ _ _ _ _ _ _ (c .index-at2 .ensures)
+loop-holds c = sweeping-starts _ _ _ _ _
 
-index-at-requires-3 : tie.Need-index-at-requires-3 Inv-loop μ-loop
-index-at-requires-3 c κs = let s = start c in omega (arith, c .before .before .before .index-at .ensures, s .pre .rows .end (s .args .k) (s .pre .inside))
+index-at-requires : tie.Need-index-at-requires Inv-loop μ-loop
+index-at-requires c κs = omega (arith, c .before .before .count .ensures)
 
 mul-still-zero : tie.Need-mul-still-zero Inv-loop μ-loop
 mul-still-zero c = omega (arith, cell c)
@@ -60,13 +54,13 @@ loop-less c = omega arith
 
 loop-again : tie.Need-loop-again Inv-loop μ-loop
 loop-again c = let d = c .before .before in let l = d .before .before .loop in
-    sweeping-turn _ _ _ _ _ _ _ _ _ _ (l .t) (d .index-at3 .result) (d .index-at3 .ensures) (l .inv) (swept-cell _ _ _ _ (l .work) (cell d) (c .still-zero .ensures))
+    sweeping-turn _ _ _ _ _ _ _ _ _ (l .t) (d .index-at .result) (d .index-at .ensures) (l .inv) (swept-cell _ _ _ _ (l .work) (cell d) (c .still-zero .ensures))
 
 same-length : tie.Need-same-length Inv-loop μ-loop
 same-length c = c .before .loop .inv .so-far .long
 
 returns : tie.Need-returns Inv-loop μ-loop
-returns c = sweeping-ends _ _ _ _ _ _ _ _ _ (c .before .loop .t) (omega (arith, c .before .before .before .index-at .ensures)) (c .before .loop .inv)
+returns c = sweeping-ends _ _ _ _ _ _ _ (c .before .loop .t) (omega (arith, c .before .before .count .ensures)) (c .before .loop .inv)
 
 pub sweep-row-spec : {M : Type 1} → statement M
 sweep-row-spec =
@@ -74,11 +68,9 @@ sweep-row-spec =
     (tie.spec
     Inv-loop
     μ-loop
-    add-index-at
-    index-at-requires
-    index-at-requires-2
+    count-requires
     loop-holds
-    index-at-requires-3
+    index-at-requires
     mul-still-zero
     slice-read-still-zero
     still-zero-requires
