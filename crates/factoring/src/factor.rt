@@ -89,11 +89,13 @@ pub fn factor_from(
         lv,
         work,
     );
+    let rank = r as u32;
+    let structural = s as u32;
     Factored {
         number: 0,
         detail: 0,
-        rank: r as u32,
-        structural: s as u32,
+        rank: rank,
+        structural: structural,
     }
 }
 
