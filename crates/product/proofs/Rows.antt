@@ -16,9 +16,9 @@ use Rattle.lists.proofs.Filled.{zeros-at, length-zeros}
 use Rattle.algebra.specs.Congruence.{_≈⟨_⟩_}
 use Rattle.algebra.specs.Matrix.{Vector, Matrix}
 use Rattle.algebra.specs.Sum.{dot}
-use Rattle.algebra.proofs.Congruence.{exact, turn, _⊙_, _⊕_, same-refl, minus}
+use Rattle.algebra.proofs.Congruence.{exact, turn, _⊙_, _⊕_, same-refl, minus, cancel, cancel-zero}
 use Rattle.sparse.specs.Matrix.{Compressed, rowOf, matrix, form}
-use Rattle.sparse.specs.Row.{Below, weigh, entry}
+use Rattle.sparse.specs.Row.{Below, weigh}
 use Rattle.sparse.specs.WorkingRow.{Subtracted}
 use Rattle.sparse.proofs.Entries.{weigh-dot, row-columns}
 use Rattle.sparse.proofs.Rows.{form-row}
@@ -58,30 +58,31 @@ eqb-same a b c d h g = go (eqb a b) refl
 
 -- ---- the test of a row
 
--- from a row of zeros, b taken away and a added: all cells stand for 0 exactly if a is b modulo p
-row-agrees : (p m : ℕ) (a b : Vector) (w₀ w : List ℕ) → 1 ≤ p → length w₀ ≡ m → w₀ ≡ zeros (length w₀)
-    → Subtracted p (λ j. (p - 1) * a j + b j) w₀ w
-    → all m (λ j. eqb (getD w j 0 % p) 0) ≡ all m (λ j. eqb (a j % p) (b j % p))
-row-agrees p m a b w₀ w pos long none d =
-    all-same m (λ j. eqb (getD w j 0 % p) 0) (λ j. eqb (a j % p) (b j % p))
-    (λ j h. eqb-same (getD w j 0 % p) 0 (a j % p) (b j % p) (there j h) (back j h))
+-- b taken away from the working row: all cells stand for 0 exactly if the row was b modulo p
+row-agrees : (p m : ℕ) (b : Vector) (w₀ w : List ℕ) → length w₀ ≡ m → Subtracted p b w₀ w
+    → all m (λ j. eqb (getD w j 0 % p) 0) ≡ all m (λ j. eqb (getD w₀ j 0 % p) (b j % p))
+row-agrees p m b w₀ w long d =
+    all-same m (λ j. eqb (getD w j 0 % p) 0) (λ j. eqb (getD w₀ j 0 % p) (b j % p))
+    (λ j h. eqb-same (getD w j 0 % p) 0 (getD w₀ j 0 % p) (b j % p) (there j h) (back j h))
   where
-    whole : (j : ℕ) → j < m → getD w j 0 + ((p - 1) * a j + b j) ≈⟨ p ⟩ 0
-    whole j h = d .cells j (omega arith) ⊙ exact (ap (λ (l : List ℕ). getD l j 0) none ∙ zeros-at (length w₀) j)
-
-    there : (j : ℕ) → j < m → getD w j 0 % p ≡ 0 → a j % p ≡ b j % p
+    there : (j : ℕ) → j < m → getD w j 0 % p ≡ 0 → getD w₀ j 0 % p ≡ b j % p
     there j h e =
         let z : getD w j 0 ≈⟨ p ⟩ 0 = record { same = e ∙ sym (zero-mod p) } in
-        let q : (p - 1) * a j + b j ≈⟨ p ⟩ 0 = exact (omega arith) ⊙ turn z ⊕ same-refl ((p - 1) * a j + b j) ⊙ whole j h in
-        let f : a j ≈⟨ p ⟩ b j = exact (omega arith) ⊙ turn q ⊕ same-refl (a j) ⊙ exact (omega arith) ⊙ minus (b j) (a j) pos in
+        let f : getD w₀ j 0 ≈⟨ p ⟩ b j = turn (d .cells j (omega arith)) ⊙ z ⊕ same-refl (b j) ⊙ exact (omega arith) in
         f .same
 
-    back : (j : ℕ) → j < m → a j % p ≡ b j % p → getD w j 0 % p ≡ 0
+    back : (j : ℕ) → j < m → getD w₀ j 0 % p ≡ b j % p → getD w j 0 % p ≡ 0
     back j h e =
-        let f : a j ≈⟨ p ⟩ b j = record { same = e } in
-        let q : (p - 1) * a j + b j ≈⟨ p ⟩ 0 = same-refl ((p - 1) * a j) ⊕ turn f ⊙ exact (omega arith) ⊙ minus 0 (a j) pos in
-        let z : getD w j 0 ≈⟨ p ⟩ 0 = exact (omega arith) ⊙ same-refl (getD w j 0) ⊕ turn q ⊙ whole j h in
+        let f : getD w₀ j 0 ≈⟨ p ⟩ b j = record { same = e } in
+        let z : getD w j 0 ≈⟨ p ⟩ 0 = cancel-zero (b j) (d .cells j (omega arith) ⊙ f) in
         z .same ∙ zero-mod p
+
+-- from a row of zeros a is taken away p - 1 times: the cells stand for a
+loaded : (p : ℕ) (a : Vector) (w₀ w : List ℕ) → 1 ≤ p → w₀ ≡ zeros (length w₀) → Subtracted p (λ j. (p - 1) * a j) w₀ w → (j : ℕ) → j < length w₀ → getD w j 0 % p ≡ a j % p
+loaded p a w₀ w pos none d j h =
+    let whole : getD w j 0 + (p - 1) * a j ≈⟨ p ⟩ 0 = d .cells j h ⊙ exact (ap (λ (l : List ℕ). getD l j 0) none ∙ zeros-at (length w₀) j) in
+    let f : getD w j 0 ≈⟨ p ⟩ a j = cancel ((p - 1) * a j) (whole ⊙ turn (minus 0 (a j) pos) ⊙ exact (omega arith)) in
+    f .same
 
 -- ---- the test and the clearing of the working row
 
@@ -139,29 +140,29 @@ scanning-turn n t w₀ w w′ i b h e q l s =
 pub zero-below : (p : ℕ) (w : List ℕ) → 0 < p → w ≡ zeros (length w) → Below (p * p) w
 zero-below p w h z i g = omega (arith, ap (λ (l : List ℕ). getD l i 0) z ∙ zeros-at (length w) i, mul-le-mul-left {m = 1} {n = p} p h)
 
--- the row tested and cleared: whether the two rows are one, and the working row is as it was first
-pub cleared-combination : (p : ℕ) (cols vals ks vs : List ℕ) (U : Matrix) (w₀ w w′ : List ℕ) (z : Bool) → 1 ≤ p → w₀ ≡ zeros (length w₀)
-    → Subtracted p (λ j. (p - 1) * entry cols vals j + weigh ks vs (λ k. U k j)) w₀ w → TestedAndCleared p w w′ z
-    → (z ≡ isCombination p (length w₀) cols vals ks vs U) × (w′ ≡ w₀)
+-- the product taken away, and the row tested and cleared
+pub cleared-combination : (p : ℕ) (ks vs : List ℕ) (U : Matrix) (w₀ w w′ : List ℕ) (z : Bool) → Subtracted p (λ j. weigh ks vs (λ k. U k j)) w₀ w → TestedAndCleared p w w′ z
+    → (z ≡ isCombination p w₀ ks vs U) × (w′ ≡ zeros (length w₀))
 unfolding isCombination
-cleared-combination p cols vals ks vs U w₀ w w′ z pos none d t = (
+cleared-combination p ks vs U w₀ w w′ z d t = (
   t .tested
       ∙ ap (λ (n : ℕ). all n (λ j. eqb (getD w j 0 % p) 0)) (d .long)
-      ∙ row-agrees p (length w₀) (entry cols vals) (λ j. weigh ks vs (λ k. U k j)) w₀ w pos refl none d,
-  t .cleared ∙ ap zeros (d .long) ∙ sym none,
+      ∙ row-agrees p (length w₀) (λ j. weigh ks vs (λ k. U k j)) w₀ w refl d,
+  t .cleared ∙ ap zeros (d .long),
 )
 
--- rows that are A's row R[i] and L's row i: whether they agree
-pub combination-agrees : (p m r : ℕ) (A : Compressed) (R : Vector) (L : Compressed) (U : Matrix) (i k : ℕ) (cols vals ks vs : List ℕ) → form p r L ≡ true → k ≡ R i
-    → cols ≡ rowOf (A .starts) k (A .cols) → vals ≡ rowOf (A .starts) k (A .vals) → ks ≡ rowOf (L .starts) i (L .cols) → vs ≡ rowOf (L .starts) i (L .vals)
-    → isCombination p m cols vals ks vs U ≡ agrees p m r (matrix A) R (matrix L) U i
+-- where A's row R[i] stands in the working row and the other row is L's row i: whether they agree
+pub combination-agrees : (p r : ℕ) (A : Compressed) (R : Vector) (L : Compressed) (U : Matrix) (i k : ℕ) (ks vs w₀ w : List ℕ) → 1 ≤ p → w₀ ≡ zeros (length w₀) → form p r L ≡ true → k ≡ R i
+    → ks ≡ rowOf (L .starts) i (L .cols) → vs ≡ rowOf (L .starts) i (L .vals) → Subtracted p (λ j. (p - 1) * matrix A k j) w₀ w
+    → isCombination p w ks vs U ≡ agrees p (length w₀) r (matrix A) R (matrix L) U i
 unfolding isCombination agrees
-combination-agrees p m r A R L U i k cols vals ks vs f e ec ev ek es =
-    all-same m (λ j. eqb (entry cols vals j % p) (weigh ks vs (λ u. U u j) % p)) (λ j. eqb (matrix A (R i) j % p) (dot r (matrix L i) (λ u. U u j) % p))
-    (λ j h. λ x. eqb (own j x % p) (product j x % p))
+combination-agrees p r A R L U i k ks vs w₀ w pos none f e ek es d =
+    ap (λ (n : ℕ). all n (λ j. eqb (getD w j 0 % p) (weigh ks vs (λ u. U u j) % p))) (d .long)
+    ∙ all-same (length w₀) (λ j. eqb (getD w j 0 % p) (weigh ks vs (λ u. U u j) % p)) (λ j. eqb (matrix A (R i) j % p) (dot r (matrix L i) (λ u. U u j) % p))
+    (λ j h. λ x. eqb (own j h x) (product j x % p))
   where
-    own : (j : ℕ) → entry cols vals j ≡ matrix A (R i) j
-    own j = (λ x. entry (ec x) (ev x) j) ∙ ap (λ (u : ℕ). matrix A u j) e
+    own : (j : ℕ) → j < length w₀ → getD w j 0 % p ≡ matrix A (R i) j % p
+    own j h = loaded p (matrix A k) w₀ w pos none d j h ∙ ap (λ (u : ℕ). matrix A u j % p) e
 
     product : (j : ℕ) → weigh ks vs (λ u. U u j) ≡ dot r (matrix L i) (λ u. U u j)
     product j =

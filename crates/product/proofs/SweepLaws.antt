@@ -3,7 +3,7 @@ use mathlib.Core.Path.{_≡_, refl, sym, ap, _∙_}
 use mathlib.Core.Logic.{_⊎_, inl, inr}
 use mathlib.Core.Bool.{Bool, true, false, _&&_}
 use mathlib.Core.List.{List, [], _∷_}
-use Prim.Native.Nat.{ℕ, suc, _+_, _-_, _*_, _%_, _≤_, _<_}
+use Prim.Native.Nat.{ℕ, suc, _+_, _*_, _%_, _≤_, _<_}
 use native.Mathlib.Omega.{arith}
 use native.Mathlib.Nat.{zero-mod}
 use native.Mathlib.Decide.{ℕ-discrete}
@@ -141,29 +141,31 @@ weigh-none [] vals f h = refl
 weigh-none (c ∷ cs) [] f h = refl
 weigh-none (c ∷ cs) (v ∷ vs) f h = omega (arith, ap (λ (z : ℕ). v * z) (h 0 (omega arith)), weigh-none cs vs f (λ t g. h (suc t) (omega arith)))
 
-module _ (p r : ℕ) (cols vals ks vs : List ℕ) (U : Compressed) (w₀ w : List ℕ) (c : ComparesRow p r cols vals ks vs U w₀) where
-  own-none : (j : ℕ) → (Among cols j → ⊥) → entry cols vals j ≡ 0
-  own-none j none = entry-absent cols vals j (λ t g e. none (record { place = t; upto = g; holds = e }))
+-- a working row that was all zero and has a row in it: it is 0 outside the columns of that row
+pub loaded-others : (p c : ℕ) (cols vals w₀ w : List ℕ) → w₀ ≡ zeros (length w₀) → Subtracted p (λ j. c * entry cols vals j) w₀ w
+    → (j : ℕ) → j < length w → (Among cols j → ⊥) → getD w j 0 ≡ 0
+loaded-others p c cols vals w₀ w cleared d j h none =
+    d .kept j (omega (arith, d .long)) (omega (arith, ap (λ (x : ℕ). c * x) (entry-absent cols vals j (λ t g e. none (record { place = t; upto = g; holds = e })))))
+    ∙ ap (λ (l : List ℕ). getD l j 0) cleared
+    ∙ zeros-at (length w₀) j
 
+module _ (p r : ℕ) (cols ks vs : List ℕ) (U : Compressed) (w₀ w : List ℕ) (c : ComparesRow p r cols ks vs U w₀) where
   product-none : (j : ℕ) → (AmongRows ks (U .starts) (U .cols) j → ⊥) → weigh ks vs (λ k. matrix U k j) ≡ 0
   product-none j none =
       weigh-none ks vs (λ k. matrix U k j)
       (λ t g. entry-absent (rowOf (U .starts) (getD ks t 0) (U .cols)) (rowOf (U .starts) (getD ks t 0) (U .vals)) j
       (λ s h e. none (record { place = t; upto = g; holds = record { place = s; upto = h; holds = e } })))
 
-  -- from a row of zeros, the product taken away and A's row added: only cells at their columns are other than 0
-  pub clears-touched : Subtracted p (λ j. (p - 1) * entry cols vals j + weigh ks vs (λ k. matrix U k j)) w₀ w → ClearsTouched p cols ks (U .starts) (U .cols) w
-  clears-touched d =
+  -- the product taken away from a working row with A's row in it: only cells at their columns are other than 0
+  pub clears-touched : Subtracted p (λ j. weigh ks vs (λ k. matrix U k j)) w₀ w → ClearsTouched p cols ks (U .starts) (U .cols) w
+  clears-touched d = let f = c .combines in
       record {
         product =
             record {
-              positive = c .positive;
-              rows = λ t g. omega (arith, row-columns p r ks vs (c .row) t g, c .U-rows);
-              U-rows = form-inside p (length w₀) (length w) U (c .U-form) (omega (arith, d .long));
+              positive = f .positive;
+              rows = λ t g. omega (arith, row-columns p r ks vs (f .row) t g, f .U-rows);
+              U-rows = form-inside p (length w₀) (length w) U (f .U-form) (omega (arith, d .long));
             };
-        own = record { positive = c .positive; cells = λ t g. omega (arith, row-columns p (length w₀) cols vals (c .own) t g, d .long) };
-        others = λ j b notProduct notOwn.
-            d .kept j (omega (arith, d .long)) (omega (arith, ap (λ (x : ℕ). (p - 1) * x) (own-none j notOwn), product-none j notProduct))
-            ∙ ap (λ (l : List ℕ). getD l j 0) (c .cleared)
-            ∙ zeros-at (length w₀) j;
+        own = record { positive = f .positive; cells = λ t g. omega (arith, c .cells t g, d .long) };
+        others = λ j b notProduct notOwn. d .kept j (omega (arith, d .long)) (product-none j notProduct) ∙ c .others j (omega (arith, d .long)) notOwn;
       }

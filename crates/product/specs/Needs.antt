@@ -1,7 +1,7 @@
 -- What the comparison of the product needs; each fact is known from the tests before it. A row of A or of L comes as its
 -- columns and values, the rows of U by their starts.
 --   CombinesRows ..    r rows of U, and a sparse row that says how often each is taken
---   ComparesRow ..     these, a row to compare with their sum, and a working row that is all zero
+--   ComparesRow ..     these, and a working row that is 0 outside the columns of a row of A
 --   Comparable ..      a matrix A and a set whose orders and storage passed, and a working row that is all zero
 --   StartsRise ..      no row start is less than the one before
 --   RowsInside ..      the rows lie inside the list of columns, and each column is below a width: the form, without the values
@@ -26,13 +26,10 @@ pub record CombinesRows (p r : ℕ) (ks vs : List ℕ) (U : Compressed) (w : Lis
   pub U-rows : length (U .starts) ≡ r + 1
   pub below : Below (p * p) w
 
-pub record ComparesRow (p r : ℕ) (cols vals ks vs : List ℕ) (U : Compressed) (w : List ℕ) : Type 0 where
-  pub positive : 0 < p
-  pub own : Row p (length w) cols vals
-  pub row : Row p r ks vs
-  pub U-form : form p (length w) U ≡ true
-  pub U-rows : length (U .starts) ≡ r + 1
-  pub cleared : w ≡ zeros (length w)
+pub record ComparesRow (p r : ℕ) (cols ks vs : List ℕ) (U : Compressed) (w : List ℕ) : Type 0 where
+  pub combines : CombinesRows p r ks vs U w
+  pub cells : Below (length w) cols
+  pub others : (j : ℕ) → j < length w → (Among cols j → ⊥) → getD w j 0 ≡ 0
 
 pub record Comparable (p n r : ℕ) (A : Compressed) (R : List ℕ) (L U : Compressed) (w : List ℕ) : Type 0 where
   pub positive : 0 < p

@@ -2,6 +2,7 @@
 ghost use mathlib.Core.Path.{_≡_};
 ghost use Prim.Native.Nat.{_<_};
 ghost use lib.ListN.{length, getD};
+ghost use Rattle.lists.specs.Filled.{zeros};
 ghost use Rattle.lists.specs.Tests.{first};
 ghost use Rattle.algebra.specs.Matrix.{vector};
 ghost use Rattle.sparse.specs.Words.{view};
@@ -17,7 +18,6 @@ mod sweep;
 use crate::sweep::clear_touched;
 use lists::index;
 use residue::Modulus;
-use sparse::kernel::subtract;
 use sparse::kernel::subtract_row;
 use sparse::words::bytes_part;
 use sparse::words::count;
@@ -61,18 +61,16 @@ fn subtract_rows(
     }
 }
 
-// Whether a row is the sum of the rows of U, each as often as a second row says: at all columns, modulo p. The two rows
-// are parts of the lists of A and of L.
+// Whether the working row is the sum of the rows of U, each as often as a row of L says: at all columns, modulo p. Only
+// cells at the given columns may be other than 0; after it all are 0. The rows are parts of the lists of A and of L.
 fn is_combination(
     q: Modulus,
     cols: &[u32],
     cb: &[u8],
-    vals: &[u32],
-    vb: &[u8],
     ks: &[u32],
     kb: &[u8],
     vs: &[u32],
-    vsb: &[u8],
+    vb: &[u8],
     us: &[u32],
     usb: &[u8],
     uc: &[u32],
@@ -82,16 +80,15 @@ fn is_combination(
     r: usize,
     work: &mut [u64],
 ) -> bool
-    requires { ⌜ ComparesRow (q .p) r (view (now cols) (now cb)) (view (now vals) (now vb)) (view (now ks) (now kb)) (view (now vs) (now vsb)) (viewed (now us) (now usb) (now uc) (now ucb) (now uv) (now uvb)) (now work) ⌝ }
-    ensures { λ z. ⌜ (z ≡ isCombination (q .p) (length (now (work .entry))) (view (now (cols .entry)) (now (cb .entry))) (view (now (vals .entry)) (now (vb .entry))) (view (now (ks .entry)) (now (kb .entry))) (view (now (vs .entry)) (now (vsb .entry))) (matrix (viewed (now (us .entry)) (now (usb .entry)) (now (uc .entry)) (now (ucb .entry)) (now (uv .entry)) (now (uvb .entry))))) × (now (work .exit) ≡ now (work .entry)) ⌝ }
+    requires { ⌜ ComparesRow (q .p) r (view (now cols) (now cb)) (view (now ks) (now kb)) (view (now vs) (now vb)) (viewed (now us) (now usb) (now uc) (now ucb) (now uv) (now uvb)) (now work) ⌝ }
+    ensures { λ z. ⌜ (z ≡ isCombination (q .p) (now (work .entry)) (view (now (ks .entry)) (now (kb .entry))) (view (now (vs .entry)) (now (vb .entry))) (matrix (viewed (now (us .entry)) (now (usb .entry)) (now (uc .entry)) (now (ucb .entry)) (now (uv .entry)) (now (uvb .entry))))) × (now (work .exit) ≡ zeros (length (now (work .entry)))) ⌝ }
 {
-    subtract_rows(q, ks, kb, vs, vsb, us, usb, uc, ucb, uv, uvb, r, work);
-    subtract(q, cols, cb, vals, vb, q.p - 1, work);
+    subtract_rows(q, ks, kb, vs, vb, us, usb, uc, ucb, uv, uvb, r, work);
     clear_touched(q, cols, cb, ks, kb, us, usb, uc, ucb, work)
 }
 
-// Whether row R[i] of A is row i of the product, at all columns. The two rows are handed on as
-// middle parts of their lists.
+// Whether row R[i] of A is row i of the product, at all columns. A's row is put into the working row:
+// taken away p - 1 times it is added once. The two rows are handed on as middle parts of their lists.
 fn row_agrees(
     q: Modulus,
     ss: &[u32],
@@ -123,6 +120,7 @@ fn row_agrees(
     ensures { λ z. ⌜ (z ≡ agrees (q .p) (length (now (work .entry))) r (matrix (viewed (now (ss .entry)) (now (sb .entry)) (now (cols .entry)) (now (cb .entry)) (now (vals .entry)) (now (vb .entry)))) (vector (view (now (ro .entry)) (now (rob .entry)))) (matrix (viewed (now (ls .entry)) (now (lsb .entry)) (now (lc .entry)) (now (lcb .entry)) (now (lv .entry)) (now (lvb .entry)))) (matrix (viewed (now (us .entry)) (now (usb .entry)) (now (uc .entry)) (now (ucb .entry)) (now (uv .entry)) (now (uvb .entry)))) i) × (now (work .exit) ≡ now (work .entry)) ⌝ }
 {
     let k = index_at(ro, rob, i);
+    subtract_row(q, ss, sb, cols, cb, vals, vb, k, q.p - 1, work);
     let a = index_at(ss, sb, k);
     let e = index_at(ss, sb, k + 1);
     let from = index_at(ls, lsb, i);
@@ -131,8 +129,6 @@ fn row_agrees(
         q,
         list_part(cols, a, e),
         bytes_part(cols.len(), cb, a, e),
-        list_part(vals, a, e),
-        bytes_part(vals.len(), vb, a, e),
         list_part(lc, from, to),
         bytes_part(lc.len(), lcb, from, to),
         list_part(lv, from, to),
