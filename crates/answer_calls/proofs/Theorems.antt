@@ -5,7 +5,7 @@
 --   stored-judged, bytes-judged        after the tests of lengths and plan, none of 10 to 14 is returned exactly if shape and product are right
 --   stored-by, bytes-by                the numbers of the table by which it refuses
 --   stored-cleared, bytes-cleared      a refusal leaves x and z all zero
---   right-agree                        two answers that are right, from whatever sets, have one verdict
+--   answers-agree                      two answers to one question, from whatever sets, have one verdict
 use mathlib.Core.Path.{_≡_, refl, sym, ap, subst, _∙_}
 use mathlib.Core.Logic.{_↔_}
 use mathlib.Core.Bool.{Bool, true, false, _&&_}
@@ -45,7 +45,7 @@ use Rattle.call_tests.specs.Accepted.{GoodPlan}
 use Rattle.check_calls.specs.Passing.{StoredPasses, CertificatePasses}
 use Rattle.check_calls.proofs.Theorems.{factors-none, certificate-none}
 use Rattle.answer_calls.specs.Calls.{answerNumber, answerOf, questionLengths, questionAfter, given, answerFactorsOf, answerCertificateOf, Answers}
-use Rattle.answer_calls.specs.Meaning.{Askable, LeftOpen, LeftClosed, AnswersRight}
+use Rattle.answer_calls.specs.Meaning.{Askable, LeftOpen, LeftClosed, AnswersRight, AnswerOf, fromStored, fromBytes}
 use Rattle.answer_calls.specs.declared.Answer.{Answer}
 use Rattle.answer_calls.proofs.Checked.{Checked, SetTest, stored-test, bytes-test}
 use Rattle.answer_calls.proofs.Ways.{asked-parts}
@@ -282,9 +282,20 @@ module _ (p n m : ℕ) (A : Compressed) (cert y : List ℕ) (r : Answer) (x₀ x
 
 -- ---- two answers to one question
 
-pub right-agree : (p n m : ℕ) (A : Compressed) (s s′ : Set) (y : List ℕ) (r r′ : Answer) (x z x′ z′ : List ℕ) → AnswersRight p n m A s y r x z → AnswersRight p n m A s′ y r′ x′ z′
+-- the verdict of an answer, whichever set it came from
+record Decides (p n m : ℕ) (A : Compressed) (y : List ℕ) (r : Answer) : Type 0 where
+  pub opens : (r ≡ Answer.Open) ↔ InRowSpace p n m (matrix A) (vector y)
+  pub closes : (r ≡ Answer.Closed) ↔ (¬ InRowSpace p n m (matrix A) (vector y))
+
+decides : (p n m : ℕ) (A : Compressed) (y : List ℕ) (r : Answer) → AnswerOf p n m A y r → Decides p n m A y r
+decides p n m A y r (fromStored s x₀ x z₀ z w₀ w call done) = let h = stored-right p n m A s y r x₀ x z₀ z w₀ w call done in record { opens = h .open-exactly; closes = h .closed-exactly }
+decides p n m A y r (fromBytes cert x₀ x z₀ z w₀ w call done) = let h = bytes-right p n m A cert y r x₀ x z₀ z w₀ w call done in record { opens = h .open-exactly; closes = h .closed-exactly }
+
+pub answers-agree : (p n m : ℕ) (A : Compressed) (y : List ℕ) (r r′ : Answer) → AnswerOf p n m A y r → AnswerOf p n m A y r′
     → ((r ≡ Answer.Open) ↔ (r′ ≡ Answer.Open)) × ((r ≡ Answer.Closed) ↔ (r′ ≡ Answer.Closed))
-right-agree p n m A s s′ y r r′ x z x′ z′ a b = (
-  ((λ e. b .open-exactly .1 (a .open-exactly .0 e)), λ e. a .open-exactly .1 (b .open-exactly .0 e)),
-  ((λ e. b .closed-exactly .1 (a .closed-exactly .0 e)), λ e. a .closed-exactly .1 (b .closed-exactly .0 e)),
-)
+answers-agree p n m A y r r′ a b =
+    let h = decides p n m A y r a in
+    let k = decides p n m A y r′ b in (
+      ((λ e. k .opens .1 (h .opens .0 e)), λ e. h .opens .1 (k .opens .0 e)),
+      ((λ e. k .closes .1 (h .closes .0 e)), λ e. h .closes .1 (k .closes .0 e)),
+    )

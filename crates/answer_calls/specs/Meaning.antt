@@ -9,6 +9,7 @@
 --     open-left, closed-left    x and z are as described
 --     one-value                 open: two settings that give the same slots give y one value
 --     every-value               closed: for every setting and every value some setting gives the same slots and gives y that value
+--   AnswerOf p n m A y r        r is the answer that some call gave to y, from stored factors or from a certificate, and did not refuse
 use Prim.Native.Nat.{ℕ}
 use mathlib.Core.Path.{_≡_}
 use mathlib.Core.Logic.{_↔_}
@@ -25,6 +26,7 @@ use Rattle.sparse.specs.Row.{Below}
 use Rattle.sparse.specs.Matrix.{Compressed, matrix}
 use Rattle.sparse.specs.Set.{Set}
 use Rattle.row_space.specs.Solve.{lowest}
+use Rattle.answer_calls.specs.Calls.{answerNumber, answerFactorsOf, answerCertificateOf, Answers}
 use Rattle.answer_calls.specs.declared.Answer.{Answer}
 
 pub record Askable (p n m : ℕ) (y : List ℕ) (a b : ℕ) : Type 0 where
@@ -51,3 +53,7 @@ pub record AnswersRight (p n m : ℕ) (A : Compressed) (s : Set) (y : List ℕ) 
   pub closed-left : r ≡ Answer.Closed → LeftClosed p n m A s y x z
   pub one-value : r ≡ Answer.Open → Determined p n m (matrix A) (vector y)
   pub every-value : r ≡ Answer.Closed → Undetermined p n m (matrix A) (vector y)
+
+pub data AnswerOf (p n m : ℕ) (A : Compressed) (y : List ℕ) (r : Answer) : Type 0 where
+  fromStored : (s : Set) (x₀ x z₀ z w₀ w : List ℕ) → Answers (answerFactorsOf p n m A s y (length x₀) (length z₀) (length w₀)) r x₀ x z₀ z w₀ w → answerNumber r ≡ 0 → AnswerOf p n m A y r
+  fromBytes : (cert x₀ x z₀ z w₀ w : List ℕ) → Answers (answerCertificateOf p n m A cert y (length x₀) (length z₀) (length w₀)) r x₀ x z₀ z w₀ w → answerNumber r ≡ 0 → AnswerOf p n m A y r

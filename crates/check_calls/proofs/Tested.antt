@@ -2,21 +2,18 @@
 use mathlib.Core.Path.{_≡_, refl, sym, subst, ap, _∙_}
 use mathlib.Core.Bool.{Bool, true, false, _&&_}
 use mathlib.Core.List.{List}
-use Prim.Native.Nat.{ℕ, _+_, _≤_, _<_}
+use Prim.Native.Nat.{ℕ, _+_}
 use native.Mathlib.Omega.{arith}
-use lib.Dec.{eqb, leb}
+use lib.Dec.{eqb}
 use lib.ListN.{length}
-use borrow.Author.Tests.{eqb-true, leb-true, eq-eqb, ne-eqb}
+use borrow.Author.Tests.{eqb-true, eq-eqb, ne-eqb}
 use Rattle.lists.specs.Filled.{zeros}
 use Rattle.lists.specs.Refusals.{_▷_, unless}
 use Rattle.lists.specs.declared.Outcome.{Outcome}
 use Rattle.lists.specs.declared.Outcome.the-variants.{Passed, Refused}
 use Rattle.lists.proofs.Bools.{and-left, and-right, chain-false, chain-true, and-both}
 use Rattle.lists.proofs.Refusals.{fails, holds, passed, unless-true}
-use Rattle.algebra.specs.Prime.{Prime}
-use Rattle.residue.specs.Range.{isModulus}
-use Rattle.residue.proofs.Primes.{modulus-prime}
-use Rattle.sparse.specs.Matrix.{Compressed, form}
+use Rattle.sparse.specs.Matrix.{Compressed}
 use Rattle.sparse.specs.Set.{Set}
 use Rattle.checker.specs.Needs.{Checkable}
 use Rattle.certificate.specs.Reading.{headerOk}

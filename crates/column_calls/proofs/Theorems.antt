@@ -32,7 +32,7 @@ use Rattle.call_tests.specs.Limits.{workLength}
 use Rattle.call_tests.specs.Accepted.{GoodPlan}
 use Rattle.check_calls.specs.Passing.{StoredPasses, CertificatePasses}
 use Rattle.check_calls.proofs.Theorems.{factors-none, certificate-none}
-use Rattle.answer_calls.proofs.Checked.{Checked, SetTest, stored-test, bytes-test}
+use Rattle.answer_calls.proofs.Checked.{SetTest, stored-test, bytes-test}
 use Rattle.column_calls.specs.Calls.{columnsAfter, listed, openFactorsOf, openCertificateOf, Lists}
 use Rattle.column_calls.specs.Meaning.{MarksOpen}
 

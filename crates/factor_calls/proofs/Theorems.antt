@@ -13,13 +13,12 @@ use mathlib.Core.Logic.{_↔_, inl, inr}
 use mathlib.Core.Bool.{true, true≢false}
 use mathlib.Core.List.{List, [], _∷_, _++_}
 use mathlib.Core.Option.{Option, none, some}
-use Prim.Native.Nat.{ℕ, _≤_}
+use Prim.Native.Nat.{ℕ}
 use native.Mathlib.Omega.{arith}
 use lib.ListN.{length}
 use Rattle.lists.specs.Tests.{among}
 use Rattle.lists.specs.Table.{planFaults, storageTooShort}
 use Rattle.lists.specs.Refusals.{numberOf, NumberFrom}
-use Rattle.lists.specs.Filled.{zeros, filled}
 use Rattle.lists.specs.declared.Outcome as tests
 use Rattle.lists.specs.declared.Outcome.the-variants.{Passed, Refused}
 use Rattle.lists.proofs.Filled.{filled-none}
@@ -33,7 +32,7 @@ use Rattle.elimination.specs.Overflow.{Overflows}
 use Rattle.elimination.proofs.Room.{none-enough, enough-none, some-overflows}
 use Rattle.call_tests.specs.Accepted.{GoodPlan}
 use Rattle.call_tests.proofs.Plans.{good-prime, good-plan, good-passes, plan-numbers}
-use Rattle.factoring.specs.Outcome.{Outcome, refusedAt, done, unlessOver, factoringFrom, factoring, Leaves}
+use Rattle.factoring.specs.Outcome.{Outcome, done, unlessOver, factoringFrom, factoring, Leaves}
 use Rattle.factoring.specs.OwnSet.{ownSet}
 use Rattle.factoring.proofs.OwnSet.{own-set, own-set-passes, own-rank}
 use Rattle.factor_calls.specs.Lengths.{lentLengths, lentOutcome}

@@ -1,10 +1,11 @@
 -- What a call that reads a text returns and leaves.
 --   done-exactly        it returns 0 exactly if its lists have their lengths and the text states a plan for which they have room
 --   holds-stated        and then the result and the lists hold that plan
---   done-well-formed    in its form
+--   read-good           which every later call takes
 --   each-stated         each triple that is stated is stored: its residue stands at its place
 --   read-by             else it returns one of 9 and 1 to 7
 --   read-cleared        and leaves p, n, m, the entry count and all lists 0
+--   accepted-exactly    line by line: a text is accepted, as these sizes and entries, exactly if it states that plan
 use mathlib.Core.Path.{_≡_, refl, sym, ap, _∙_, subst}
 use mathlib.Core.Logic.{_↔_, inl, inr}
 use mathlib.Core.List.{List, [], _∷_, _++_}
@@ -26,6 +27,7 @@ use Rattle.fields.specs.declared.numbers.Number.the-variants.{Value, NotNumber}
 use Rattle.residue.specs.Range.{isModulus}
 use Rattle.residue.specs.Signed.{residueOf}
 use Rattle.sparse.specs.Matrix.{matrix, form}
+use Rattle.sparse.proofs.Rows.{form-paired}
 use Rattle.plan_text.specs.declared.header.Header.{Header}
 use Rattle.plan_text.specs.declared.header.Header.the-variants.{Given, NotHeader}
 use Rattle.plan_text.specs.declared.line.Line.{Line}
@@ -35,16 +37,18 @@ use Rattle.plan_text.specs.declared.judge.Verdict.{Verdict}
 use Rattle.plan_text.specs.declared.judge.Verdict.the-variants.{Refused, Last, Entry as AnEntry}
 use Rattle.plan_text.specs.declared.Reading.{Reading}
 use Rattle.call_tests.specs.Limits.{largestSize}
+use Rattle.call_tests.specs.Accepted.{GoodPlan}
 use Rattle.plan_text.specs.Limits.{largestText, startsLength}
 use Rattle.plan_text.specs.Line.{headerOf}
 use Rattle.plan_text.specs.Judge.{judge, inRange, isLast, within, residueAt}
 use Rattle.plan_text.specs.Reading.{Entry, ReadResult, refused, accepted, ending, onward, triples, verdictOn, withSizes, fromSecond, withModulus, fromFirst, readOf}
-use Rattle.plan_text.specs.Stating.{StatedEntry, Plan, planText, integerOf}
-use Rattle.plan_text.specs.Call.{ReadAnswer, refuses, refusalOf, answerOf, callOf, Gives}
-use Rattle.plan_text.specs.Held.{heldPlan, planOf, StatesPlan, HoldsPlan, ReadCleared}
+use Rattle.plan_text.specs.Stating.{States, StatedEntry, Plan, planText, entriesOf, integerOf}
+use Rattle.plan_text.specs.Call.{ReadAnswer, refuses, answerOf, callOf, Gives}
+use Rattle.plan_text.specs.Held.{heldPlan, StatesPlan, HoldsPlan, ReadCleared}
 use Rattle.plan_text.proofs.Accepted.{accepted-states}
 use Rattle.plan_text.proofs.Printed.{reads-stated}
 use Rattle.plan_text.proofs.AsStated.{stored-as-stated, stated-found, stated-inside}
+use Rattle.plan_text.proofs.EntryLimit.{few-entries}
 
 -- ---- every refusal has a number of the table
 abbrev Numbered : ReadResult → Type 0
@@ -190,11 +194,22 @@ module _ (text : List ℕ) (a b c : ℕ) (r : Reading) (st co va : List ℕ) (ca
     λ h. holds-stated (h .0) (h .1) (h .2) .done,
   )
 
-  pub done-well-formed : r .number ≡ 0 → form (r .p) (r .m) (heldPlan r st co va) ≡ true
-  done-well-formed z =
-      let h = done-exactly .0 z in
-      let x = holds-stated (h .0) (h .1) (h .2) in
-      (λ j. form (x .modulus-is j) (x .columns-are j) (heldPlan r st co va)) ∙ x .formed
+  pub read-good : r .number ≡ 0 → GoodPlan (r .p) (r .n) (r .m) (heldPlan r st co va)
+  read-good z =
+      let (long, paired, h) = done-exactly .0 z in
+      let x = holds-stated long paired h in
+      let A = heldPlan r st co va in
+      let formed : form (r .p) (r .m) A ≡ true = (λ t. form (x .modulus-is t) (x .columns-are t) A) ∙ x .formed in
+      let few = few-entries b (h .sizes) (planText (h .sizes) (h .triples)) (entriesOf (h .sizes .modulus .p) (h .triples)) (reads-stated b (h .sizes) (h .triples) (h .plan)) in
+      record {
+        modulus = ap isModulus (x .modulus-is) ∙ h .plan .modulus;
+        rows = x .starts-stored ∙ ap (λ (k : ℕ). k + 1) (sym (x .rows-are));
+        paired = form-paired (r .p) (r .m) (A .starts) (A .cols) (A .vals) formed;
+        few-rows = omega (arith, x .rows-are, h .plan .rows);
+        few-columns = omega (arith, x .columns-are, h .plan .columns);
+        few-entries = omega (arith, x .entries-stored, x .count-is, few);
+        formed = formed;
+      }
 
   pub read-by : NumberFrom textFaults (r .number)
   unfolding callOf answerOf among
@@ -232,3 +247,11 @@ each-stated s room xs t ys h r st co va call =
     let place = stated-inside s 0 0 xs t ys (h .rising) in
     holds-stated (planText s ts) startsLength room room r st co va call refl refl (record { sizes = s; triples = ts; plan = h; text-is = refl }) .cells (t .row - 1) (t .column - 1) (place .0) (place .1)
     ∙ stated-found s 0 0 xs t ys (h .rising)
+
+-- ---- line by line
+
+pub accepted-exactly : (room : ℕ) (s : Sizes) (text : List ℕ) (out : List Entry) → (readOf room text ≡ accepted s out) ↔ States room s text out
+accepted-exactly room s text out = (
+  accepted-states room s text out,
+  λ h. ap (readOf room) (h .text-is) ∙ reads-stated room s (h .stated) (h .plan) ∙ ap (accepted s) (sym (h .entries-are)),
+)

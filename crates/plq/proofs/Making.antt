@@ -9,7 +9,7 @@ use borrow.Author.Tests.{eq-eqb, ne-eqb, eqb-true}
 use Rattle.lists.specs.Filled.{zeros, filled}
 use Rattle.lists.specs.Refusals.{_▷_, unless}
 use Rattle.lists.specs.declared.Outcome.{Outcome}
-use Rattle.lists.specs.declared.Outcome.the-variants.{Passed, Refused}
+use Rattle.lists.specs.declared.Outcome.the-variants.{Refused}
 use Rattle.lists.proofs.Filled.{filled-none}
 use Rattle.sparse.specs.Matrix.{Compressed}
 use Rattle.plan_text.specs.Call.{ReadAnswer}

@@ -5,7 +5,7 @@ use mathlib.Core.Option.{Option, none, some}
 use Prim.Native.Nat.{ℕ, _≤_}
 use native.Mathlib.Omega.{arith}
 use lib.ListN.{length, getD}
-use Rattle.lists.specs.Refusals.{_▷_, unless, numberOf, detailOf}
+use Rattle.lists.specs.Refusals.{_▷_, unless, detailOf}
 use Rattle.lists.specs.declared.Outcome as tests
 use Rattle.lists.specs.declared.Outcome.the-variants.{Passed, Refused}
 use Rattle.residue.specs.Range.{isModulus}

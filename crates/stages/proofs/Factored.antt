@@ -4,7 +4,6 @@ use mathlib.Core.List.{List}
 use Prim.Native.Nat.{ℕ, _+_, _≤_, _<_}
 use native.Mathlib.Omega.{arith}
 use lib.ListN.{length, getD, take}
-use lib.Seq.{length-take-le}
 use Rattle.lists.specs.Filled.{zeros}
 use Rattle.residue.proofs.Primes.{modulus-prime}
 use Rattle.sparse.specs.Matrix.{Compressed, compressed}

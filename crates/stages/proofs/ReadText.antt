@@ -7,22 +7,19 @@
 --   factored-is        factoring it is done, or refused by 7 at the first row that overflows
 --   factored-whole     done, with the set of the pivot rules, where L and U fit
 --   factored-over      else refused by 7 at the first row in processing order that overflows
-use mathlib.Core.Path.{_≡_, refl, sym, ap, _∙_}
+use mathlib.Core.Path.{_≡_, refl, ap, _∙_}
 use mathlib.Core.Logic.{_↔_, inl, inr}
 use mathlib.Core.Bool.{Bool, true, false}
 use mathlib.Core.List.{List}
 use mathlib.Core.Option.{Option, none, some}
-use Prim.Native.Nat.{ℕ, _+_}
-use native.Mathlib.Omega.{arith}
+use Prim.Native.Nat.{ℕ}
 use lib.Dec.{eqb}
 use borrow.Author.Tests.{eq-eqb, eqb-false}
 use Rattle.lists.specs.Table.{textFaults, storageTooShort}
 use Rattle.lists.specs.Refusals.{unless, NumberFrom}
 use Rattle.lists.specs.declared.Outcome.the-variants.{Passed, Refused}
 use Rattle.lists.proofs.Refusals.{RefusedBy, number-passed}
-use Rattle.residue.specs.Range.{isModulus}
-use Rattle.sparse.specs.Matrix.{Compressed, form, matrix}
-use Rattle.sparse.proofs.Rows.{form-paired}
+use Rattle.sparse.specs.Matrix.{Compressed, matrix}
 use Rattle.elimination.specs.Structural.{structural}
 use Rattle.elimination.proofs.Room.{some-overflows}
 use Rattle.call_tests.specs.Limits.{largestEntries}
@@ -30,7 +27,7 @@ use Rattle.call_tests.specs.Accepted.{GoodPlan}
 use Rattle.plan_text.specs.Limits.{startsLength}
 use Rattle.plan_text.specs.Call.{callOf, Gives}
 use Rattle.plan_text.specs.Held.{planOf, StatesPlan, HoldsPlan}
-use Rattle.plan_text.proofs.Done.{done-exactly, holds-stated, read-by}
+use Rattle.plan_text.proofs.Done.{done-exactly, holds-stated, read-good, read-by}
 use Rattle.factoring.specs.Outcome.{Outcome, unlessOver}
 use Rattle.factor_calls.specs.Accepted.{LentRight}
 use Rattle.factor_calls.proofs.Theorems.{over, whole, call-is, lent-passes, fits-exactly}
@@ -52,19 +49,7 @@ module _ (text : List ℕ) where
   reading-holds h = holds-stated text startsLength largestEntries largestEntries (reading text .result) (reading text .starts) (reading text .columns) (reading text .values) as-call refl refl h
 
   pub reading-good : StatesPlan largestEntries text → GoodPlan (reading text .result .p) (reading text .result .n) (reading text .result .m) (planOf (reading text))
-  reading-good h =
-      let x = reading-holds h in
-      let A = planOf (reading text) in
-      let formed : form (reading text .result .p) (reading text .result .m) A ≡ true = (λ t. form (x .modulus-is t) (x .columns-are t) A) ∙ x .formed in
-      record {
-        modulus = ap isModulus (x .modulus-is) ∙ h .plan .modulus;
-        rows = x .starts-stored ∙ ap (λ (k : ℕ). k + 1) (sym (x .rows-are));
-        paired = form-paired (reading text .result .p) (reading text .result .m) (A .starts) (A .cols) (A .vals) formed;
-        few-rows = omega (arith, x .rows-are, h .plan .rows);
-        few-columns = omega (arith, x .columns-are, h .plan .columns);
-        few-entries = omega (arith, x .entries-stored, x .count-is, h .plan .fits);
-        formed = formed;
-      }
+  reading-good h = read-good text startsLength largestEntries largestEntries (reading text .result) (reading text .starts) (reading text .columns) (reading text .values) as-call (reading-exactly .1 h)
 
   -- ---- as an outcome
 

@@ -1,7 +1,8 @@
 -- Demand 1: bad input is refused by a number from one table with all lent output cleared to zero, all else is accepted, and each text is stored as exactly the
 -- plan it states. Every statement speaks of what a call returned and left in the lent lists, through the record that is its contract; everything is shown in the
 -- crate that it is about. For each call: `-exactly`, 0 is returned exactly if ..; `-by`, the numbers by which it refuses; `-cleared`, what a refusal leaves.
---   read                                  a text read into lent lists; `read-as-stated`, `read-each-triple`: it is stored as exactly the plan it states
+--   read                                  a text read into lent lists; `stored-as-stated`, `read-each-triple`: it is stored as exactly the plan it states;
+--                                         `read-accepted`: which every later call takes
 --   factor                                a stored plan factored; `factor-seven`, `factor-row`: storage that is outgrown
 --   check-stored, check-bytes             stored factors, and a certificate, checked against a stored plan
 --   write                                 a certificate written
@@ -19,7 +20,7 @@
 --   entry-limit          a text within its length cannot pass the entry limit
 --   plans                a stored plan passes the tests that every call begins with exactly if it is a good plan and the other lists have their lengths
 use Prim.Native.Nat.{ℕ, _+_, _-_, _*_, _≤_, _<_}
-use mathlib.Core.Path.{_≡_, ap, sym, _∙_}
+use mathlib.Core.Path.{_≡_}
 use mathlib.Core.Logic.{_↔_, _⊎_}
 use mathlib.Core.Bool.{Bool, true}
 use mathlib.Core.List.{List, [], _∷_, _++_}
@@ -47,8 +48,6 @@ use Rattle.plan_text.specs.Reading.{Entry, accepted, kept, readOf}
 use Rattle.plan_text.specs.Stating.{States, StatedEntry, Plan, planText, integerOf}
 use Rattle.plan_text.specs.Call.{callOf, Gives}
 use Rattle.plan_text.specs.Held.{heldPlan, StatesPlan, HoldsPlan, ReadCleared}
-use Rattle.plan_text.proofs.Accepted.{accepted-states}
-use Rattle.plan_text.proofs.Printed.{reads-stated}
 use Rattle.plan_text.proofs.EntryLimit.{few-entries}
 use Rattle.plan_text.proofs.Done as reads
 use Rattle.call_tests.specs.Limits.{largestEntries}
@@ -93,8 +92,11 @@ module _ (text : List ℕ) (a b c : ℕ) (r : Reading) (starts columns values : 
   pub read-exactly : (r .number ≡ 0) ↔ ((a ≡ startsLength) × (b ≡ c) × StatesPlan b text)
   read-exactly = reads.done-exactly text a b c r starts columns values call
 
-  pub read-as-stated : a ≡ startsLength → b ≡ c → (h : StatesPlan b text) → HoldsPlan (h .sizes) (h .triples) r starts columns values
-  read-as-stated = reads.holds-stated text a b c r starts columns values call
+  pub stored-as-stated : a ≡ startsLength → b ≡ c → (h : StatesPlan b text) → HoldsPlan (h .sizes) (h .triples) r starts columns values
+  stored-as-stated = reads.holds-stated text a b c r starts columns values call
+
+  pub read-accepted : r .number ≡ 0 → GoodPlan (r .p) (r .n) (r .m) (heldPlan r starts columns values)
+  read-accepted = reads.read-good text a b c r starts columns values call
 
   pub read-by : NumberFrom textFaults (r .number)
   read-by = reads.read-by text a b c r starts columns values call
@@ -267,10 +269,7 @@ pub moduli : (p : ℕ) → (isModulus p ≡ true) ↔ (Prime p × (p ≤ largest
 moduli p = ((λ e. (modulus-prime p e, modulus-range p e)), λ h. prime-modulus p (h .0) (h .1))
 
 pub accepted-exactly : (room : ℕ) (s : Sizes) (text : List ℕ) (out : List Entry) → (readOf room text ≡ accepted s out) ↔ States room s text out
-accepted-exactly room s text out = (
-  accepted-states room s text out,
-  λ h. ap (readOf room) (h .text-is) ∙ reads-stated room s (h .stated) (h .plan) ∙ ap (accepted s) (sym (h .entries-are)),
-)
+accepted-exactly = reads.accepted-exactly
 
 pub entry-limit : (room : ℕ) (s : Sizes) (text : List ℕ) (out : List Entry) → readOf room text ≡ accepted s out → length (kept out) ≤ largestEntries
 entry-limit room s text out e = omega (arith, few-entries room s text out e)

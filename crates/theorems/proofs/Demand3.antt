@@ -30,7 +30,6 @@ use Rattle.algebra.specs.Matrix.{vector}
 use Rattle.algebra.specs.Rank.{Rank}
 use Rattle.algebra.specs.Factors.{Factors}
 use Rattle.algebra.specs.Settings.{Determined, Undetermined}
-use Rattle.sparse.specs.Row.{Below}
 use Rattle.sparse.specs.Matrix.{Compressed, matrix}
 use Rattle.sparse.specs.Set.{Set}
 use Rattle.pluq.specs.Judge.{Passes}
@@ -41,7 +40,6 @@ use Rattle.plan_text.specs.Held.{planOf}
 use Rattle.call_tests.specs.Limits.{workLength}
 use Rattle.call_tests.specs.Accepted.{GoodPlan}
 use Rattle.check_calls.specs.Calls.{checkFactorsOf, checkCertificateOf, Checks}
-use Rattle.check_calls.specs.Passing.{StoredPasses, CertificatePasses}
 use Rattle.check_calls.proofs.Theorems as checks
 use Rattle.write_calls.specs.Call.{writeOutcome, WritesCertificate}
 use Rattle.write_calls.specs.declared.Written.{Written}
@@ -51,7 +49,7 @@ use Rattle.factoring.specs.OwnSet.{ownSet}
 use Rattle.factor_calls.specs.Calls.{factorCallOf}
 use Rattle.factor_calls.specs.declared.Lent.{Lent}
 use Rattle.answer_calls.specs.Calls.{answerNumber, answerFactorsOf, answerCertificateOf, Answers}
-use Rattle.answer_calls.specs.Meaning.{Askable, AnswersRight}
+use Rattle.answer_calls.specs.Meaning.{Askable, AnswersRight, AnswerOf}
 use Rattle.answer_calls.specs.declared.Answer.{Answer}
 use Rattle.answer_calls.proofs.Theorems as answers
 use Rattle.column_calls.specs.Calls.{openFactorsOf, openCertificateOf, Lists}
@@ -170,10 +168,10 @@ module _ (p n m : ℕ) (A : Compressed) (cert y : List ℕ) (r : Answer) (x₀ x
   pub bytes-every-value : r ≡ Answer.Closed → Undetermined p n m (matrix A) (vector y)
   bytes-every-value e = bytes-right (rw e refl) .every-value e
 
--- s and s′ are any two sets that the answers came from, stored or in a certificate
-pub agree : (p n m : ℕ) (A : Compressed) (s s′ : Set) (y : List ℕ) (r r′ : Answer) (x z x′ z′ : List ℕ) → AnswersRight p n m A s y r x z → AnswersRight p n m A s′ y r′ x′ z′
+-- r and r′ are what two calls answered to y, each from stored factors or from a certificate, whoever made them
+pub agree : (p n m : ℕ) (A : Compressed) (y : List ℕ) (r r′ : Answer) → AnswerOf p n m A y r → AnswerOf p n m A y r′
     → ((r ≡ Answer.Open) ↔ (r′ ≡ Answer.Open)) × ((r ≡ Answer.Closed) ↔ (r′ ≡ Answer.Closed))
-agree = answers.right-agree
+agree = answers.answers-agree
 
 -- ---- the open columns
 
