@@ -1,5 +1,6 @@
 -- What a call with a question says, with what it returned and left (`Answers`), whatever set it was given, whoever made it.
 --   stored-answered, bytes-answered    a question is answered exactly if the set passes the check, y holds m residues, and x and z have their lengths
+--   stored-after, bytes-after          so every question of m residues is answered where a call that checks the set has returned 0
 --   stored-right, bytes-right          and then the answer is right (`AnswersRight`): open exactly if some x has x A = y, with the x or z described; one value
 --                                      where it is open, every value where it is closed
 --   stored-judged, bytes-judged        after the tests of lengths and plan, none of 10 to 14 is returned exactly if shape and product are right
@@ -42,8 +43,9 @@ use Rattle.certificate.specs.Layout.{Sized}
 use Rattle.certificate.specs.Reading.{headerOk, setOfCertificate}
 use Rattle.call_tests.specs.Limits.{workLength}
 use Rattle.call_tests.specs.Accepted.{GoodPlan}
+use Rattle.check_calls.specs.Calls.{checkFactorsOf, checkCertificateOf, Checks}
 use Rattle.check_calls.specs.Passing.{StoredPasses, CertificatePasses}
-use Rattle.check_calls.proofs.Theorems.{factors-none, certificate-none}
+use Rattle.check_calls.proofs.Theorems.{factors-none, certificate-none, stored-passes, bytes-pass}
 use Rattle.answer_calls.specs.Calls.{answerNumber, answerOf, questionLengths, questionAfter, given, answerFactorsOf, answerCertificateOf, Answers}
 use Rattle.answer_calls.specs.Meaning.{Askable, LeftOpen, LeftClosed, AnswersRight, AnswerOf, fromStored, fromBytes}
 use Rattle.answer_calls.specs.declared.Answer.{Answer}
@@ -226,6 +228,12 @@ module _ (p n m : ℕ) (A : Compressed) (s : Set) (y : List ℕ) (r : Answer) (x
   stored-answered =
       answered _ p n m A s y r x₀ x z₀ z w₀ w (stored-test p n m A s (length w₀)) call
 
+  pub stored-after : (q : Outcome) (w₁ w₂ : List ℕ) → Checks (checkFactorsOf p n m A s (length w₁)) q w₁ w₂ → numberOf q ≡ 0
+      → length w₀ ≡ workLength → Askable p n m y (length x₀) (length z₀) → answerNumber r ≡ 0
+  stored-after q w₁ w₂ check passed wide ask =
+      let h = stored-passes p n m A s q w₁ w₂ check .0 passed in
+      stored-answered .1 (record { plan = h .plan; sized = h .sized; work = wide; passes = h .passes }, ask)
+
   pub stored-right : answerNumber r ≡ 0 → AnswersRight p n m A s y r x z
   unfolding answerFactorsOf
   stored-right =
@@ -257,6 +265,12 @@ module _ (p n m : ℕ) (A : Compressed) (cert y : List ℕ) (r : Answer) (x₀ x
   unfolding answerCertificateOf
   bytes-answered =
       answered _ p n m A set y r x₀ x z₀ z w₀ w (bytes-test p n m A cert (length w₀)) call
+
+  pub bytes-after : (q : Outcome) (w₁ w₂ : List ℕ) → Checks (checkCertificateOf p n m A cert (length w₁)) q w₁ w₂ → numberOf q ≡ 0
+      → length w₀ ≡ workLength → Askable p n m y (length x₀) (length z₀) → answerNumber r ≡ 0
+  bytes-after q w₁ w₂ check passed wide ask =
+      let h = bytes-pass p n m A cert q w₁ w₂ check .0 passed in
+      bytes-answered .1 (record { plan = h .plan; work = wide; layout = h .layout; passes = h .passes }, ask)
 
   pub bytes-right : answerNumber r ≡ 0 → AnswersRight p n m A set y r x z
   unfolding answerCertificateOf

@@ -1,20 +1,24 @@
--- What the call that factors a stored plan left with 0, cut to its lengths (`ownSet`), is taken by every later call.
---   own-stored         it passes the check
---   own-written        it is written, unless the buffer is too short
---   own-certificate    and its certificate passes the check
-use mathlib.Core.Path.{_≡_, refl, sym, subst}
+-- What the call that factors a stored plan left with 0, cut to its lengths (`ownSet`), handed to the other calls.
+--   own-checked        the call that checks stored factors passes it
+--   own-written        the call that writes a certificate writes it, unless the buffer is too short
+--   own-certificate    and the call that checks a certificate passes that certificate
+use mathlib.Core.Path.{_≡_, sym, subst}
+use mathlib.Core.Logic.{_↔_}
 use mathlib.Core.List.{List}
-use Prim.Native.Nat.{ℕ}
-use Rattle.lists.specs.declared.Outcome.the-variants.{Passed}
+use Prim.Native.Nat.{ℕ, _≤_}
+use lib.ListN.{length}
+use Rattle.lists.specs.Refusals.{numberOf}
+use Rattle.lists.specs.declared.Outcome.{Outcome}
 use Rattle.sparse.specs.Matrix.{Compressed}
+use Rattle.sparse.specs.Set.{Set}
 use Rattle.certificate.specs.Layout.{certificateOf, Sized}
-use Rattle.certificate.specs.Writing.{roomFor}
 use Rattle.call_tests.specs.Limits.{workLength}
-use Rattle.check_calls.specs.Calls.{checkFactorsOf, checkCertificateOf}
+use Rattle.check_calls.specs.Calls.{checkFactorsOf, checkCertificateOf, Checks}
 use Rattle.check_calls.specs.Passing.{StoredPasses}
-use Rattle.check_calls.proofs.Theorems.{factors-exactly, stored-certificate}
-use Rattle.write_calls.specs.Call.{writeOutcome}
-use Rattle.write_calls.proofs.Theorems.{write-room}
+use Rattle.check_calls.proofs.Theorems.{certificate-exactly, stored-certificate, stored-passes, bytes-pass}
+use Rattle.write_calls.specs.Call.{writeOutcome, WritesCertificate}
+use Rattle.write_calls.specs.declared.Written.{Written}
+use Rattle.write_calls.proofs.Theorems.{written-exactly}
 use Rattle.factoring.specs.Outcome.{Leaves}
 use Rattle.factoring.specs.OwnSet.{ownSet}
 use Rattle.factor_calls.specs.Calls.{factorCallOf}
@@ -24,21 +28,29 @@ use Rattle.stages.proofs.Passing.{factors-sized}
 
 module _ (p n m : ℕ) (A : Compressed) (l : Lent) (number detail rank structural : ℕ) (R C : List ℕ) (L U : Compressed) (w : List ℕ)
     (call : Leaves (factorCallOf p n m A l) number detail rank structural R C L U w) (zero : number ≡ 0) where
-  pub own-stored : StoredPasses p n m A (ownSet n m rank R C L U) workLength
-  own-stored =
+  abbrev own : Set
+  own = ownSet n m rank R C L U
+
+  own-stored : (width : ℕ) → width ≡ workLength → StoredPasses p n m A own width
+  own-stored width wide =
       let g = factored-exactly p n m A l number detail rank structural R C L U w call .0 zero .plan in
       record {
         plan = g;
         sized = subst (Sized n m) (sym (factored-set p n m A l number detail rank structural R C L U w call zero)) (factors-sized p n m A g);
-        work = refl;
+        work = wide;
         passes = factored-passes p n m A l number detail rank structural R C L U w call zero;
       }
 
-  pub own-checked : checkFactorsOf p n m A (ownSet n m rank R C L U) workLength ≡ Passed
-  own-checked = factors-exactly p n m A (ownSet n m rank R C L U) workLength .1 own-stored
+  pub own-checked : (r : Outcome) (w₀ w₁ : List ℕ) → Checks (checkFactorsOf p n m A own (length w₀)) r w₀ w₁ → length w₀ ≡ workLength → numberOf r ≡ 0
+  own-checked r w₀ w₁ next wide = stored-passes p n m A own r w₀ w₁ next .1 (own-stored (length w₀) wide)
 
-  pub own-written : (room : ℕ) → writeOutcome p n m A (ownSet n m rank R C L U) workLength room ≡ roomFor room (certificateOf p n m (ownSet n m rank R C L U))
-  own-written room = write-room p n m A (ownSet n m rank R C L U) workLength room own-checked
+  pub own-written : (z : Written) (b₀ b w₀ w₁ : List ℕ) → WritesCertificate (writeOutcome p n m A own (length w₀) (length b₀)) (certificateOf p n m own) z b₀ b w₀ w₁
+      → length w₀ ≡ workLength → (numberOf (z .outcome) ≡ 0) ↔ (length (certificateOf p n m own) ≤ length b₀)
+  own-written z b₀ b w₀ w₁ next wide =
+      let (there, back) = written-exactly p n m A own z b₀ b w₀ w₁ next in
+      ((λ e. there e .enough), λ h. back (record { set = own-stored (length w₀) wide; enough = h }))
 
-  pub own-certificate : checkCertificateOf p n m A (certificateOf p n m (ownSet n m rank R C L U)) workLength ≡ Passed
-  own-certificate = stored-certificate p n m A (ownSet n m rank R C L U) workLength own-stored
+  pub own-certificate : (r : Outcome) (w₀ w₁ : List ℕ) → Checks (checkCertificateOf p n m A (certificateOf p n m own) (length w₀)) r w₀ w₁ → length w₀ ≡ workLength → numberOf r ≡ 0
+  own-certificate r w₀ w₁ next wide =
+      bytes-pass p n m A (certificateOf p n m own) r w₀ w₁ next .1
+      (certificate-exactly p n m A (certificateOf p n m own) (length w₀) .0 (stored-certificate p n m A own (length w₀) (own-stored (length w₀) wide)))

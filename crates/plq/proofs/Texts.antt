@@ -298,9 +298,9 @@ module _ (text : List ℕ) where
         let same : setIn (factoredOf (reading text)) ≡ factorsOf (reading text) = ap setIn (factored-whole text states (zero-parts states .0 e .0)) in
         call .buffer ∙ (λ t. filled (length b₀) (kept (passed-exactly .0 e t) (certificateOf p₁ n₁ m₁ (same t))))
 
-    pub made-checked : z ≡ 0 → checkTextOf text (take (length (ownCertificate (reading text))) b) ≡ Passed
-    made-checked e =
+    pub made-checked : z ≡ 0 → (y : ℕ) → y ≡ packed (checkTextOf text (take (length (ownCertificate (reading text))) b)) → y ≡ 0
+    made-checked e y next =
         let states = zero-states e in
         let bytes : take (length cert₁) b ≡ cert₁ = ap (take (length cert₁)) (made-buffer e) ∙ filled-cut (length b₀) (length cert₁) cert₁ refl in
         let h = certificate-exactly p₁ n₁ m₁ x cert₁ workLength .0 (stored-certificate p₁ n₁ m₁ x (factorsOf (reading text)) workLength (factors-pass p₁ n₁ m₁ x (reading-good text states))) in
-        ap (checkTextOf text) bytes ∙ text-exactly text cert₁ .1 (record { states = states; layout = h .layout; passes = h .passes })
+        next ∙ ap packed (ap (checkTextOf text) bytes ∙ text-exactly text cert₁ .1 (record { states = states; layout = h .layout; passes = h .passes }))

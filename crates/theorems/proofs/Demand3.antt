@@ -2,20 +2,20 @@
 -- A set is stored factors (`stored`) or a certificate (`bytes`); `text` is the call for C that checks a certificate against a plan's text.
 --   .. -judged           a set that is judged: none of 10 to 14 is returned exactly if it has the published shape and its product is A (a certificate: the
 --                        layout with the plan's p, n and m too); by the check, by writing (`write`), by an answer (`answer`) and by a list of open columns (`list`)
---   own-passes           what factoring left with 0 passes the check
---   own-written          it is written, unless the buffer is too short
---   own-certificate      and its certificate passes the check
---   written-passes       what writing left with 0 passes the check
---   made-passes          what the call for C made passes the call for C that checks
+--   own-passes           what factoring left with 0 is passed by the call that checks stored factors
+--   own-written          written by the call that writes, exactly if the buffer holds its certificate
+--   own-certificate      and that certificate is passed by the call that checks one
+--   written-passes       so is whatever writing left with 0
+--   made-passes          what the call for C made is passed by the call for C that checks
 -- Whenever a set passes, whoever made it:
 --   .. -product          A = PLUQ
 --   .. -rank             r is the rank
---   .. -answered         every question of m residues is answered
+--   .. -answered         every question of m residues is answered, where a call that checks has returned 0 for the set
 --   .. -right            the answer is open exactly when an x with x A = y exists, else closed (`AnswersRight`, whose x and z Demand2 has one by one)
 --   agree                so all answers to one question agree, whichever sets they came from
 --   .. -one-value        open: two settings that give the same slots give y one value
 --   .. -every-value      closed: for every setting and every value some setting gives the same slots and gives y that value
-use Prim.Native.Nat.{ℕ}
+use Prim.Native.Nat.{ℕ, _≤_}
 use mathlib.Core.Path.{_≡_, refl}
 use mathlib.Core.Logic.{_↔_}
 use mathlib.Core.Bool.{true, false}
@@ -25,7 +25,6 @@ use Rattle.lists.specs.Tests.{among}
 use Rattle.lists.specs.Table.{setFaults}
 use Rattle.lists.specs.Refusals.{numberOf}
 use Rattle.lists.specs.declared.Outcome.{Outcome}
-use Rattle.lists.specs.declared.Outcome.the-variants.{Passed}
 use Rattle.algebra.specs.Matrix.{vector}
 use Rattle.algebra.specs.Rank.{Rank}
 use Rattle.algebra.specs.Factors.{Factors}
@@ -35,7 +34,6 @@ use Rattle.sparse.specs.Set.{Set}
 use Rattle.pluq.specs.Judge.{Passes}
 use Rattle.certificate.specs.Layout.{certificateOf, Sized}
 use Rattle.certificate.specs.Reading.{headerOk, setOfCertificate}
-use Rattle.certificate.specs.Writing.{roomFor}
 use Rattle.plan_text.specs.Held.{planOf}
 use Rattle.call_tests.specs.Limits.{workLength}
 use Rattle.call_tests.specs.Accepted.{GoodPlan}
@@ -109,13 +107,14 @@ module _ (p n m : ℕ) (A : Compressed) (l : Lent) (number detail rank pivots : 
   abbrev own : Set
   own = ownSet n m rank R C L U
 
-  pub own-passes : checkFactorsOf p n m A own workLength ≡ Passed
+  pub own-passes : (r : Outcome) (w₀ w₁ : List ℕ) → Checks (checkFactorsOf p n m A own (length w₀)) r w₀ w₁ → length w₀ ≡ workLength → numberOf r ≡ 0
   own-passes = owns.own-checked p n m A l number detail rank pivots R C L U w call done
 
-  pub own-written : (room : ℕ) → writeOutcome p n m A own workLength room ≡ roomFor room (certificateOf p n m own)
+  pub own-written : (z : Written) (b₀ b w₀ w₁ : List ℕ) → WritesCertificate (writeOutcome p n m A own (length w₀) (length b₀)) (certificateOf p n m own) z b₀ b w₀ w₁
+      → length w₀ ≡ workLength → (numberOf (z .outcome) ≡ 0) ↔ (length (certificateOf p n m own) ≤ length b₀)
   own-written = owns.own-written p n m A l number detail rank pivots R C L U w call done
 
-  pub own-certificate : checkCertificateOf p n m A (certificateOf p n m own) workLength ≡ Passed
+  pub own-certificate : (r : Outcome) (w₀ w₁ : List ℕ) → Checks (checkCertificateOf p n m A (certificateOf p n m own) (length w₀)) r w₀ w₁ → length w₀ ≡ workLength → numberOf r ≡ 0
   own-certificate = owns.own-certificate p n m A l number detail rank pivots R C L U w call done
 
 module _ (p n m : ℕ) (A : Compressed) (s : Set) (z : Written) (b₀ b w₀ w : List ℕ)
@@ -123,10 +122,12 @@ module _ (p n m : ℕ) (A : Compressed) (s : Set) (z : Written) (b₀ b w₀ w :
   pub write-judged : GoodPlan p n m A → Sized n m s → length w₀ ≡ workLength → (among (numberOf (z .outcome)) setFaults ≡ false) ↔ Passes p n m A s
   write-judged = writes.written-judged p n m A s z b₀ b w₀ w call
 
-  pub written-passes : numberOf (z .outcome) ≡ 0 → checkCertificateOf p n m A (take (z .length) b) workLength ≡ Passed
+  -- the bytes that were written
+  pub written-passes : numberOf (z .outcome) ≡ 0 → (r : Outcome) (w₁ w₂ : List ℕ) → Checks (checkCertificateOf p n m A (take (z .length) b) (length w₁)) r w₁ w₂ → length w₁ ≡ workLength → numberOf r ≡ 0
   written-passes = writes.written-checked p n m A s z b₀ b w₀ w call
 
-pub made-passes : (text : List ℕ) (z : ℕ) (b₀ b : List ℕ) → Makes text z b₀ b → z ≡ 0 → checkTextOf text (take (length (ownCertificate (reading text))) b) ≡ Passed
+pub made-passes : (text : List ℕ) (z : ℕ) (b₀ b : List ℕ) → Makes text z b₀ b → z ≡ 0
+    → (y : ℕ) → y ≡ packed (checkTextOf text (take (length (ownCertificate (reading text))) b)) → y ≡ 0
 made-passes = texts.made-checked
 
 -- ---- questions to stored factors
@@ -136,8 +137,9 @@ module _ (p n m : ℕ) (A : Compressed) (s : Set) (y : List ℕ) (r : Answer) (x
   pub answer-stored-judged : GoodPlan p n m A → Sized n m s → length w₀ ≡ workLength → Askable p n m y (length x₀) (length z₀) → (among (answerNumber r) setFaults ≡ false) ↔ Passes p n m A s
   answer-stored-judged = answers.stored-judged p n m A s y r x₀ x z₀ z w₀ w call
 
-  pub stored-answered : checkFactorsOf p n m A s (length w₀) ≡ Passed → Askable p n m y (length x₀) (length z₀) → answerNumber r ≡ 0
-  stored-answered passed ask = answers.stored-answered p n m A s y r x₀ x z₀ z w₀ w call .1 (checks.factors-exactly p n m A s (length w₀) .0 passed, ask)
+  pub stored-answered : (q : Outcome) (w₁ w₂ : List ℕ) → Checks (checkFactorsOf p n m A s (length w₁)) q w₁ w₂ → numberOf q ≡ 0
+      → length w₀ ≡ workLength → Askable p n m y (length x₀) (length z₀) → answerNumber r ≡ 0
+  stored-answered = answers.stored-after p n m A s y r x₀ x z₀ z w₀ w call
 
   pub stored-right : answerNumber r ≡ 0 → AnswersRight p n m A s y r x z
   stored-right = answers.stored-right p n m A s y r x₀ x z₀ z w₀ w call
@@ -156,8 +158,9 @@ module _ (p n m : ℕ) (A : Compressed) (cert y : List ℕ) (r : Answer) (x₀ x
       → (among (answerNumber r) setFaults ≡ false) ↔ ((headerOk p n m cert ≡ true) × Passes p n m A (setOfCertificate n m cert))
   answer-bytes-judged = answers.bytes-judged p n m A cert y r x₀ x z₀ z w₀ w call
 
-  pub bytes-answered : checkCertificateOf p n m A cert (length w₀) ≡ Passed → Askable p n m y (length x₀) (length z₀) → answerNumber r ≡ 0
-  bytes-answered passed ask = answers.bytes-answered p n m A cert y r x₀ x z₀ z w₀ w call .1 (checks.certificate-exactly p n m A cert (length w₀) .0 passed, ask)
+  pub bytes-answered : (q : Outcome) (w₁ w₂ : List ℕ) → Checks (checkCertificateOf p n m A cert (length w₁)) q w₁ w₂ → numberOf q ≡ 0
+      → length w₀ ≡ workLength → Askable p n m y (length x₀) (length z₀) → answerNumber r ≡ 0
+  bytes-answered = answers.bytes-after p n m A cert y r x₀ x z₀ z w₀ w call
 
   pub bytes-right : answerNumber r ≡ 0 → AnswersRight p n m A (setOfCertificate n m cert) y r x z
   bytes-right = answers.bytes-right p n m A cert y r x₀ x z₀ z w₀ w call

@@ -1,7 +1,7 @@
 -- What the call that writes a certificate says, with what it returned and left (`WritesCertificate`).
 --   written-exactly    0 is returned exactly if the set passes the check and the buffer holds its certificate
 --   written-bytes      and then the buffer has the certificate, zero past its end, and its length is returned
---   written-checked    which passes the check against the same plan
+--   written-checked    which the call that checks a certificate passes against the same plan
 --   written-judged     after the tests of lengths and plan, none of 10 to 14 is returned exactly if shape and product are right
 --   written-by         the numbers of the table by which it refuses
 --   written-cleared    a refusal leaves the buffer all zero, and returns the length 0
@@ -28,8 +28,8 @@ use Rattle.certificate.specs.Layout.{certificateOf, Sized}
 use Rattle.certificate.specs.Writing.{roomFor}
 use Rattle.call_tests.specs.Limits.{workLength}
 use Rattle.call_tests.specs.Accepted.{GoodPlan}
-use Rattle.check_calls.specs.Calls.{checkFactorsOf, checkCertificateOf}
-use Rattle.check_calls.proofs.Theorems.{factors-exactly, factors-numbers, factors-none, stored-certificate}
+use Rattle.check_calls.specs.Calls.{checkFactorsOf, checkCertificateOf, Checks}
+use Rattle.check_calls.proofs.Theorems.{factors-exactly, factors-numbers, factors-none, certificate-exactly, stored-certificate, bytes-pass}
 use Rattle.write_calls.specs.Call.{writeOutcome, kept, WritesCertificate}
 use Rattle.write_calls.specs.Accepted.{CanWrite}
 use Rattle.write_calls.specs.declared.Written.{Written}
@@ -91,13 +91,14 @@ module _ (p n m : ℕ) (A : Compressed) (s : Set) (z : Written) (b₀ b w₀ w :
       (call .buffer ∙ ap (λ (o : Outcome). filled (length b₀) (kept o (certificateOf p n m s))) done, call .size ∙ ap (λ (o : Outcome). length (kept o (certificateOf p n m s))) done)
 
   -- the bytes that were written
-  pub written-checked : numberOf (z .outcome) ≡ 0 → checkCertificateOf p n m A (take (z .length) b) workLength ≡ Passed
-  written-checked e =
+  pub written-checked : numberOf (z .outcome) ≡ 0 → (r : Outcome) (w₁ w₂ : List ℕ) → Checks (checkCertificateOf p n m A (take (z .length) b) (length w₁)) r w₁ w₂ → length w₁ ≡ workLength → numberOf r ≡ 0
+  written-checked e r w₁ w₂ next wide =
       let (bytes, size) = written-bytes e in
       let whole : take (z .length) b ≡ certificateOf p n m s = ap (take (z .length)) bytes ∙ filled-cut (length b₀) (z .length) (certificateOf p n m s) (sym size) in
       let h = written-exactly .0 e .set in
-      ap (λ (l : List ℕ). checkCertificateOf p n m A l workLength) whole
-      ∙ stored-certificate p n m A s workLength (record { plan = h .plan; sized = h .sized; work = refl; passes = h .passes })
+      let passed = stored-certificate p n m A s (length w₁) (record { plan = h .plan; sized = h .sized; work = wide; passes = h .passes }) in
+      bytes-pass p n m A (take (z .length) b) r w₁ w₂ next .1
+      (certificate-exactly p n m A (take (z .length) b) (length w₁) .0 (ap (λ (l : List ℕ). checkCertificateOf p n m A l (length w₁)) whole ∙ passed))
 
   pub written-judged : GoodPlan p n m A → Sized n m s → length w₀ ≡ workLength → (among (numberOf (z .outcome)) setFaults ≡ false) ↔ Passes p n m A s
   unfolding writeOutcome
