@@ -3,12 +3,14 @@
    calls RUNS FILE
 
    Makes the certificate of the plan text in FILE and checks it, and prints the
-   rank, then the median of each call in seconds. */
+   rank, then the median of each call in seconds, and that of checking no bytes
+   at all: such a call reads the text, and little else. */
 
 #include "plq.h"
 #include "timed.h"
 
 enum { RANK = 3 }; /* the rank's place in a certificate's header */
+enum { NO_CERTIFICATE = 10 };
 
 static uint8_t certificate[PLQ_LARGEST_CERTIFICATE];
 
@@ -32,6 +34,15 @@ static double check(void *given) {
     return seconds;
 }
 
+static double reading(void *given) {
+    const struct text *plan = given;
+    double start = now();
+    uint64_t result = plq_check_certificate(plan->bytes, plan->length, certificate, 0);
+    double seconds = now() - start;
+    if (result != NO_CERTIFICATE) exit(3);
+    return seconds;
+}
+
 int main(int argc, char **argv) {
     static struct text plan;
     int most = argc > 2 ? runs_asked(argv[1]) : 0;
@@ -45,6 +56,7 @@ int main(int argc, char **argv) {
     }
     printf("%lu ", (unsigned long)plq_header_number(certificate, RANK));
     printf("%.9f ", median_seconds(make, &plan, most, 1.0));
-    printf("%.9f\n", median_seconds(check, &plan, most, 1.0));
+    printf("%.9f ", median_seconds(check, &plan, most, 1.0));
+    printf("%.9f\n", median_seconds(reading, &plan, most, 1.0));
     return 0;
 }

@@ -7,7 +7,8 @@ so that every plan has a report.
 
     BenchPlan    a name, a modulus, the sizes and the rows
     all_plans    the plans of the table
-    text         a plan as plan text
+    text         a plan as plan text, its triples by row and column or in another order
+    ORDERS       the other orders, by name
     peer_form    a plan as the peers read it
 """
 
@@ -37,12 +38,24 @@ def _cells(rng, p, columns):
     return {column: rng.randrange(1, p) for column in sorted(columns)}
 
 
-def text(plan):
+def _by_column(triples):
+    """By column, then by row; a band of two cells rises in this order too."""
+    return sorted(triples, key=lambda triple: (triple[1], triple[0]))
+
+
+def _shuffled(triples):
+    return Random("shuffled").sample(triples, len(triples))
+
+
+ORDERS = {"by column": _by_column, "shuffled": _shuffled}
+
+
+def text(plan, order=sorted):
     """The plan text."""
-    lines = [f"{plan.p}", f"{plan.n} {plan.m} M"]
-    for i, cells in enumerate(plan.rows):
-        lines += [f"{i + 1} {j + 1} {v}" for j, v in cells.items()]
-    return "".join(line + "\n" for line in [*lines, "0 0 0"]).encode()
+    triples = [(i + 1, j + 1, v) for i, cells in enumerate(plan.rows) for j, v in cells.items()]
+    lines = [f"{i} {j} {v}" for i, j, v in order(triples)]
+    opening = [f"{plan.p}", f"{plan.n} {plan.m} M"]
+    return "".join(line + "\n" for line in [*opening, *lines, "0 0 0"]).encode()
 
 
 def peer_form(plan):

@@ -1,16 +1,22 @@
 """The table of a benchmark run.
 
     Measured     one plan with the times of every tool in seconds
+    in_order     what tools gave for a text whose triples stand in another order
     table        times and ratios as Markdown
 """
 
 from typing import NamedTuple
+
+from plans import ORDERS
 
 # The tools of ours that are set beside each peer, plan by plan.
 COMPARED = (
     ("report", "our report program, its start included"),
     ("in process", "our whole report in process"),
 )
+
+# The tools of ours whose time may depend on the order of a text's triples.
+ORDERED = {"reading": "Reading", "in process": "The whole report in process"}
 
 
 class Measured(NamedTuple):
@@ -28,6 +34,11 @@ class Measured(NamedTuple):
         if peer in self.times and tool in self.times:
             return self.times[peer] / self.times[tool]
         return None
+
+
+def in_order(order, results):
+    """Those that may depend on the order, by names that say it."""
+    return {f"{tool} {order}": results[tool] for tool in ORDERED if tool in results}
 
 
 def milliseconds(seconds):
@@ -102,14 +113,36 @@ def _checking(measured):
             yield f"Checking takes at most {ratio(most)} times as long as {words}."
 
 
+def _orders(measured, tool, words):
+    """The tool on triples in other orders beside its time on rising ones."""
+    others = [f"{tool} {order}" for order in ORDERS]
+    plans = [one for one in measured if all(one.over(other, tool) for other in others)]
+    if not plans:
+        return
+    yield f"{words}, by the order of the triples: milliseconds, and times the rising text's."
+    yield ""
+    rows = (
+        [one.plan]
+        + [milliseconds(one.times[name]) for name in (tool, *others)]
+        + [ratio(one.over(other, tool)) for other in others]
+        for one in plans
+    )
+    header = ["plan", "rising", *ORDERS, *(f"{order} / rising" for order in ORDERS)]
+    yield from _markdown(header, rows)
+    yield ""
+    most, plan = max((one.over(other, tool), one.plan) for one in plans for other in others)
+    yield f"{words} takes at most {ratio(most)} times as long as on the rising text ({plan})."
+
+
 def table(measured, own, peers):
-    """Times in milliseconds, each peer's bare rank divided by our times, and
-    checking beside making and factoring."""
+    """Times in milliseconds, each peer's bare rank divided by our times,
+    checking beside making and factoring, and other orders of the triples."""
     parts = [_times(measured, [*own, *peers])]
     if own and peers:
         parts += [_ratios(measured, tool, words, peers) for tool, words in COMPARED if tool in own]
         parts.append(_least_ratios(measured, own, peers))
     parts.append(_checking(measured))
+    parts += [_orders(measured, tool, words) for tool, words in ORDERED.items()]
     for index, lines in enumerate(map(list, parts)):
         if lines and index > 0:
             yield ""

@@ -10,7 +10,7 @@
  *        2  a size, entry or text limit passed                    0
  *        3  text malformed                                        line, from 1
  *        4  i or j outside the plan, other than the last line     line
- *        5  triple not after the one before                       line
+ *        5  i and j of an earlier triple                          line, the later one
  *        6  v outside its range                                   line
  *        7  L or U has more than 16,384 entries                   row, from 0
  *        9  buffer shorter than the certificate                   0
@@ -20,7 +20,7 @@
  *       13  factor storage or shape broken                        0
  *       14  product differs                                       first position, from 0
  *
- * A call needs about 450 KiB of stack, whatever the plan, and no other memory; the library keeps nothing between calls.
+ * A call needs about 670 KiB of stack, whatever the plan, and no other memory; the library keeps nothing between calls.
  *
  * docs/FORMATS.md describes the plan text and the certificate's bytes.
  */

@@ -2,7 +2,7 @@
  *
  * Link with target/staticlib/libtiming.a, which `rt staticlib timing` writes, and not with libplq.a too: both hold the same functions.
  *
- * A call needs about 460 KiB of stack, whatever the plan, and no other memory; the library keeps nothing between calls.
+ * A call needs about 680 KiB of stack, whatever the plan, and no other memory; the library keeps nothing between calls.
  */
 #ifndef PLQ_TIMING_H
 #define PLQ_TIMING_H

@@ -130,6 +130,54 @@ def reads_another_plan():
     _spoil_reading(lambda text, room: read_plan(text.replace(b" -", b" "), room))
 
 
+def _places(text, end):
+    """i and j of the lines from the third one up to `end`."""
+    return [tuple(map(int, line.split(b" ")[:2])) for line in text.split(b"\n")[2:end]]
+
+
+def wants_rising_triples():
+    """A triple that does not come after the one before is 5."""
+
+    def wrong(text, room):
+        found = read_plan(text, room)
+        places = [] if isinstance(found, Refusal) else _places(text, -2)
+        for line in range(1, len(places)):
+            if places[line] <= places[line - 1]:
+                return Refusal(5, line + 3)
+        return found
+
+    _spoil_reading(wrong)
+
+
+def _spoil_repeats(function):
+    """`function` has the text, the room, and both lines of the same place."""
+
+    def wrong(text, room):
+        found = read_plan(text, room)
+        if not isinstance(found, Refusal) or found.number != 5:
+            return found
+        places = _places(text, found.detail)
+        return function(text, room, places.index(places[-1]) + 3, found.detail)
+
+    _spoil_reading(wrong)
+
+
+def names_the_earlier_line():
+    _spoil_repeats(lambda text, room, first, later: Refusal(5, first))
+
+
+def repeats_a_zero():
+    """A place may be stated again where its first value reduces to 0."""
+
+    def wrong(text, room, first, later):
+        lines = text.split(b"\n")
+        if int(lines[first - 1].split()[2]) % int(lines[0]):
+            return Refusal(5, later)
+        return read_plan(b"\n".join(lines[: first - 1] + lines[first:]), room)
+
+    _spoil_repeats(wrong)
+
+
 def leaves_refused_output():
     """A refusal leaves the lent buffer as it was."""
     true_make = calls.make_certificate
@@ -156,6 +204,9 @@ DEFECTS = {
         rank_made_up,
         refuses_all,
         reads_another_plan,
+        wants_rising_triples,
+        names_the_earlier_line,
+        repeats_a_zero,
         leaves_refused_output,
     )
 }

@@ -11,9 +11,10 @@ from pathlib import Path
 from cases import Case, expected, keep, load
 from compare import differences, fixed_cases, in_groups, plan_cases, tiny_cases
 from generate.edges import edge_texts
+from model.refusals import REPEATED
 from programs import FILLER, Ask, Calls, Crash, Report, compile_driver
 from standin import DEFECTS
-from worked import PLAN_D, QUESTIONS
+from worked import PLAN_D, QUESTIONS, REFUSALS
 
 HERE = Path(__file__).parent
 STUB_HEADER = """
@@ -58,18 +59,24 @@ SHOWN_BY = {
     "rank_made_up": ("report",),
     "refuses_all": ("calls", "report", "ask"),
     "reads_another_plan": ("calls", "report", "ask"),
+    "wants_rising_triples": ("calls", "report", "ask"),
+    "names_the_earlier_line": ("calls", "report"),
+    "repeats_a_zero": ("calls", "report"),
     "leaves_refused_output": ("calls",),
 }
 
 
 def given_cases():
-    """Plan D, plans at the edge of the rooms, and random plans."""
+    """Plan D, plans at the edge of the rooms, repeated places, and random plans."""
     yield Case("report", PLAN_D)
     for y, _ in QUESTIONS:
         yield Case("ask", PLAN_D, question=y)
     for text in islice(edge_texts(), 4):
         yield Case("report", text)
         yield Case("make", text, buffer_length=150_000)
+    for text in (text for text, refusal in REFUSALS if refusal.number == REPEATED):
+        yield Case("report", text)
+        yield Case("check", text)
     for index in range(25):
         yield from plan_cases("noticed", index)
 

@@ -1,6 +1,7 @@
 """Reading and factoring in the model: variations, enumeration and every room."""
 
 import unittest
+from itertools import combinations, product
 
 from generate import edges, texts
 from generate.plans import tiny_plan
@@ -8,7 +9,7 @@ from model import enumeration
 from model.certificate import write
 from model.check import check_certificate, check_factors
 from model.factors import factor
-from model.limits import GREATEST_ENTRIES
+from model.limits import GREATEST_ENTRIES, GREATEST_VALUE
 from model.plan_text import read_plan
 from model.refusals import Refusal
 from model.storage import Plan, Rows, plan_refusal, row
@@ -22,9 +23,31 @@ class Reading(unittest.TestCase):
             self.assertEqual(read_plan(texts.plain_text(plan), AMPLE), plan)
             self.assertEqual(read_plan(texts.varied_text(rng, plan), AMPLE), plan)
 
+    def test_every_order_states_the_plan(self):
+        for rng, plan in plans("orders", 60):
+            for order in texts.ORDERS.values():
+                triples = order(rng, texts.triples_of(plan))
+                self.assertCountEqual(triples, texts.triples_of(plan))
+                self.assertEqual(read_plan(texts.plain_text(plan, triples), AMPLE), plan)
+
     def test_every_room(self):
-        for _, plan in small_plans("reading rooms", 60):
-            self.assertFalse(list(reading_differences(read_plan, texts.plain_text(plan))))
+        for rng, plan in small_plans("reading rooms", 60):
+            for order in texts.ORDERS.values():
+                text = texts.plain_text(plan, order(rng, texts.triples_of(plan)))
+                self.assertFalse(list(reading_differences(read_plan, text)))
+
+    def test_a_place_is_stated_once(self):
+        """Wherever the two lines stand, whatever their values and the room."""
+        for first, later in combinations(range(5), 2):
+            for values in product((1, 7), (1, 7, GREATEST_VALUE + 1)):
+                triples = [(2, 2, 1), (1, 2, 1), (2, 1, 1)]
+                for at, value in zip((first, later), values):
+                    triples.insert(at, (1, 1, value))
+                text = texts.stated(7, 2, 2, triples)
+                stored = [at for at in range(later) if triples[at][2] % 7]
+                for room in range(5):
+                    number, at = (7, stored[room]) if room < len(stored) else (5, later)
+                    self.assertEqual(read_plan(text, room), Refusal(number, at + 3), (text, room))
 
     def test_a_value_that_reduces_to_zero_needs_no_room(self):
         text = b"7\n1 2 M\n1 1 -14\n1 2 5\n0 0 0\n"
@@ -35,14 +58,22 @@ class Reading(unittest.TestCase):
         text = b"7\n1 3 M\n1 1 1\n1 2 1\n1 3 x\n"
         self.assertEqual(read_plan(text, 1), Refusal(7, 4))
         self.assertEqual(read_plan(text, 2), Refusal(3, 5))
+        text = b"7\n1 3 M\n1 3 1\n1 2 7\n1 1 1\n1 3 1\n"
+        self.assertEqual(read_plan(text, 1), Refusal(7, 5))
+        self.assertEqual(read_plan(text, 2), Refusal(5, 6))
 
     def test_length(self):
-        for length in (65_535, 65_536, 65_537):
-            text = edges.text_of_length(length)
+        for length, falls in product((65_535, 65_536, 65_537), (False, True)):
+            text = edges.text_of_length(length, falls)
             self.assertEqual(len(text), length)
             found = read_plan(text, 0)
             self.assertEqual(found == Refusal(2), length > 65_536)
             self.assertIsInstance(found, Refusal if length > 65_536 else Plan)
+
+    def test_the_most_lines(self):
+        self.assertEqual(edges.most_lines().count(b"\n"), 2 + 10_921)
+        self.assertEqual(read_plan(edges.most_lines(), 0), Refusal(7, 3))
+        self.assertEqual(read_plan(edges.most_lines(), 1), Refusal(5, 4))
 
     def test_no_text_reaches_the_entry_limit(self):
         self.assertLess(65_536 // len("1 1 1\n"), GREATEST_ENTRIES)

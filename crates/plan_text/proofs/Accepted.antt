@@ -30,21 +30,21 @@ use Rattle.call_tests.specs.Limits.{largestSize}
 use Rattle.plan_text.specs.Limits.{largestText}
 use Rattle.plan_text.specs.Line.{fieldsOf, lineOf, lineIn, lineWith, headerOf, headerIn, headerWith, isM}
 use Rattle.plan_text.specs.Judge.{mayStand}
-use Rattle.plan_text.specs.Reading.{Entry, refused, accepted, kept, lastRow, lastColumn, verdictOn, ending, onward, triples, withSizes, fromSecond, withModulus, fromFirst, readOf}
-use Rattle.plan_text.specs.Stating.{StatedEntry, tripleText, sizesText, tripleLines, planText, Rising, entryOf, States}
+use Rattle.plan_text.specs.Reading.{Entry, refused, accepted, kept, fresh, verdictOn, ending, onward, triples, withSizes, fromSecond, withModulus, fromFirst, readBy, readOf}
+use Rattle.plan_text.specs.Stating.{StatedEntry, tripleText, sizesText, tripleLines, planText, entryOf, Apart, States}
 use Rattle.plan_text.proofs.Storing.{kept-zero, kept-more}
 use Rattle.plan_text.proofs.Verdicts.{judged-entry, judged-last}
 
-refused-not : {A : Type 0} {c k : ℕ} {s : Sizes} {seen : List Entry} → refused c k ≡ accepted s seen → A
+pub refused-not : {A : Type 0} {c k : ℕ} {s : Sizes} {seen : List Entry} → refused c k ≡ accepted s seen → A
 refused-not e = let z : _≡_ {A = ℕ} 0 1 = cc in absurd (omega arith)
 
 false-true : {A : Type 0} → false ≡ true → A
 false-true e = let z : _≡_ {A = ℕ} 0 1 = cc in absurd (omega arith)
 
 -- ---- a line that is read as a triple is that triple's text
-record Spelt (l : List ℕ) (i j : ℕ) (v : Signed) : Type 0 where
-  text : l ≡ tripleText (record { row = i; column = j; value = v })
-  proper : Proper v
+pub record Spelt (l : List ℕ) (i j : ℕ) (v : Signed) : Type 0 where
+  pub text : l ≡ tripleText (record { row = i; column = j; value = v })
+  pub proper : Proper v
 
 no-triple : {A : Type 0} {i j : ℕ} {v : Signed} → NotTriple ≡ Triple i j v → A
 no-triple e = let z : _≡_ {A = ℕ} 0 1 = cc in absurd (omega arith)
@@ -66,7 +66,7 @@ numbers-of (Value a) (Value b) NotSigned i j v e = no-triple e
 numbers-of (Value a) NotNumber c i j v e = no-triple e
 numbers-of NotNumber b c i j v e = no-triple e
 
-line-prints : (l : List ℕ) (i j : ℕ) (v : Signed) → lineOf l ≡ Triple i j v → Spelt l i j v
+pub line-prints : (l : List ℕ) (i j : ℕ) (v : Signed) → lineOf l ≡ Triple i j v → Spelt l i j v
 unfolding lineOf fieldsOf tripleText joined
 line-prints l i j v e = go (pieces 32 l) refl e
   where
@@ -81,11 +81,11 @@ line-prints l i j v e = go (pieces 32 l) refl e
         let eb : b ≡ decimal j = number-prints b j (f .second) .1 in
         record { text = sym (joined-pieces 32 l) ∙ ap (joined 32) q ∙ rw (ea, eb, w .1); proper = w .2 }
 
--- ---- the lines p, read after `seen`, state triples that rise and lead to `out`
+-- ---- the lines p, read after `seen`, state triples that stand apart and lead to `out`
 record Back (room : ℕ) (s s′ : Sizes) (p : Pieces) (seen out : List Entry) : Type 0 where
   ts : List StatedEntry
   lines : p ≡ tripleLines ts
-  rising : Rising s (lastRow seen) (lastColumn seen) ts
+  apart : Apart s seen ts
   result : out ≡ reverseAux (map (entryOf (s .modulus .p)) ts) seen
   sizes : s′ ≡ s
   fits : length (kept out) ≤ room
@@ -93,33 +93,33 @@ record Back (room : ℕ) (s s′ : Sizes) (p : Pieces) (seen out : List Entry) :
 accepted-parts : {s s′ : Sizes} {x y : List Entry} → accepted s x ≡ accepted s′ y → (s ≡ s′) × (x ≡ y)
 accepted-parts e = (cc, cc)
 
-ending-back : (s s′ : Sizes) (k : ℕ) (seen out : List Entry) (p : Pieces) → ending s k seen p ≡ accepted s′ out → (p ≡ last []) × (s ≡ s′) × (seen ≡ out)
+pub ending-back : (s s′ : Sizes) (k : ℕ) (seen out : List Entry) (p : Pieces) → ending s k seen p ≡ accepted s′ out → (p ≡ last []) × (s ≡ s′) × (seen ≡ out)
 ending-back s s′ k seen out (last []) e = (refl, accepted-parts e .0, accepted-parts e .1)
 ending-back s s′ k seen out (last (b ∷ bs)) e = refused-not e
 ending-back s s′ k seen out (more l t) e = refused-not e
 
-room-kept : (room : ℕ) (seen : List Entry) (t : Entry) → (not (eqb (t .value) 0) && leb room (length (kept seen))) ≡ false → length (kept seen) ≤ room → length (kept (t ∷ seen)) ≤ room
+pub room-kept : (room : ℕ) (seen : List Entry) (t : Entry) → (not (eqb (t .value) 0) && leb room (length (kept seen))) ≡ false → length (kept seen) ≤ room → length (kept (t ∷ seen)) ≤ room
 room-kept room seen t h le = go (eqb (t .value) 0) refl h
   where
     go : (x : Bool) → eqb (t .value) 0 ≡ x → (not x && leb room (length (kept seen))) ≡ false → length (kept (t ∷ seen)) ≤ room
     go true e q = omega (arith, ap length (kept-zero t seen (eqb-true (t .value) 0 e)))
     go false e q = omega (arith, leb-false room (length (kept seen)) q, ap length (kept-more t seen (eqb-false (t .value) 0 e)) ∙ length-append (kept seen) (t ∷ []))
 
-triples-back : (s s′ : Sizes) (room : ℕ) (p : Pieces) (k : ℕ) (seen out : List Entry) → length (kept seen) ≤ room → triples s room k seen p ≡ accepted s′ out → Back room s s′ p seen out
+triples-back : (s s′ : Sizes) (room : ℕ) (p : Pieces) (k : ℕ) (seen out : List Entry) → length (kept seen) ≤ room → triples fresh s room k seen p ≡ accepted s′ out → Back room s s′ p seen out
 unfolding triples tripleLines
 triples-back s s′ room (last l) k seen out h e = refused-not e
-triples-back s s′ room (more l rest) k seen out h e = go (verdictOn s room seen l) refl (λ t. triples-back s s′ room rest (k + 1) (t ∷ seen) out) e
+triples-back s s′ room (more l rest) k seen out h e = go (verdictOn fresh s room seen l) refl (λ t. triples-back s s′ room rest (k + 1) (t ∷ seen) out) e
   where
-    go : (v : Verdict) → verdictOn s room seen l ≡ v
-        → ((t : Entry) → length (kept (t ∷ seen)) ≤ room → triples s room (k + 1) (t ∷ seen) rest ≡ accepted s′ out → Back room s s′ rest (t ∷ seen) out)
-        → onward s k seen rest (λ t. triples s room (k + 1) (t ∷ seen) rest) v ≡ accepted s′ out → Back room s s′ (more l rest) seen out
+    go : (v : Verdict) → verdictOn fresh s room seen l ≡ v
+        → ((t : Entry) → length (kept (t ∷ seen)) ≤ room → triples fresh s room (k + 1) (t ∷ seen) rest ≡ accepted s′ out → Back room s s′ rest (t ∷ seen) out)
+        → onward s k seen rest (λ t. triples fresh s room (k + 1) (t ∷ seen) rest) v ≡ accepted s′ out → Back room s s′ (more l rest) seen out
     go (Refused c) q ih x = refused-not x
     go Last q ih x =
         let o = ending-back s s′ (k + 1) seen out rest x in
-        let w = line-prints l 0 0 (Plus 0) (judged-last (mayStand (lastRow seen) (lastColumn seen) (lineOf l)) (leb room (length (kept seen))) s (lineOf l) q) in
-        record { ts = []; lines = ap₂ more (w .text) (o .0); rising = tt; result = sym (o .2); sizes = sym (o .1); fits = subst (λ (y : List Entry). length (kept y) ≤ room) (o .2) h }
+        let w = line-prints l 0 0 (Plus 0) (judged-last (mayStand (fresh seen) (lineOf l)) (leb room (length (kept seen))) s (lineOf l) q) in
+        record { ts = []; lines = ap₂ more (w .text) (o .0); apart = tt; result = sym (o .2); sizes = sym (o .1); fits = subst (λ (y : List Entry). length (kept y) ≤ room) (o .2) h }
     go (AnEntry i j v) q ih x =
-        let k = judged-entry (mayStand (lastRow seen) (lastColumn seen) (lineOf l)) (leb room (length (kept seen))) s (lineOf l) i j v q in
+        let k = judged-entry (mayStand (fresh seen) (lineOf l)) (leb room (length (kept seen))) s (lineOf l) i j v q in
         let w = line-prints l i j (k .sign) (k .line) in
         let t : StatedEntry = record { row = i; column = j; value = k .sign } in
         let one : Entry = record { row = i; column = j; value = v } in
@@ -129,13 +129,13 @@ triples-back s s′ room (more l rest) k seen out h e = go (verdictOn s room see
         record {
           ts = t ∷ b .ts;
           lines = ap₂ more (w .text) (b .lines);
-          rising = (record { row-inside = k .row-inside; column-inside = k .column-inside; order = sym (ap (mayStand (lastRow seen) (lastColumn seen)) (k .line)) ∙ k .order; range = k .range; proper = w .proper }, b .rising);
+          apart = (record { row-inside = k .row-inside; column-inside = k .column-inside; place = sym (ap (mayStand (fresh seen)) (k .line)) ∙ k .order; range = k .range; proper = w .proper }, b .apart);
           result = b .result;
           sizes = b .sizes;
           fits = b .fits;
         }
 
-pub triples-sizes : (s s′ : Sizes) (room : ℕ) (p : Pieces) (k : ℕ) (out : List Entry) → triples s room k [] p ≡ accepted s′ out → s′ ≡ s
+pub triples-sizes : (s s′ : Sizes) (room : ℕ) (p : Pieces) (k : ℕ) (out : List Entry) → triples fresh s room k [] p ≡ accepted s′ out → s′ ≡ s
 unfolding kept
 triples-sizes s s′ room p k out e = triples-back s s′ room p k [] out zero-le e .sizes
 
@@ -168,7 +168,7 @@ header-prints l s e = go (pieces 32 l) refl e
 
 -- ---- the whole text
 closes : (room : ℕ) (s s′ : Sizes) (text l l₂ : List ℕ) (rest : Pieces) (out : List Entry) → length text ≤ largestText → pieces 10 text ≡ more l (more l₂ rest) → numberOf l ≡ Value (s .modulus .p)
-    → isModulus (s .modulus .p) ≡ true → headerOf l₂ ≡ Given (s .n) (s .m) → s .n ≤ largestSize → s .m ≤ largestSize → triples s room 3 [] rest ≡ accepted s′ out → States room s′ text out
+    → isModulus (s .modulus .p) ≡ true → headerOf l₂ ≡ Given (s .n) (s .m) → s .n ≤ largestSize → s .m ≤ largestSize → triples fresh s room 3 [] rest ≡ accepted s′ out → States room s′ text out
 unfolding planText kept
 closes room s s′ text l l₂ rest out short cut num prime head hn hm e =
     let b = triples-back s s′ room rest 3 [] out zero-le e in
@@ -177,44 +177,44 @@ closes room s s′ text l l₂ rest out short cut num prime head hn hm e =
     subst (λ (z : Sizes). States room z text out) (sym (b .sizes))
     (record {
       stated = b .ts;
-      plan = record { modulus = prime; rows = hn; columns = hm; rising = b .rising; fits = subst (λ (y : List Entry). length (kept y) ≤ room) (b .result) (b .fits); short = subst (λ (y : List ℕ). length y ≤ largestText) is short };
+      plan = record { modulus = prime; rows = hn; columns = hm; apart = b .apart; fits = subst (λ (y : List Entry). length (kept y) ≤ room) (b .result) (b .fits); short = subst (λ (y : List ℕ). length y ≤ largestText) is short };
       text-is = is;
       entries-are = b .result;
     })
 
 module _ (room : ℕ) (s : Sizes) (text : List ℕ) (out : List Entry) (short : length text ≤ largestText) where
   sizes-back : (p : ℕ) (l l₂ : List ℕ) (rest : Pieces) → pieces 10 text ≡ more l (more l₂ rest) → numberOf l ≡ Value p → isModulus p ≡ true
-      → (h : Header) → headerOf l₂ ≡ h → withSizes p room rest h ≡ accepted s out → States room s text out
+      → (h : Header) → headerOf l₂ ≡ h → withSizes fresh p room rest h ≡ accepted s out → States room s text out
   sizes-back p l l₂ rest c n m NotHeader q e = refused-not e
   sizes-back p l l₂ rest c n m (Given a b) q e = go (leb a largestSize && leb b largestSize) refl e
     where
-      go : (t : Bool) → (leb a largestSize && leb b largestSize) ≡ t → cond t (triples (record { modulus = record { p = p }; n = a; m = b }) room 3 [] rest) (refused 2 0) ≡ accepted s out → States room s text out
+      go : (t : Bool) → (leb a largestSize && leb b largestSize) ≡ t → cond t (triples fresh (record { modulus = record { p = p }; n = a; m = b }) room 3 [] rest) (refused 2 0) ≡ accepted s out → States room s text out
       go true t x =
           closes room (record { modulus = record { p = p }; n = a; m = b }) s text l l₂ rest out short c n m q
           (leb-true a largestSize (and-left (leb a largestSize) (leb b largestSize) t)) (leb-true b largestSize (and-right (leb a largestSize) (leb b largestSize) t)) x
       go false t x = refused-not x
 
-  second-back : (p : ℕ) (l : List ℕ) (rest : Pieces) → pieces 10 text ≡ more l rest → numberOf l ≡ Value p → isModulus p ≡ true → fromSecond p room rest ≡ accepted s out → States room s text out
+  second-back : (p : ℕ) (l : List ℕ) (rest : Pieces) → pieces 10 text ≡ more l rest → numberOf l ≡ Value p → isModulus p ≡ true → fromSecond fresh p room rest ≡ accepted s out → States room s text out
   second-back p l (last l₂) c n m e = refused-not e
   second-back p l (more l₂ rest) c n m e = sizes-back p l l₂ rest c n m (headerOf l₂) refl e
 
-  modulus-back : (l : List ℕ) (rest : Pieces) → pieces 10 text ≡ more l rest → (n : Number) → numberOf l ≡ n → withModulus room rest n ≡ accepted s out → States room s text out
+  modulus-back : (l : List ℕ) (rest : Pieces) → pieces 10 text ≡ more l rest → (n : Number) → numberOf l ≡ n → withModulus fresh room rest n ≡ accepted s out → States room s text out
   modulus-back l rest c NotNumber n e = refused-not e
   modulus-back l rest c (Value p) n e = go (isModulus p) refl e
     where
-      go : (t : Bool) → isModulus p ≡ t → cond t (fromSecond p room rest) (refused 1 0) ≡ accepted s out → States room s text out
+      go : (t : Bool) → isModulus p ≡ t → cond t (fromSecond fresh p room rest) (refused 1 0) ≡ accepted s out → States room s text out
       go true t x = second-back p l rest c n t x
       go false t x = refused-not x
 
-  first-back : (t : Pieces) → pieces 10 text ≡ t → fromFirst room t ≡ accepted s out → States room s text out
+  first-back : (t : Pieces) → pieces 10 text ≡ t → fromFirst fresh room t ≡ accepted s out → States room s text out
   first-back (last l) c e = refused-not e
   first-back (more l rest) c e = modulus-back l rest c (numberOf l) refl e
 
 -- Each text that is accepted states a plan, and is read as that plan.
 pub accepted-states : (room : ℕ) (s : Sizes) (text : List ℕ) (out : List Entry) → readOf room text ≡ accepted s out → States room s text out
-unfolding readOf
+unfolding readBy
 accepted-states room s text out e = go (ltb largestText (length text)) refl e
   where
-    go : (t : Bool) → ltb largestText (length text) ≡ t → cond t (refused 2 0) (fromFirst room (pieces 10 text)) ≡ accepted s out → States room s text out
+    go : (t : Bool) → ltb largestText (length text) ≡ t → cond t (refused 2 0) (fromFirst fresh room (pieces 10 text)) ≡ accepted s out → States room s text out
     go true t x = refused-not x
     go false t x = first-back room s text out (ltb-false largestText (length text) t) (pieces 10 text) refl x

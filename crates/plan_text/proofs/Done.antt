@@ -5,6 +5,8 @@
 --   each-stated         each triple that is stated is stored: its residue stands at its place
 --   read-by             else it returns one of 9 and 1 to 7
 --   read-cleared        and leaves p, n, m, the entry count and all lists 0
+--   read-any-order      the order of the triples does not matter: texts that state the same triples leave the same
+--   read-rising-as-before   a text that was accepted while triples had to rise is read as it was, and leaves what it left
 --   accepted-exactly    line by line: a text is accepted, as these sizes and entries, exactly if it states that plan
 use mathlib.Core.Path.{_≡_, refl, sym, ap, _∙_, subst}
 use mathlib.Core.Logic.{_↔_, inl, inr}
@@ -19,7 +21,7 @@ use Rattle.lists.specs.Tests.{among}
 use Rattle.lists.specs.Table.{textFaults}
 use Rattle.lists.specs.Refusals.{NumberFrom}
 use Rattle.lists.specs.Filled.{zeros}
-use Rattle.lists.proofs.Bools.{and-left, and-right, and-both}
+use Rattle.lists.proofs.Bools.{and-left, and-right}
 use Rattle.fields.specs.Pieces.{Pieces, last, more, pieces}
 use Rattle.fields.specs.Number.{numberOf}
 use Rattle.fields.specs.declared.numbers.Number.{Number}
@@ -28,6 +30,7 @@ use Rattle.residue.specs.Range.{isModulus}
 use Rattle.residue.specs.Signed.{residueOf}
 use Rattle.sparse.specs.Matrix.{matrix, form}
 use Rattle.sparse.proofs.Rows.{form-paired}
+use Rattle.grouping.specs.Members.{Member}
 use Rattle.plan_text.specs.declared.header.Header.{Header}
 use Rattle.plan_text.specs.declared.header.Header.the-variants.{Given, NotHeader}
 use Rattle.plan_text.specs.declared.line.Line.{Line}
@@ -41,14 +44,17 @@ use Rattle.call_tests.specs.Accepted.{GoodPlan}
 use Rattle.plan_text.specs.Limits.{largestText, startsLength}
 use Rattle.plan_text.specs.Line.{headerOf}
 use Rattle.plan_text.specs.Judge.{judge, inRange, isLast, within, residueAt}
-use Rattle.plan_text.specs.Reading.{Entry, ReadResult, refused, accepted, ending, onward, triples, verdictOn, withSizes, fromSecond, withModulus, fromFirst, readOf}
+use Rattle.plan_text.specs.Reading.{Entry, ReadResult, refused, accepted, fresh, ending, onward, triples, verdictOn, withSizes, fromSecond, withModulus, fromFirst, readBy, readOf}
+use Rattle.plan_text.specs.Rising.{readRisingOf}
 use Rattle.plan_text.specs.Stating.{States, StatedEntry, Plan, planText, entriesOf, integerOf}
-use Rattle.plan_text.specs.Call.{ReadAnswer, refuses, answerOf, callOf, Gives}
+use Rattle.plan_text.specs.Call.{ReadAnswer, refuses, answerBy, answerOf, answerRisingOf, callOf, Gives}
 use Rattle.plan_text.specs.Held.{heldPlan, StatesPlan, HoldsPlan, ReadCleared}
 use Rattle.plan_text.proofs.Accepted.{accepted-states}
 use Rattle.plan_text.proofs.Printed.{reads-stated}
 use Rattle.plan_text.proofs.AsStated.{stored-as-stated, stated-found, stated-inside}
 use Rattle.plan_text.proofs.EntryLimit.{few-entries}
+use Rattle.plan_text.proofs.AnyOrder.{order-free}
+use Rattle.plan_text.proofs.RisingFirst.{rising-as-before}
 
 -- ---- every refusal has a number of the table
 abbrev Numbered : ReadResult → Type 0
@@ -79,49 +85,49 @@ ending-numbered s k seen (last []) = tt
 ending-numbered s k seen (last (b ∷ bs)) = refl
 ending-numbered s k seen (more l t) = refl
 
-triples-numbered : (s : Sizes) (room k : ℕ) (seen : List Entry) (p : Pieces) → Numbered (triples s room k seen p)
+triples-numbered : (s : Sizes) (room k : ℕ) (seen : List Entry) (p : Pieces) → Numbered (triples fresh s room k seen p)
 unfolding triples among
 triples-numbered s room k seen (last l) = refl
-triples-numbered s room k seen (more l rest) = go (verdictOn s room seen l) (judge-numbered _ _ s _) (λ t. triples-numbered s room (k + 1) (t ∷ seen) rest)
+triples-numbered s room k seen (more l rest) = go (verdictOn fresh s room seen l) (judge-numbered _ _ s _) (λ t. triples-numbered s room (k + 1) (t ∷ seen) rest)
   where
-    go : (v : Verdict) → VerdictNumbered v → ((t : Entry) → Numbered (triples s room (k + 1) (t ∷ seen) rest)) → Numbered (onward s k seen rest (λ t. triples s room (k + 1) (t ∷ seen) rest) v)
+    go : (v : Verdict) → VerdictNumbered v → ((t : Entry) → Numbered (triples fresh s room (k + 1) (t ∷ seen) rest)) → Numbered (onward s k seen rest (λ t. triples fresh s room (k + 1) (t ∷ seen) rest) v)
     go (Refused c) h ih = h
     go Last h ih = ending-numbered s (k + 1) seen rest
     go (AnEntry i j v) h ih = ih (record { row = i; column = j; value = v })
 
-sizes-numbered : (p room : ℕ) (rest : Pieces) (h : Header) → Numbered (withSizes p room rest h)
+sizes-numbered : (p room : ℕ) (rest : Pieces) (h : Header) → Numbered (withSizes fresh p room rest h)
 unfolding among
 sizes-numbered p room rest NotHeader = refl
 sizes-numbered p room rest (Given n m) = go (leb n largestSize && leb m largestSize)
   where
-    go : (t : Bool) → Numbered (cond t (triples (record { modulus = record { p = p }; n = n; m = m }) room 3 [] rest) (refused 2 0))
+    go : (t : Bool) → Numbered (cond t (triples fresh (record { modulus = record { p = p }; n = n; m = m }) room 3 [] rest) (refused 2 0))
     go true = triples-numbered (record { modulus = record { p = p }; n = n; m = m }) room 3 [] rest
     go false = refl
 
-second-numbered : (p room : ℕ) (t : Pieces) → Numbered (fromSecond p room t)
+second-numbered : (p room : ℕ) (t : Pieces) → Numbered (fromSecond fresh p room t)
 unfolding among
 second-numbered p room (last l) = refl
 second-numbered p room (more l rest) = sizes-numbered p room rest (headerOf l)
 
-modulus-numbered : (room : ℕ) (rest : Pieces) (n : Number) → Numbered (withModulus room rest n)
+modulus-numbered : (room : ℕ) (rest : Pieces) (n : Number) → Numbered (withModulus fresh room rest n)
 unfolding among
 modulus-numbered room rest NotNumber = refl
 modulus-numbered room rest (Value p) = go (isModulus p)
   where
-    go : (t : Bool) → Numbered (cond t (fromSecond p room rest) (refused 1 0))
+    go : (t : Bool) → Numbered (cond t (fromSecond fresh p room rest) (refused 1 0))
     go true = second-numbered p room rest
     go false = refl
 
-first-numbered : (room : ℕ) (t : Pieces) → Numbered (fromFirst room t)
+first-numbered : (room : ℕ) (t : Pieces) → Numbered (fromFirst fresh room t)
 unfolding among
 first-numbered room (last l) = refl
 first-numbered room (more l rest) = modulus-numbered room rest (numberOf l)
 
 read-numbered : (room : ℕ) (text : List ℕ) → Numbered (readOf room text)
-unfolding readOf among
+unfolding readBy among
 read-numbered room text = go (ltb largestText (length text))
   where
-    go : (t : Bool) → Numbered (cond t (refused 2 0) (fromFirst room (pieces 10 text)))
+    go : (t : Bool) → Numbered (cond t (refused 2 0) (fromFirst fresh room (pieces 10 text)))
     go true = refl
     go false = first-numbered room (pieces 10 text)
 
@@ -139,7 +145,7 @@ pub record Accepts (text : List ℕ) (a b c : ℕ) : Type 0 where
   pub answer-is : callOf text a b c ≡ answerOf b (accepted sizes seen)
 
 pub done-accepts : (text : List ℕ) (a b c : ℕ) → callOf text a b c .result .number ≡ 0 → Accepts text a b c
-unfolding callOf answerOf
+unfolding callOf answerBy
 done-accepts text a b c z = go (eqb a startsLength && eqb b c) (readOf b text) refl refl (read-numbered b text) z
   where
     go : (t : Bool) (o : ReadResult) → (eqb a startsLength && eqb b c) ≡ t → readOf b text ≡ o → Numbered o → cond t (answerOf b o) (refuses 9 0 a b c) .result .number ≡ 0 → Accepts text a b c
@@ -161,13 +167,16 @@ done-accepts text a b c z = go (eqb a startsLength && eqb b c) (readOf b text) r
 abbrev Holds : Sizes → List StatedEntry → ReadAnswer → Type 0
 Holds s ts x = HoldsPlan s ts (x .result) (x .starts) (x .columns) (x .values)
 
+-- lists of the right lengths: the call is the reading
+call-answers : (text : List ℕ) (a b c : ℕ) → a ≡ startsLength → b ≡ c → callOf text a b c ≡ answerOf b (readOf b text)
+unfolding callOf
+call-answers text a b c long paired = rw (eq-eqb a startsLength long, eq-eqb b c paired)
+
 -- Lists of the right lengths, with room, hold after a text the plan that it states.
 answer-holds : (text : List ℕ) (a b c : ℕ) → a ≡ startsLength → b ≡ c → (h : StatesPlan b text) → Holds (h .sizes) (h .triples) (callOf text a b c)
-unfolding callOf
 answer-holds text a b c long paired h =
     subst (Holds (h .sizes) (h .triples))
-    (sym ((λ j. cond (and-both (eqb a startsLength) (eqb b c) (eq-eqb a startsLength long) (eq-eqb b c paired) j) (answerOf b (readOf b (h .text-is j))) (refuses 9 0 a b c))
-    ∙ ap (answerOf b) (reads-stated b (h .sizes) (h .triples) (h .plan))))
+    (sym (call-answers text a b c long paired ∙ ap (answerOf b) (ap (readOf b) (h .text-is) ∙ reads-stated b (h .sizes) (h .triples) (h .plan))))
     (stored-as-stated b (h .sizes) (h .triples) (h .plan))
 
 accepts-stated : (text : List ℕ) (a b c : ℕ) → Accepts text a b c → StatesPlan b text
@@ -212,7 +221,7 @@ module _ (text : List ℕ) (a b c : ℕ) (r : Reading) (st co va : List ℕ) (ca
       }
 
   pub read-by : NumberFrom textFaults (r .number)
-  unfolding callOf answerOf among
+  unfolding callOf answerBy among
   read-by =
       subst (λ (x : ReadAnswer). NumberFrom textFaults (x .result .number)) given
       (go (eqb a startsLength && eqb b c) (readOf b text) (read-numbered b text))
@@ -223,7 +232,7 @@ module _ (text : List ℕ) (a b c : ℕ) (r : Reading) (st co va : List ℕ) (ca
       go true (accepted s seen) n = inl refl
 
   pub read-cleared : ¬ (r .number ≡ 0) → ReadCleared a b c r st co va
-  unfolding callOf answerOf
+  unfolding callOf answerBy
   read-cleared = subst (λ (x : ReadAnswer). ¬ (x .result .number ≡ 0) → ReadCleared a b c (x .result) (x .starts) (x .columns) (x .values)) given (go (eqb a startsLength && eqb b c) (readOf b text) refl)
     where
       go : (t : Bool) (o : ReadResult) → (eqb a startsLength && eqb b c) ≡ t
@@ -238,15 +247,28 @@ module _ (text : List ℕ) (a b c : ℕ) (r : Reading) (st co va : List ℕ) (ca
           }
       go true (accepted s seen) e n = absurd (n refl)
 
+  pub read-rising-as-before : (s : Sizes) (seen : List Entry) → a ≡ startsLength → b ≡ c → readRisingOf b text ≡ accepted s seen
+      → (readOf b text ≡ accepted s seen) × Gives (answerRisingOf b (readRisingOf b text)) r st co va
+  read-rising-as-before s seen long paired e =
+      let (read, left) = rising-as-before b s text seen e in
+      (read, subst (λ (x : ReadAnswer). Gives x r st co va) (call-answers text a b c long paired ∙ left) call)
+
+-- ts and us are the same triples, in any order
+pub read-any-order : (s : Sizes) (room : ℕ) (ts us : List StatedEntry) → Plan room s ts → Plan room s us → ((t : StatedEntry) → Member t ts ↔ Member t us)
+    → (r : Reading) (st co va : List ℕ) → Gives (callOf (planText s ts) startsLength room room) r st co va → Gives (callOf (planText s us) startsLength room room) r st co va
+read-any-order s room ts us g h same r st co va call =
+    subst (λ (x : ReadAnswer). Gives x r st co va)
+    (call-answers (planText s ts) startsLength room room refl refl ∙ order-free room s ts us g h same ∙ sym (call-answers (planText s us) startsLength room room refl refl)) call
+
 -- t is any of the triples of a plan that is stated: xs stand before it, ys after it
 pub each-stated : (s : Sizes) (room : ℕ) (xs : List StatedEntry) (t : StatedEntry) (ys : List StatedEntry) → Plan room s (xs ++ (t ∷ ys))
     → (r : Reading) (st co va : List ℕ) → Gives (callOf (planText s (xs ++ (t ∷ ys))) startsLength room room) r st co va
     → matrix (heldPlan r st co va) (t .row - 1) (t .column - 1) ≡ residueOf (s .modulus .p) (integerOf (t .value))
 each-stated s room xs t ys h r st co va call =
     let ts = xs ++ (t ∷ ys) in
-    let place = stated-inside s 0 0 xs t ys (h .rising) in
+    let place = stated-inside s [] xs t ys (h .apart) in
     holds-stated (planText s ts) startsLength room room r st co va call refl refl (record { sizes = s; triples = ts; plan = h; text-is = refl }) .cells (t .row - 1) (t .column - 1) (place .0) (place .1)
-    ∙ stated-found s 0 0 xs t ys (h .rising)
+    ∙ stated-found s [] xs t ys (h .apart)
 
 -- ---- line by line
 

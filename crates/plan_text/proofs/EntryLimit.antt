@@ -12,9 +12,9 @@ use Rattle.fields.specs.declared.numbers.Signed.{Signed}
 use Rattle.fields.specs.declared.numbers.Signed.the-variants.{Plus, Minus, NotSigned}
 use Rattle.plan_text.specs.declared.judge.Sizes.{Sizes}
 use Rattle.plan_text.specs.Reading.{Entry, accepted, kept, readOf}
-use Rattle.plan_text.specs.Stating.{StatedEntry, tripleText, sizesText, tripleLines, planText, Rising, entryOf}
+use Rattle.plan_text.specs.Stating.{StatedEntry, tripleText, sizesText, tripleLines, planText, entryOf, Apart}
 use Rattle.plan_text.proofs.Accepted.{accepted-states}
-use Rattle.plan_text.proofs.Ordered.{nonzero, kept-stated}
+use Rattle.plan_text.proofs.Kept.{nonzero, kept-stated}
 
 decimal-long : (n : ℕ) → 1 ≤ length (decimal n)
 unfolding decimal decimalIn
@@ -30,7 +30,7 @@ signed-long (Plus n) p = decimal-long n
 signed-long (Minus n) p = omega arith
 signed-long NotSigned p = absurd p
 
-triple-long : (t : StatedEntry) → Proper (t .value) → 5 ≤ length (tripleText t)
+pub triple-long : (t : StatedEntry) → Proper (t .value) → 5 ≤ length (tripleText t)
 unfolding tripleText joined
 triple-long t p =
     omega (
@@ -42,20 +42,20 @@ triple-long t p =
       signed-long (t .value) p,
     )
 
-lines-long : (s : Sizes) (a b : ℕ) (ts : List StatedEntry) → Rising s a b ts → 6 + 6 * length ts ≤ length (joined 10 (tripleLines ts))
+lines-long : (s : Sizes) (seen : List Entry) (ts : List StatedEntry) → Apart s seen ts → 6 + 6 * length ts ≤ length (joined 10 (tripleLines ts))
 unfolding tripleLines joined
-lines-long s a b [] r =
+lines-long s seen [] r =
     let z : StatedEntry = record { row = 0; column = 0; value = Plus 0 } in
     omega (arith, length-append (tripleText z) (10 ∷ []), triple-long z tt)
-lines-long s a b (t ∷ ts) r =
-    omega (arith, length-append (tripleText t) (10 ∷ joined 10 (tripleLines ts)), triple-long t (r .0 .proper), lines-long s (t .row) (t .column) ts (r .1))
+lines-long s seen (t ∷ ts) r =
+    omega (arith, length-append (tripleText t) (10 ∷ joined 10 (tripleLines ts)), triple-long t (r .0 .proper), lines-long s (entryOf (s .modulus .p) t ∷ seen) ts (r .1))
 
 sizes-long : (s : Sizes) → 5 ≤ length (sizesText s)
 unfolding sizesText joined
 sizes-long s =
     omega (arith, length-append (decimal (s .n)) (32 ∷ (decimal (s .m) ++ 32 ∷ 77 ∷ [])), length-append (decimal (s .m)) (32 ∷ 77 ∷ []), decimal-long (s .n), decimal-long (s .m))
 
-plan-long : (s : Sizes) (ts : List StatedEntry) → Rising s 0 0 ts → 14 + 6 * length ts ≤ length (planText s ts)
+plan-long : (s : Sizes) (ts : List StatedEntry) → Apart s [] ts → 14 + 6 * length ts ≤ length (planText s ts)
 unfolding planText joined
 plan-long s ts r =
     omega (
@@ -64,10 +64,10 @@ plan-long s ts r =
       length-append (sizesText s) (10 ∷ joined 10 (tripleLines ts)),
       decimal-long (s .modulus .p),
       sizes-long s,
-      lines-long s 0 0 ts r,
+      lines-long s [] ts r,
     )
 
-nonzero-few : (es : List Entry) → length (nonzero es) ≤ length es
+pub nonzero-few : (es : List Entry) → length (nonzero es) ≤ length es
 unfolding nonzero
 nonzero-few [] = omega arith
 nonzero-few (t ∷ ts) = go (eqb (t .value) 0) (nonzero-few ts)
@@ -82,4 +82,4 @@ few-entries room s text seen e =
     let h = accepted-states room s text seen e in
     let es : List Entry = map (entryOf (s .modulus .p)) (h .stated) in
     let stored : kept seen ≡ nonzero es = ap kept (h .entries-are) ∙ kept-stated es in
-    omega (arith, ap length stored, nonzero-few es, length-map (h .stated) (entryOf (s .modulus .p)), plan-long s (h .stated) (h .plan .rising), h .plan .short)
+    omega (arith, ap length stored, nonzero-few es, length-map (h .stated) (entryOf (s .modulus .p)), plan-long s (h .stated) (h .plan .apart), h .plan .short)

@@ -1,7 +1,7 @@
 -- The first two lines: what a line and what it says lead to.
 use mathlib.Core.Path.{_≡_, sym, ap, _∙_}
 use mathlib.Core.List.{List, []}
-use mathlib.Core.Bool.{true, false}
+use mathlib.Core.Bool.{Bool, true, false}
 use Prim.Native.Nat.{ℕ, _+_, _≤_, _<_}
 use native.Mathlib.Omega.{arith}
 use lib.ListN.{length, drop}
@@ -20,13 +20,13 @@ use Rattle.plan_text.specs.declared.header.Header.the-variants.{Given, N
 use Rattle.call_tests.specs.Limits.{largestSize}
 use Rattle.plan_text.specs.Limits.{largestText}
 use Rattle.plan_text.specs.Line.{headerOf}
-use Rattle.plan_text.specs.Reading.{refused, triples, withSizes, fromSecond, withModulus, fromFirst, readOf}
+use Rattle.plan_text.specs.Reading.{Entry, refused, triples, withSizes, fromSecond, withModulus, fromFirst, readBy}
 use Rattle.plan_text.specs.Call.{Limits, Second}
 
 -- ---- the second line l
 module _ (text : List ℕ) {l : List ℕ} (second : Place) (p : ℕ) (h : Second text second p) (e : l ≡ lineAt text (second .at)) where
-  pub second-none : second .at + length l ≡ length text → (room : ℕ) → fromSecond p room (pieces 10 (drop (second .at) text)) ≡ refused 3 (second .line)
-  second-none q room = ap (fromSecond p room) (piece-last 10 text l (second .at) (h .place) e q) ∙ ap (refused 3) (sym (h .number-is))
+  pub second-none : second .at + length l ≡ length text → (rule : List Entry → ℕ → ℕ → Bool) (room : ℕ) → fromSecond rule p room (pieces 10 (drop (second .at) text)) ≡ refused 3 (second .line)
+  second-none q rule room = ap (fromSecond rule p room) (piece-last 10 text l (second .at) (h .place) e q) ∙ ap (refused 3) (sym (h .number-is))
 
   pub second-ends : (second .at + length l ≡ length text → ⊥) → Ends text (second .at) (second .line) (length l)
   second-ends q = record { size-is = ap length e; feed = omega (arith, piece-end 10 text l (second .at) (h .place) e, q); numbered = omega (arith, h .number-is) }
@@ -35,42 +35,42 @@ module _ (text : List ℕ) {l : List ℕ} (second : Place) (p : ℕ) (h : Second
     past : third .at ≡ second .at + length l + 1
     past = t .0 ∙ ap (λ (x : List ℕ). second .at + length x + 1) (sym e)
 
-    second-some : (room : ℕ) → fromSecond p room (pieces 10 (drop (second .at) text)) ≡ withSizes p room (pieces 10 (drop (third .at) text)) header
-    second-some room = ap (fromSecond p room) (piece-more 10 text l (second .at) (h .place) e (third .at) (q .feed) past) ∙ rw k
+    second-some : (rule : List Entry → ℕ → ℕ → Bool) (room : ℕ) → fromSecond rule p room (pieces 10 (drop (second .at) text)) ≡ withSizes rule p room (pieces 10 (drop (third .at) text)) header
+    second-some rule room = ap (fromSecond rule p room) (piece-more 10 text l (second .at) (h .place) e (third .at) (q .feed) past) ∙ rw k
 
-    pub second-bad : header ≡ NotHeader → (room : ℕ) → fromSecond p room (pieces 10 (drop (second .at) text)) ≡ refused 3 (second .line)
-    second-bad b room = second-some room ∙ rw b (ap (refused 3) (sym (h .number-is)))
+    pub second-bad : header ≡ NotHeader → (rule : List Entry → ℕ → ℕ → Bool) (room : ℕ) → fromSecond rule p room (pieces 10 (drop (second .at) text)) ≡ refused 3 (second .line)
+    second-bad b rule room = second-some rule room ∙ rw b (ap (refused 3) (sym (h .number-is)))
 
-    pub second-n : {n m : ℕ} → header ≡ Given n m → largestSize < n → (room : ℕ) → fromSecond p room (pieces 10 (drop (second .at) text)) ≡ refused 2 0
-    second-n {n} {m} b x room = second-some room ∙ rw (b, lt-leb n largestSize x)
+    pub second-n : {n m : ℕ} → header ≡ Given n m → largestSize < n → (rule : List Entry → ℕ → ℕ → Bool) (room : ℕ) → fromSecond rule p room (pieces 10 (drop (second .at) text)) ≡ refused 2 0
+    second-n {n} {m} b x rule room = second-some rule room ∙ rw (b, lt-leb n largestSize x)
 
-    pub second-m : {n m : ℕ} → header ≡ Given n m → n ≤ largestSize → largestSize < m → (room : ℕ) → fromSecond p room (pieces 10 (drop (second .at) text)) ≡ refused 2 0
-    second-m {n} {m} b x y room = second-some room ∙ rw (b, le-leb n largestSize x, lt-leb m largestSize y)
+    pub second-m : {n m : ℕ} → header ≡ Given n m → n ≤ largestSize → largestSize < m → (rule : List Entry → ℕ → ℕ → Bool) (room : ℕ) → fromSecond rule p room (pieces 10 (drop (second .at) text)) ≡ refused 2 0
+    second-m {n} {m} b x y rule room = second-some rule room ∙ rw (b, le-leb n largestSize x, lt-leb m largestSize y)
 
     module _ {n m : ℕ} (x : n ≤ largestSize) (y : m ≤ largestSize) where
       abbrev sizes : Sizes
       sizes = record { modulus = record { p = p }; n = n; m = m }
 
-      pub second-ready : header ≡ Given n m → (room : ℕ) → fromSecond p room (pieces 10 (drop (second .at) text)) ≡ triples sizes room (third .line) [] (pieces 10 (drop (third .at) text))
-      second-ready b room =
+      pub second-ready : header ≡ Given n m → (rule : List Entry → ℕ → ℕ → Bool) (room : ℕ) → fromSecond rule p room (pieces 10 (drop (second .at) text)) ≡ triples rule sizes room (third .line) [] (pieces 10 (drop (third .at) text))
+      second-ready b rule room =
           let number : 3 ≡ third .line = omega (arith, t .1, h .number-is) in
-          second-some room ∙ rw (b, le-leb n largestSize x, le-leb m largestSize y) (ap (λ (j : ℕ). triples sizes room j [] (pieces 10 (drop (third .at) text))) number)
+          second-some rule room ∙ rw (b, le-leb n largestSize x, le-leb m largestSize y) (ap (λ (j : ℕ). triples rule sizes room j [] (pieces 10 (drop (third .at) text))) number)
 
       pub second-limits : Limits text sizes third
       second-limits = record { place = omega (arith, past, q .feed); numbered = omega (arith, past, t .1, h .numbered); short = h .short; modulus = h .modulus; n-limit = x; m-limit = y }
 
 -- ---- the first line l, which starts at 0 and has the number 1
-pub too-long : (text : List ℕ) → largestText < length text → (room : ℕ) → readOf room text ≡ refused 2 0
-unfolding readOf
-too-long text h room = rw (lt-ltb largestText (length text) h)
+pub too-long : (text : List ℕ) → largestText < length text → (rule : List Entry → ℕ → ℕ → Bool) (room : ℕ) → readBy rule room text ≡ refused 2 0
+unfolding readBy
+too-long text h rule room = rw (lt-ltb largestText (length text) h)
 
 module _ (text : List ℕ) {l : List ℕ} (short : length text ≤ largestText) (e : l ≡ lineAt text 0) where
-  in-length : (room : ℕ) → readOf room text ≡ fromFirst room (pieces 10 text)
-  unfolding readOf
-  in-length room = rw (le-ltb largestText (length text) short)
+  in-length : (rule : List Entry → ℕ → ℕ → Bool) (room : ℕ) → readBy rule room text ≡ fromFirst rule room (pieces 10 text)
+  unfolding readBy
+  in-length rule room = rw (le-ltb largestText (length text) short)
 
-  pub first-none : 0 + length l ≡ length text → (room : ℕ) → readOf room text ≡ refused 3 1
-  first-none q room = in-length room ∙ ap (fromFirst room) (piece-last 10 text l 0 (omega arith) e q)
+  pub first-none : 0 + length l ≡ length text → (rule : List Entry → ℕ → ℕ → Bool) (room : ℕ) → readBy rule room text ≡ refused 3 1
+  first-none q rule room = in-length rule room ∙ ap (fromFirst rule room) (piece-last 10 text l 0 (omega arith) e q)
 
   pub first-ends : (0 + length l ≡ length text → ⊥) → Ends text 0 1 (length l)
   first-ends q = record { size-is = ap length e; feed = omega (arith, piece-end 10 text l 0 (omega arith) e, q); numbered = omega arith }
@@ -79,17 +79,17 @@ module _ (text : List ℕ) {l : List ℕ} (short : length text ≤ largestText) 
     past-first : second .at ≡ 0 + length l + 1
     past-first = t .0 ∙ ap (λ (x : List ℕ). 0 + length x + 1) (sym e)
 
-    first-some : (room : ℕ) → readOf room text ≡ withModulus room (pieces 10 (drop (second .at) text)) number
-    first-some room = in-length room ∙ ap (fromFirst room) (piece-more 10 text l 0 (omega arith) e (second .at) (q .feed) past-first) ∙ rw k
+    first-some : (rule : List Entry → ℕ → ℕ → Bool) (room : ℕ) → readBy rule room text ≡ withModulus rule room (pieces 10 (drop (second .at) text)) number
+    first-some rule room = in-length rule room ∙ ap (fromFirst rule room) (piece-more 10 text l 0 (omega arith) e (second .at) (q .feed) past-first) ∙ rw k
 
-    pub first-bad : number ≡ NotNumber → (room : ℕ) → readOf room text ≡ refused 3 1
-    first-bad b room = first-some room ∙ rw b
+    pub first-bad : number ≡ NotNumber → (rule : List Entry → ℕ → ℕ → Bool) (room : ℕ) → readBy rule room text ≡ refused 3 1
+    first-bad b rule room = first-some rule room ∙ rw b
 
-    pub first-composite : {p : ℕ} → number ≡ Value p → isModulus p ≡ false → (room : ℕ) → readOf room text ≡ refused 1 0
-    first-composite b x room = first-some room ∙ rw (b, x)
+    pub first-composite : {p : ℕ} → number ≡ Value p → isModulus p ≡ false → (rule : List Entry → ℕ → ℕ → Bool) (room : ℕ) → readBy rule room text ≡ refused 1 0
+    first-composite b x rule room = first-some rule room ∙ rw (b, x)
 
-    pub first-ready : {p : ℕ} → number ≡ Value p → isModulus p ≡ true → (room : ℕ) → readOf room text ≡ fromSecond p room (pieces 10 (drop (second .at) text))
-    first-ready b x room = first-some room ∙ rw (b, x)
+    pub first-ready : {p : ℕ} → number ≡ Value p → isModulus p ≡ true → (rule : List Entry → ℕ → ℕ → Bool) (room : ℕ) → readBy rule room text ≡ fromSecond rule p room (pieces 10 (drop (second .at) text))
+    first-ready b x rule room = first-some rule room ∙ rw (b, x)
 
     pub first-second : {p : ℕ} → isModulus p ≡ true → Second text second p
     first-second x = record { place = omega (arith, past-first, q .feed); numbered = omega (arith, past-first, t .1); number-is = omega (arith, t .1); short = short; modulus = x }

@@ -26,8 +26,8 @@ use Rattle.call_tests.specs.Limits.{largestSize}
 use Rattle.plan_text.specs.Limits.{largestText}
 use Rattle.plan_text.specs.Line.{fieldsOf, lineOf, withSigned, headerOf}
 use Rattle.plan_text.specs.Judge.{judge, inRange, isLast, residueAt}
-use Rattle.plan_text.specs.Reading.{Entry, accepted, kept, lastRow, lastColumn, verdictOn, triples, readOf}
-use Rattle.plan_text.specs.Stating.{StatedEntry, tripleText, sizesText, lastLine, tripleLines, planText, Follows, Rising, entryOf, entriesOf, Plan}
+use Rattle.plan_text.specs.Reading.{Entry, accepted, kept, fresh, verdictOn, triples, readBy, readOf}
+use Rattle.plan_text.specs.Stating.{StatedEntry, tripleText, sizesText, lastLine, tripleLines, planText, entryOf, entriesOf, Stands, Apart, Plan}
 use Rattle.plan_text.proofs.Storing.{kept-zero, kept-more}
 use Rattle.plan_text.proofs.Verdicts.{within-bounds}
 
@@ -71,7 +71,7 @@ kept-one x seen = go (eqb (x .value) 0) refl
     go true e = omega (arith, ap length (kept-zero x seen (eqb-true (x .value) 0 e)))
     go false e = omega (arith, ap length (kept-more x seen (eqb-false (x .value) 0 e)) ∙ length-append (kept seen) (x ∷ []))
 
-kept-grows : (xs seen : List Entry) → length (kept seen) ≤ length (kept (reverseAux xs seen))
+pub kept-grows : (xs seen : List Entry) → length (kept seen) ≤ length (kept (reverseAux xs seen))
 kept-grows [] seen = le-refl (length (kept seen))
 kept-grows (x ∷ xs) seen = le-trans (kept-one x seen) (kept-grows xs (x ∷ seen))
 
@@ -92,8 +92,8 @@ not-last i j v h = rw (ne-eqb i 0 (λ e. omega arith))
 value-is : (p : ℕ) (t : StatedEntry) → residueAt p (t .value) ≡ entryOf p t .value
 value-is p t = sym (residue-value p (isNegative (t .value)) (magnitude (t .value)))
 
-verdict-printed : (s : Sizes) (room : ℕ) (seen : List Entry) (t : StatedEntry) → s .n ≤ largestSize → s .m ≤ largestSize → Follows s (lastRow seen) (lastColumn seen) t
-    → length (kept (entryOf (s .modulus .p) t ∷ seen)) ≤ room → verdictOn s room seen (tripleText t) ≡ AnEntry (t .row) (t .column) (entryOf (s .modulus .p) t .value)
+verdict-printed : (s : Sizes) (room : ℕ) (seen : List Entry) (t : StatedEntry) → s .n ≤ largestSize → s .m ≤ largestSize → Stands s seen t
+    → length (kept (entryOf (s .modulus .p) t ∷ seen)) ≤ room → verdictOn fresh s room seen (tripleText t) ≡ AnEntry (t .row) (t .column) (entryOf (s .modulus .p) t .value)
 unfolding judge
 verdict-printed s room seen t hn hm f h =
     let wi = within-bounds (t .row) (s .n) (f .row-inside) in
@@ -103,18 +103,18 @@ verdict-printed s room seen t hn hm f h =
       not-last (t .row) (t .column) (t .value) (wi .0),
       f .row-inside,
       f .column-inside,
-      f .order,
+      f .place,
       f .range,
       value-is (s .modulus .p) t,
       has-room room seen (entryOf (s .modulus .p) t) h,
     )
 
-verdict-last : (s : Sizes) (room : ℕ) (seen : List Entry) → verdictOn s room seen lastLine ≡ Last
+verdict-last : (s : Sizes) (room : ℕ) (seen : List Entry) → verdictOn fresh s room seen lastLine ≡ Last
 unfolding judge
 verdict-last s room seen = rw (line-printed (record { row = 0; column = 0; value = Plus 0 }) (omega arith) (omega arith) refl tt)
 
-triples-printed : (s : Sizes) (room : ℕ) → s .n ≤ largestSize → s .m ≤ largestSize → (ts : List StatedEntry) (k : ℕ) (seen : List Entry) → Rising s (lastRow seen) (lastColumn seen) ts
-    → length (kept (reverseAux (map (entryOf (s .modulus .p)) ts) seen)) ≤ room → triples s room k seen (tripleLines ts) ≡ accepted s (reverseAux (map (entryOf (s .modulus .p)) ts) seen)
+triples-printed : (s : Sizes) (room : ℕ) → s .n ≤ largestSize → s .m ≤ largestSize → (ts : List StatedEntry) (k : ℕ) (seen : List Entry) → Apart s seen ts
+    → length (kept (reverseAux (map (entryOf (s .modulus .p)) ts) seen)) ≤ room → triples fresh s room k seen (tripleLines ts) ≡ accepted s (reverseAux (map (entryOf (s .modulus .p)) ts) seen)
 unfolding triples tripleLines
 triples-printed s room hn hm [] k seen r h = rw (verdict-last s room seen)
 triples-printed s room hn hm (t ∷ ts) k seen r h =
@@ -154,7 +154,7 @@ header-printed s hn hm =
 
 -- Each text that states a plan is read as that plan.
 pub reads-stated : (room : ℕ) (s : Sizes) (ts : List StatedEntry) → Plan room s ts → readOf room (planText s ts) ≡ accepted s (entriesOf (s .modulus .p) ts)
-unfolding readOf
+unfolding readBy
 reads-stated room s ts h =
     rw (
       le-ltb largestText (length (planText s ts)) (h .short),
@@ -165,4 +165,4 @@ reads-stated room s ts h =
       le-leb (s .n) largestSize (h .rows),
       le-leb (s .m) largestSize (h .columns),
     )
-    (triples-printed s room (h .rows) (h .columns) ts 3 [] (h .rising) (h .fits))
+    (triples-printed s room (h .rows) (h .columns) ts 3 [] (h .apart) (h .fits))

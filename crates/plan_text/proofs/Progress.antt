@@ -1,15 +1,13 @@
 -- The loop over the triples: where it stands before each line, and what a line leads to.
 use mathlib.Core.Path.{_≡_, refl, sym, ap, _∙_, subst}
 use mathlib.Core.List.{List, [], _∷_}
-use mathlib.Core.Bool.{Bool, true, false, cond, _&&_, not}
+use mathlib.Core.Bool.{Bool, true, false, _&&_, not}
 use Prim.Native.Nat.{ℕ, _+_, _≤_, _<_, zero-le}
-use native.Mathlib.Nat.{le-of-eq}
 use native.Mathlib.Omega.{arith}
-use lib.ListN.{drop-of-length-le, length, drop, length-append, length-drop}
+use lib.ListN.{length, drop, length-append}
 use lib.Dec.{eqb, leb}
 use borrow.Author.Tests.{eqb-true, eqb-false, ne-eqb, leb-false}
-use Rattle.fields.specs.Pieces.{Pieces, last, more, prepend, pieces}
-use Rattle.fields.proofs.Cuts.{piece-end, piece-last, piece-more}
+use Rattle.fields.specs.Pieces.{Pieces, pieces}
 use Rattle.line_reader.specs.Line.{lineAt, lineEnd, Ends}
 use Rattle.line_reader.specs.declared.Place.{Place}
 use Rattle.plan_text.specs.declared.judge.Sizes.{Sizes}
@@ -19,18 +17,20 @@ use Rattle.plan_text.specs.declared.triples.TripleLines.the-variants.{Re
 use Rattle.plan_text.specs.Limits.{startsLength}
 use Rattle.plan_text.specs.Line.{lineOf}
 use Rattle.plan_text.specs.Judge.{judge, mayStand, before}
-use Rattle.plan_text.specs.Reading.{Entry, ReadResult, refused, accepted, kept, lastRow, lastColumn, ending, onward, triples, verdictOn}
+use Rattle.plan_text.specs.Reading.{Entry, ReadResult, refused, accepted, kept, onward, triples, verdictOn}
+use Rattle.plan_text.specs.Rising.{lastRow, lastColumn, rises}
 use Rattle.plan_text.specs.Stored.{startsOf, RowsWithin, EntriesStored, Storable}
 use Rattle.plan_text.specs.Call.{Begins, Limits, Shows}
-use Rattle.plan_text.proofs.StoredForm.{starts-none, starts-length, columns-none, values-none, columns-length, values-length}
-use Rattle.plan_text.proofs.Storing.{kept-zero, kept-more}
+use Rattle.plan_text.proofs.EachLine.{ending-none, ending-some, no-lines, last-line, next-place, line-more, next-limits}
+use Rattle.plan_text.proofs.StoredForm.{starts-length, columns-length, values-length}
+use Rattle.plan_text.proofs.Storing.{cleared-stores-none, kept-zero, kept-more}
 use Rattle.plan_text.proofs.Verdicts.{IsEntry, judged-entry, within-bounds, before-row}
 
 -- the loop before the line at `here`, after the triple at a and b, with so many entries stored
 pub record Progress (text : List ℕ) (from : Place) (s : Sizes) (room : ℕ) (st co va : List ℕ) (here : Place) (a b count : ℕ) : Type 0 where
   pub limits : Limits text s here
   pub seen : List Entry
-  pub same : triples s room (from .line) [] (pieces 10 (drop (from .at) text)) ≡ triples s room (here .line) seen (pieces 10 (drop (here .at) text))
+  pub same : triples rises s room (from .line) [] (pieces 10 (drop (from .at) text)) ≡ triples rises s room (here .line) seen (pieces 10 (drop (here .at) text))
   pub last-a : a ≡ lastRow seen
   pub last-b : b ≡ lastColumn seen
   pub stored : EntriesStored a room (kept seen) count st co va
@@ -39,35 +39,18 @@ pub record Progress (text : List ℕ) (from : Place) (s : Sizes) (room : ℕ) (s
   pub enough : count ≤ room
 
 pub progress-starts : (text : List ℕ) (from : Place) (s : Sizes) (st co va : List ℕ) → Begins text from s st co va → Progress text from s (length co) st co va from 0 0 0
-unfolding kept RowsWithin
+unfolding kept
 progress-starts text from s st co va h = record {
   limits = h .limits;
   seen = [];
   same = refl;
   last-a = refl;
   last-b = refl;
-  stored = record {
-    rows = tt;
-    number = refl;
-    starts-are = h .cleared .starts-zero ∙ sym starts-none;
-    columns-are = h .cleared .columns-zero ∙ sym (columns-none (length co));
-    values-are = h .cleared .values-zero ∙ sym (values-none (length co));
-  };
+  stored = cleared-stores-none st co va (h .cleared);
   row-limit = zero-le;
   few = zero-le;
   enough = zero-le;
 }
-
--- something follows the last line
-ending-some : (s : Sizes) (k : ℕ) (seen : List Entry) (l : List ℕ) → (length l ≡ 0 → ⊥) → ending s k seen (pieces 10 l) ≡ refused 3 k
-unfolding pieces
-ending-some s k seen [] h = absurd (h refl)
-ending-some s k seen (b ∷ bs) h = go (eqb b 10) (pieces 10 bs)
-  where
-    go : (t : Bool) (p : Pieces) → ending s k seen (cond t (more [] p) (prepend b p)) ≡ refused 3 k
-    go true p = refl
-    go false (last l) = refl
-    go false (more l q) = refl
 
 -- one triple more adds at most one entry, and none where there is no room
 count-step : (t : Entry) (seen : List Entry) (room : ℕ) → ((t .value ≡ 0 → ⊥) → length (kept seen) < room) → length (kept seen) ≤ room
@@ -83,7 +66,7 @@ count-step t seen room h le = go (eqb (t .value) 0) refl
 
 module _ {text : List ℕ} {from : Place} {s : Sizes} {room : ℕ} {st co va : List ℕ} {here : Place} {a b count : ℕ} (g : Progress text from s room st co va here a b count) where
   abbrev whole : ReadResult
-  whole = triples s room (from .line) [] (pieces 10 (drop (from .at) text))
+  whole = triples rises s room (from .line) [] (pieces 10 (drop (from .at) text))
 
   pub starts-long : length st ≡ startsLength
   starts-long = ap length (g .stored .starts-are) ∙ starts-length a (kept (g .seen)) (omega (arith, g .row-limit, g .limits .n-limit))
@@ -111,64 +94,53 @@ module _ {text : List ℕ} {from : Place} {s : Sizes} {room : ℕ} {st co va : L
 
   -- the text ends where a line should begin
   pub no-line : length text ≤ here .at → whole ≡ refused 3 (here .line)
-  unfolding triples pieces
-  no-line h = g .same ∙ rw (drop-of-length-le text h)
+  unfolding triples
+  no-line h = g .same ∙ ap (triples rises s room (here .line) (g .seen)) (no-lines text (here .at) h)
 
   module _ {l : List ℕ} (e : l ≡ lineAt text (here .at)) where
-    pub line-end : here .at + length l ≤ length text
-    line-end = piece-end 10 text l (here .at) (g .limits .place) e
-
     -- the line has no line feed
     pub no-feed : here .at + length l ≡ length text → whole ≡ refused 3 (here .line)
     unfolding triples
-    no-feed h = g .same ∙ ap (triples s room (here .line) (g .seen)) (piece-last 10 text l (here .at) (g .limits .place) e h)
+    no-feed h = g .same ∙ ap (triples rises s room (here .line) (g .seen)) (last-line (g .limits) e h)
 
-    -- it has one, and so a next line
-    pub has-feed : (here .at + length l ≡ length text → ⊥) → Ends text (here .at) (here .line) (length l)
-    has-feed h = record { size-is = ap length e; feed = omega (arith, line-end, h); numbered = omega (arith, g .limits .numbered, g .limits .place, g .limits .short) }
-
-    module _ {verdict : Verdict} (j : verdict ≡ judge (mayStand a b (lineOf l)) (leb room count) s (lineOf l)) (ends : Ends text (here .at) (here .line) (length l))
+    module _ {verdict : Verdict} (j : verdict ≡ judge (mayStand (before a b) (lineOf l)) (leb room count) s (lineOf l)) (ends : Ends text (here .at) (here .line) (length l))
         (next : Place) (follows : (next .at ≡ lineEnd text (here .at) + 1) × (next .line ≡ here .line + 1)) where
-      pub next-place : next .at ≡ here .at + length l + 1
-      next-place = follows .0 ∙ ap (λ (x : List ℕ). here .at + length x + 1) (sym e)
-
       abbrev rest : Pieces
       rest = pieces 10 (drop (next .at) text)
 
-      verdict-is : verdict ≡ verdictOn s room (g .seen) l
-      verdict-is = j ∙ (λ k. judge (mayStand (g .last-a k) (g .last-b k) (lineOf l)) (leb room (g .stored .number k)) s (lineOf l))
+      verdict-is : verdict ≡ verdictOn rises s room (g .seen) l
+      verdict-is = j ∙ (λ k. judge (mayStand (before (g .last-a k) (g .last-b k)) (lineOf l)) (leb room (g .stored .number k)) s (lineOf l))
 
-      judged-line : whole ≡ onward s (here .line) (g .seen) rest (λ t. triples s room (here .line + 1) (t ∷ g .seen) rest) verdict
+      judged-line : whole ≡ onward s (here .line) (g .seen) rest (λ t. triples rises s room (here .line + 1) (t ∷ g .seen) rest) verdict
       unfolding triples
       judged-line =
           g .same
-          ∙ ap (triples s room (here .line) (g .seen)) (piece-more 10 text l (here .at) (g .limits .place) e (next .at) (ends .feed) next-place)
-          ∙ ap (onward s (here .line) (g .seen) rest (λ t. triples s room (here .line + 1) (t ∷ g .seen) rest)) (sym verdict-is)
+          ∙ ap (triples rises s room (here .line) (g .seen)) (line-more (g .limits) e ends next follows)
+          ∙ ap (onward s (here .line) (g .seen) rest (λ t. triples rises s room (here .line + 1) (t ∷ g .seen) rest)) (sym verdict-is)
 
       pub is-refused : (c : ℕ) → verdict ≡ Refused c → whole ≡ refused c (here .line)
       is-refused c v = judged-line ∙ rw v
 
       -- the last line, and nothing after it
       pub is-finished : verdict ≡ Last → next .at ≡ length text → whole ≡ accepted s (g .seen)
-      unfolding pieces
-      is-finished v n = judged-line ∙ rw (v, drop-of-length-le text (le-of-eq (sym n)))
+      is-finished v n = judged-line ∙ rw v (ending-none s (here .line + 1) (g .seen) text (next .at) n)
 
       -- the last line, and something after it
       pub not-finished : verdict ≡ Last → (next .at ≡ length text → ⊥) → whole ≡ refused 3 (next .line)
       not-finished v n =
           judged-line
-          ∙ rw v (ending-some s (here .line + 1) (g .seen) (drop (next .at) text) (λ q. n (omega (arith, length-drop (next .at) text, next-place, ends .feed))))
+          ∙ rw v (ending-some s (here .line + 1) (g .seen) text (next .at) (next-limits (g .limits) e ends next follows .place) n)
           ∙ ap (refused 3) (sym (follows .1))
 
       module _ {i k v : ℕ} (ve : verdict ≡ AnEntry i k v) where
         abbrev entry : Entry
         entry = record { row = i; column = k; value = v }
 
-        judged : IsEntry (mayStand a b (lineOf l)) (leb room count) s (lineOf l) i k v
-        judged = judged-entry (mayStand a b (lineOf l)) (leb room count) s (lineOf l) i k v (sym j ∙ ve)
+        judged : IsEntry (mayStand (before a b) (lineOf l)) (leb room count) s (lineOf l) i k v
+        judged = judged-entry (mayStand (before a b) (lineOf l)) (leb room count) s (lineOf l) i k v (sym j ∙ ve)
 
         ordered : before a b i k ≡ true
-        ordered = sym (ap (mayStand a b) (judged .line)) ∙ judged .order
+        ordered = sym (ap (mayStand (before a b)) (judged .line)) ∙ judged .order
 
         -- a value that is stored has a place
         space : (v ≡ 0 → ⊥) → count < room
@@ -197,15 +169,14 @@ module _ {text : List ℕ} {from : Place} {s : Sizes} {room : ℕ} {st co va : L
             let h : EntriesStored i room (kept (entry ∷ g .seen)) n st′ co′ va′ =
             subst (λ (r : ℕ). EntriesStored a r (kept (g .seen)) count st co va → EntriesStored i r (kept (entry ∷ g .seen)) n st′ co′ va′) columns-long store (g .stored) in
             let c = count-step entry (g .seen) room (λ z. omega (arith, g .stored .number, space z)) (omega (arith, g .stored .number, g .enough)) in
-            let old = g .limits in
             record {
-              limits = record { place = omega (arith, next-place, ends .feed); numbered = omega (arith, next-place, follows .1, old .numbered); short = old .short; modulus = old .modulus; n-limit = old .n-limit; m-limit = old .m-limit };
+              limits = next-limits (g .limits) e ends next follows;
               seen = entry ∷ g .seen;
-              same = judged-line ∙ rw ve (ap (λ (m : ℕ). triples s room m (entry ∷ g .seen) rest) (sym (follows .1)));
+              same = judged-line ∙ rw ve (ap (λ (m : ℕ). triples rises s room m (entry ∷ g .seen) rest) (sym (follows .1)));
               last-a = refl;
               last-b = refl;
               stored = h;
               row-limit = within-bounds i (s .n) (judged .row-inside) .1;
-              few = omega (arith, next-place, c, h .number, g .few, g .stored .number);
+              few = omega (arith, next-place (g .limits) e ends next follows, c, h .number, g .few, g .stored .number);
               enough = omega (arith, c, h .number);
             }

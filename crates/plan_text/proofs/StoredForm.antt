@@ -2,7 +2,7 @@
 use mathlib.Core.Path.{_≡_, refl, sym, ap, _∙_}
 use mathlib.Core.List.{List, [], _∷_, _++_, map}
 use mathlib.Core.Bool.{cond}
-use Prim.Native.Nat.{ℕ, zero, suc, _+_, _-_, _≤_, _<_}
+use Prim.Native.Nat.{ℕ, suc, _+_, _-_, _≤_, _<_}
 use native.Mathlib.Nat.{le-refl}
 use native.Mathlib.Numerals.{add-one}
 use native.Mathlib.Omega.{arith}
@@ -13,7 +13,7 @@ use borrow.Author.Tests.{le-leb, lt-leb}
 use Rattle.lists.specs.Filled.{zeros, filled}
 use Rattle.lists.specs.Tabulate.{tabulate}
 use Rattle.lists.proofs.Filled.{filled-none, length-filled}
-use Rattle.lists.proofs.Tabulate.{length-tabulate, tabulate-ext}
+use Rattle.lists.proofs.Tabulate.{length-tabulate, tabulate-more, tabulate-ext}
 use Rattle.plan_text.specs.Limits.{startsLength}
 use Rattle.plan_text.specs.Reading.{Entry}
 use Rattle.plan_text.specs.Stored.{countTo, startsOf, columnsOf, valuesOf, RowsWithin}
@@ -35,11 +35,6 @@ filled-last n l x y =
   where
     rest : List ℕ
     rest = replicate (n - length (l ++ (y ∷ []))) 0
-
-tabulate-more : (n : ℕ) (f : ℕ → ℕ) → tabulate (suc n) f ≡ tabulate n f ++ (f n ∷ [])
-unfolding tabulate
-tabulate-more zero f = refl
-tabulate-more (suc n) f = ap (λ (l : List ℕ). f 0 ∷ l) (tabulate-more n (λ i. f (suc i)))
 
 -- ---- columns and values
 map-more : (f : Entry → ℕ) (es : List Entry) (t : Entry) → map f (es ++ (t ∷ [])) ≡ map f es ++ (f t ∷ [])

@@ -1,13 +1,26 @@
--- The lists after one triple more: a value of 0 changes only the row that is reached.
-use mathlib.Core.Path.{_≡_, sym, ap, _∙_, subst}
+-- The lists before the first triple, and after one more: a value of 0 changes only the row that is reached.
+use mathlib.Core.Path.{_≡_, refl, sym, ap, _∙_, subst}
 use mathlib.Core.List.{List, [], _∷_, _++_}
 use Prim.Native.Nat.{ℕ, _+_, _-_, _≤_, _<_}
 use native.Mathlib.Omega.{arith}
-use lib.ListN.{set, length-append}
+use lib.ListN.{length, set, length-append}
 use borrow.Author.Tests.{eq-eqb, ne-eqb}
 use Rattle.plan_text.specs.Reading.{Entry, kept}
 use Rattle.plan_text.specs.Stored.{startsOf, RowsWithin, EntriesStored}
-use Rattle.plan_text.proofs.StoredForm.{rows-wider, rows-more, starts-more, columns-more, values-more}
+use Rattle.plan_text.specs.Call.{Cleared}
+use Rattle.plan_text.proofs.StoredForm.{starts-none, columns-none, values-none, rows-wider, rows-more, starts-more, columns-more, values-more}
+
+-- lists that are all zero hold nothing
+pub cleared-stores-none : (st co va : List ℕ) → Cleared st co va → EntriesStored 0 (length co) [] 0 st co va
+unfolding RowsWithin
+cleared-stores-none st co va h =
+    record {
+      rows = tt;
+      number = refl;
+      starts-are = h .starts-zero ∙ sym starts-none;
+      columns-are = h .columns-zero ∙ sym (columns-none (length co));
+      values-are = h .values-zero ∙ sym (values-none (length co));
+    }
 
 pub kept-zero : (t : Entry) (seen : List Entry) → t .value ≡ 0 → kept (t ∷ seen) ≡ kept seen
 unfolding kept

@@ -2,18 +2,20 @@
 --   ReadAnswer          what a call returns and leaves in the lent lists
 --   refusalOf c d       what a refusal returns: its number and detail, and 0 for all else
 --   refuses c d ..      the answer that is a refusal: all lists cleared
---   answerOf room o     the answer for a text that is read as o
+--   answerBy stored room o   the answer for a text that is read as o, where `stored` says what is stored of the triples
+--   answerOf room o     what is stored is `placed`, sorted; answerRisingOf: what was stored while triples had to rise
 --   callOf text a b c   the answer for lists of the lengths a, b and c: 9 where one is wrong
 --   Gives x r ..        the result and the lists are what the answer x says
 --   Cleared             the lists have their lengths and are all zero
 --   Limits              the place and number of a line of a text that is not too long, and sizes within their limits
---   Begins, Shows       what reading the triples starts from, and what it returns and leaves
+--   Begins, Shows       what reading triples that rise starts from, and what it returns and leaves
+--   StoresAll, Settles  the entries that the lists hold in the end, and what reading triples in any order returns and leaves
 --   Second              what reading the second line starts from
 --   afterOpen, Bounded  what the first two lines lead to, and the limits that sizes which were read keep
 use Prim.Native.Nat.{ℕ, _+_, _≤_}
 use mathlib.Core.Path.{_≡_}
 use mathlib.Core.List.{List, []}
-use mathlib.Core.Bool.{true, cond, _&&_}
+use mathlib.Core.Bool.{Bool, true, cond, _&&_}
 use lib.Dec.{eqb}
 use lib.ListN.{length, drop}
 use Rattle.lists.specs.Table.{wrongLength}
@@ -23,7 +25,8 @@ use Rattle.fields.specs.Pieces.{pieces}
 use Rattle.line_reader.specs.declared.Place.{Place}
 use Rattle.call_tests.specs.Limits.{largestSize}
 use Rattle.plan_text.specs.Limits.{largestText, startsLength}
-use Rattle.plan_text.specs.Reading.{Entry, kept, ReadResult, refused, accepted, lastRow, triples, readOf}
+use Rattle.plan_text.specs.Reading.{Entry, kept, placed, ReadResult, refused, accepted, triples, readOf}
+use Rattle.plan_text.specs.Rising.{lastRow}
 use Rattle.plan_text.specs.Stored.{startsOf, columnsOf, valuesOf, EntriesStored}
 use Rattle.plan_text.specs.declared.Reading.{Reading}
 use Rattle.plan_text.specs.declared.judge.Sizes.{Sizes}
@@ -44,16 +47,23 @@ refusalOf c d = record { number = c; detail = d; p = 0; n = 0; m = 0; count = 0 
 abbrev pub refuses : ℕ → ℕ → ℕ → ℕ → ℕ → ReadAnswer
 refuses c d a b k = record { result = refusalOf c d; starts = zeros a; columns = zeros b; values = zeros k }
 
-unfoldable pub answerOf : ℕ → ReadResult → ReadAnswer
-answerOf room (refused c d) = refuses c d startsLength room room
-answerOf room (accepted s seen) =
-    let es : List Entry = kept seen in
+unfoldable pub answerBy : (Sizes → List Entry → List Entry) → ℕ → ReadResult → ReadAnswer
+answerBy stored room (refused c d) = refuses c d startsLength room room
+answerBy stored room (accepted s seen) =
+    let es : List Entry = stored s seen in
     record {
       result = record { number = 0; detail = 0; p = s .modulus .p; n = s .n; m = s .m; count = length es };
       starts = startsOf (s .n) es;
       columns = columnsOf room es;
       values = valuesOf room es;
     }
+
+abbrev pub answerOf : ℕ → ReadResult → ReadAnswer
+answerOf = answerBy placed
+
+-- before triples could stand in any order they were stored as they stood
+abbrev pub answerRisingOf : ℕ → ReadResult → ReadAnswer
+answerRisingOf = answerBy (λ s seen. kept seen)
 
 unfoldable pub callOf : List ℕ → ℕ → ℕ → ℕ → ReadAnswer
 callOf text a b c = cond (eqb a startsLength && eqb b c) (answerOf b (readOf b text)) (refuses wrongLength 0 a b c)
@@ -89,6 +99,15 @@ Shows room (refused c k) r starts columns values = r ≡ Refused c k
 Shows room (accepted s seen) r starts columns values =
     (r ≡ Read (length (kept seen)) (lastRow seen)) × EntriesStored (lastRow seen) room (kept seen) (length (kept seen)) starts columns values × (lastRow seen ≤ s .n)
 
+-- the lists hold the entries es, which stand in the first n rows
+abbrev pub StoresAll : ℕ → ℕ → List Entry → TripleLines → List ℕ → List ℕ → List ℕ → Type 0
+StoresAll n room es (Refused c k) starts columns values = ⊥
+StoresAll n room es (Read count row) starts columns values = EntriesStored row room es count starts columns values × (row ≤ n)
+
+abbrev pub Settles : ℕ → ReadResult → TripleLines → List ℕ → List ℕ → List ℕ → Type 0
+Settles room (refused c k) r starts columns values = r ≡ Refused c k
+Settles room (accepted s seen) r starts columns values = StoresAll (s .n) room (placed s seen) r starts columns values
+
 -- ---- the first two lines
 pub record Second (text : List ℕ) (second : Place) (p : ℕ) : Type 0 where
   pub place : second .at ≤ length text
@@ -97,9 +116,9 @@ pub record Second (text : List ℕ) (second : Place) (p : ℕ) : Type 0 where
   pub short : length text ≤ largestText
   pub modulus : isModulus p ≡ true
 
-abbrev pub afterOpen : ℕ → List ℕ → Opening → ReadResult
-afterOpen room text (NotOpened c d) = refused c d
-afterOpen room text (Opened s third) = triples s room (third .line) [] (pieces 10 (drop (third .at) text))
+abbrev pub afterOpen : (List Entry → ℕ → ℕ → Bool) → ℕ → List ℕ → Opening → ReadResult
+afterOpen rule room text (NotOpened c d) = refused c d
+afterOpen rule room text (Opened s third) = triples rule s room (third .line) [] (pieces 10 (drop (third .at) text))
 
 abbrev pub Bounded : List ℕ → Opening → Type 0
 Bounded text (NotOpened c d) = Unit {0}

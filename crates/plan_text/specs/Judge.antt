@@ -6,13 +6,13 @@
 --   entryIf u i j v       the entry, or 7 where u says that the storage is used up and v is to be stored
 --   within i n            i lies from 1 to n
 --   before a b i j        a and b stand before i and j: by row, then by column
---   mayStand a b l        the line l may stand after the one at a and b
+--   mayStand free l       the line l may stand where it says, as `free` tells of a place
 --   judge f u s l         the verdict on the line l of a plan with the sizes s, where f says whether it may stand here and u
 --                         whether the entry storage is used up: 3, then 4, 5, 6, 7
 use Prim.Native.Nat.{ℕ}
 use mathlib.Core.Bool.{Bool, false, cond, _&&_, _||_, not}
 use lib.Dec.{eqb, ltb, leb}
-use Rattle.lists.specs.Table.{malformed, outsidePlan, outOfOrder, valueOutOfRange, storageTooShort}
+use Rattle.lists.specs.Table.{malformed, outsidePlan, repeatedPlace, valueOutOfRange, storageTooShort}
 use Rattle.fields.specs.Number.{isNegative, magnitude}
 use Rattle.fields.specs.declared.numbers.Signed.{Signed}
 use Rattle.fields.specs.declared.numbers.Signed.the-variants.{Plus, Minus, NotSigned}
@@ -45,9 +45,9 @@ within i n = leb 1 i && leb i n
 abbrev pub before : ℕ → ℕ → ℕ → ℕ → Bool
 before a b i j = ltb a i || (eqb a i && ltb b j)
 
-abbrev pub mayStand : ℕ → ℕ → Line → Bool
-mayStand a b (Triple i j v) = before a b i j
-mayStand a b NotTriple = false
+abbrev pub mayStand : (ℕ → ℕ → Bool) → Line → Bool
+mayStand free (Triple i j v) = free i j
+mayStand free NotTriple = false
 
 -- a value that is stored, one that is not 0, needs room
 abbrev pub entryIf : Bool → ℕ → ℕ → ℕ → Verdict
@@ -62,5 +62,5 @@ judge stands full s (Triple i j v) =
     (cond (inRange v)
     (entryIf full i j (residueAt (s .modulus .p) v))
     (Refused valueOutOfRange))
-    (Refused outOfOrder))
+    (Refused repeatedPlace))
     (Refused outsidePlan))

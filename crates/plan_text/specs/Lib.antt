@@ -1,8 +1,12 @@
 pub mod Limits
 pub mod Line
 pub mod Judge
+pub mod Sight
 pub mod Reading
+pub mod Rising
 pub mod Stored
 pub mod Call
 pub mod Stating
 pub mod Held
+pub mod Collect
+pub mod Needs

@@ -6,10 +6,10 @@
 --   lastLine             `0 0 0`
 --   sizesText s          the line `n m M`
 --   planText s ts        the text of the plan with the sizes s and the triples ts
---   Follows s a b t      t stands in the plan and after the triple at a and b, and its value is in range
---   Rising s a b ts      each of the triples ts follows the one before, the first the one at a and b
 --   entryOf p t          the triple with its value modulo p
 --   entriesOf p ts       the triples with their values modulo p, the latest first
+--   Stands s seen t      t stands in the plan, at a place where none of the triples seen stands, and its value is in range
+--   Apart s seen ts      each of the triples ts stands apart from those before it and from those seen
 --   Plan room s ts       a plan within the limits that lists with room for so many entries can hold
 --   statedAt p ts i j    the residue stated at row i + 1 and column j + 1, 0 where none is
 --   States room s text out   the text states a plan with the sizes s whose entries are `out`
@@ -30,8 +30,8 @@ use Rattle.fields.specs.declared.numbers.Signed.the-variants.{Plus}
 use Rattle.plan_text.specs.declared.judge.Sizes.{Sizes}
 use Rattle.call_tests.specs.Limits.{largestSize}
 use Rattle.plan_text.specs.Limits.{largestText}
-use Rattle.plan_text.specs.Judge.{inRange, within, before}
-use Rattle.plan_text.specs.Reading.{Entry, kept}
+use Rattle.plan_text.specs.Judge.{inRange, within}
+use Rattle.plan_text.specs.Reading.{Entry, kept, fresh}
 
 pub record StatedEntry : Type 0 where
   pub row : ℕ
@@ -60,28 +60,28 @@ unfoldable pub planText : Sizes → List StatedEntry → List ℕ
 planText s ts = joined 10 (more (decimal (s .modulus .p)) (more (sizesText s) (tripleLines ts)))
 
 -- ---- the plan
-pub record Follows (s : Sizes) (a b : ℕ) (t : StatedEntry) : Type 0 where
-  pub row-inside : within (t .row) (s .n) ≡ true
-  pub column-inside : within (t .column) (s .m) ≡ true
-  pub order : before a b (t .row) (t .column) ≡ true
-  pub range : inRange (t .value) ≡ true
-  pub proper : Proper (t .value)
-
-abbrev pub Rising : Sizes → ℕ → ℕ → List StatedEntry → Type 0
-Rising s a b [] = Unit {0}
-Rising s a b (t ∷ ts) = Follows s a b t × Rising s (t .row) (t .column) ts
-
 abbrev pub entryOf : ℕ → StatedEntry → Entry
 entryOf p t = record { row = t .row; column = t .column; value = residueOf p (integerOf (t .value)) }
 
 abbrev pub entriesOf : ℕ → List StatedEntry → List Entry
 entriesOf p ts = reverse (map (entryOf p) ts)
 
+pub record Stands (s : Sizes) (seen : List Entry) (t : StatedEntry) : Type 0 where
+  pub row-inside : within (t .row) (s .n) ≡ true
+  pub column-inside : within (t .column) (s .m) ≡ true
+  pub place : fresh seen (t .row) (t .column) ≡ true
+  pub range : inRange (t .value) ≡ true
+  pub proper : Proper (t .value)
+
+abbrev pub Apart : Sizes → List Entry → List StatedEntry → Type 0
+Apart s seen [] = Unit {0}
+Apart s seen (t ∷ ts) = Stands s seen t × Apart s (entryOf (s .modulus .p) t ∷ seen) ts
+
 pub record Plan (room : ℕ) (s : Sizes) (ts : List StatedEntry) : Type 0 where
   pub modulus : isModulus (s .modulus .p) ≡ true
   pub rows : s .n ≤ largestSize
   pub columns : s .m ≤ largestSize
-  pub rising : Rising s 0 0 ts
+  pub apart : Apart s [] ts
   pub fits : length (kept (entriesOf (s .modulus .p) ts)) ≤ room
   pub short : length (planText s ts) ≤ largestText
 

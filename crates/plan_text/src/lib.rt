@@ -1,16 +1,23 @@
 // Reads a plan text (document 01, "Plan text") into lent lists.
 ghost use mathlib.Core.Path.{_≡_};
-ghost use lib.ListN.{length};
-ghost use Rattle.plan_text.specs.Reading.{readOf};
-ghost use Rattle.plan_text.specs.Call.{answerOf, callOf, refusalOf, Gives, Cleared};
+ghost use mathlib.Core.List.{[]};
+ghost use lib.ListN.{length, drop};
+ghost use Rattle.fields.specs.Pieces.{pieces};
+ghost use Rattle.plan_text.specs.Reading.{fresh, triples, readOf};
+ghost use Rattle.plan_text.specs.Call.{answerOf, callOf, refusalOf, Gives, Cleared, Begins, Settles};
+use judge::Sizes;
+use line_reader::Place;
 use opening::Opening;
 use triples::TripleLines;
 
+pub mod collecting;
 pub mod filling;
 pub mod header;
 pub mod judge;
 pub mod line;
 pub mod opening;
+pub mod sight;
+pub mod sorting;
 pub mod triples;
 
 // How many row starts a caller lends.
@@ -39,6 +46,33 @@ fn refusal(number: u32, detail: u32) -> Reading
     }
 }
 
+// The lines from the third one on, into lists that are all zero. Most texts list their triples by row and column and are read as they stand; only where
+// a triple does not come after the one before are the lines read once more and sorted.
+fn read_lines(
+    text: &[u8],
+    third: Place,
+    s: Sizes,
+    starts: &mut [u32],
+    columns: &mut [u32],
+    values: &mut [u32],
+) -> TripleLines
+    requires { ⌜ Begins (now text) third s (now starts) (now columns) (now values) ⌝ }
+    ensures { λ r. ⌜ Settles (length (now (columns .entry))) (triples fresh s (length (now (columns .entry))) (third .line) [] (pieces 10 (drop (third .at) (now (text .entry))))) r (now (starts .exit)) (now (columns .exit)) (now (values .exit)) ⌝ }
+{
+    match triples::read_triples(text, third, s, starts, columns, values) {
+        TripleLines::Read { count, row } => TripleLines::Read { count, row },
+        TripleLines::Refused { number, line } => {
+            if number != 5 {
+                return TripleLines::Refused { number, line };
+            }
+            lists::clear(starts);
+            lists::clear(columns);
+            lists::clear(values);
+            sorting::read_any_order(text, third, s, starts, columns, values)
+        }
+    }
+}
+
 // Reads into lists of the right lengths that are all zero.
 fn fill(text: &[u8], starts: &mut [u32], columns: &mut [u32], values: &mut [u32]) -> Reading
     requires { ⌜ Cleared (now starts) (now columns) (now values) ⌝ }
@@ -46,14 +80,7 @@ fn fill(text: &[u8], starts: &mut [u32], columns: &mut [u32], values: &mut [u32]
 {
     match opening::open(text) {
         Opening::Refused { number, detail } => refusal(number, detail),
-        Opening::Opened { s, third } => match triples::read_triples(
-            text,
-            third,
-            s,
-            starts,
-            columns,
-            values,
-        ) {
+        Opening::Opened { s, third } => match read_lines(text, third, s, starts, columns, values) {
             TripleLines::Refused { number, line } => {
                 lists::clear(starts);
                 lists::clear(columns);
@@ -77,7 +104,7 @@ fn fill(text: &[u8], starts: &mut [u32], columns: &mut [u32], values: &mut [u32]
     }
 }
 
-// Takes: a plan text; 2,049 row starts, and columns and values of one length, all lent.
+// Takes: a plan text, its triples in any order; 2,049 row starts, and columns and values of one length, all lent.
 // Gives: the modulus, the sizes and the number of entries, and the plan in the lent lists, zero past its end.
 // Refuses with: 9 for a wrong length; 2 for a longer text; then the first line at fault: 3, then 1, 2, or 4, 5, 6, 7.
 // Leaves: after a refusal every number 0 and every lent list all zero. The text never changes.

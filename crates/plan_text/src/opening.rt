@@ -1,10 +1,12 @@
 // The first two lines: the modulus and the sizes.
 ghost use mathlib.Core.Path.{_≡_};
+ghost use mathlib.Core.Bool.{Bool};
+ghost use mathlib.Core.List.{List};
 ghost use Prim.Native.Nat.{ℕ};
 ghost use lib.ListN.{drop};
 ghost use Rattle.fields.specs.Pieces.{pieces};
 ghost use Rattle.residue.specs.Range.{isModulus};
-ghost use Rattle.plan_text.specs.Reading.{fromSecond, readOf};
+ghost use Rattle.plan_text.specs.Reading.{Entry, fromSecond, readBy};
 ghost use Rattle.plan_text.specs.Call.{afterOpen, Bounded, Second};
 use crate::header::Header;
 use crate::judge::Sizes;
@@ -35,7 +37,7 @@ fn accepts(p: u64) -> bool
 // The second line, whose place and number are given.
 fn open_second(text: &[u8], second: Place, modulus: Modulus) -> Opening
     requires { ⌜ Second (now text) second (modulus .p) ⌝ }
-    ensures { λ r. ⌜ ((room : ℕ) → fromSecond (modulus .p) room (pieces 10 (drop (second .at) (now (text .entry)))) ≡ afterOpen room (now (text .entry)) r) × Bounded (now (text .entry)) r ⌝ }
+    ensures { λ r. ⌜ ((rule : List Entry → ℕ → ℕ → Bool) (room : ℕ) → fromSecond rule (modulus .p) room (pieces 10 (drop (second .at) (now (text .entry)))) ≡ afterOpen rule room (now (text .entry)) r) × Bounded (now (text .entry)) r ⌝ }
 {
     let detail = second.line;
     let l = line_reader::line_from(text, second.at, second.line);
@@ -72,7 +74,7 @@ fn open_second(text: &[u8], second: Place, modulus: Modulus) -> Opening
 
 // The first two lines.
 pub fn open(text: &[u8]) -> Opening
-    ensures { λ r. ⌜ ((room : ℕ) → readOf room (now (text .entry)) ≡ afterOpen room (now (text .entry)) r) × Bounded (now (text .entry)) r ⌝ }
+    ensures { λ r. ⌜ ((rule : List Entry → ℕ → ℕ → Bool) (room : ℕ) → readBy rule room (now (text .entry)) ≡ afterOpen rule room (now (text .entry)) r) × Bounded (now (text .entry)) r ⌝ }
 {
     if LARGEST_TEXT < text.len() {
         return Opening::Refused {

@@ -1,8 +1,9 @@
-// The lines from the third one on.
+// The lines from the third one on, as they stand if their triples rise.
 ghost use mathlib.Core.List.{[]};
 ghost use lib.ListN.{length, drop};
 ghost use Rattle.fields.specs.Pieces.{pieces};
 ghost use Rattle.plan_text.specs.Reading.{triples};
+ghost use Rattle.plan_text.specs.Rising.{rises};
 ghost use Rattle.plan_text.specs.Call.{Begins, Shows};
 use crate::judge::Sizes;
 use crate::judge::Verdict;
@@ -14,7 +15,7 @@ pub enum TripleLines {
     Read { count: u32, row: u64 },
 }
 
-// Reads the lines from the one at `from` on.
+// Reads the lines from the one at `from` on, whose triples have to rise: 5 where one does not.
 pub fn read_triples(
     text: &[u8],
     from: Place,
@@ -24,7 +25,7 @@ pub fn read_triples(
     values: &mut [u32],
 ) -> TripleLines
     requires { ⌜ Begins (now text) from s (now starts) (now columns) (now values) ⌝ }
-    ensures { λ r. ⌜ Shows (length (now (columns .entry))) (triples s (length (now (columns .entry))) (from .line) [] (pieces 10 (drop (from .at) (now (text .entry))))) r (now (starts .exit)) (now (columns .exit)) (now (values .exit)) ⌝ }
+    ensures { λ r. ⌜ Shows (length (now (columns .entry))) (triples rises s (length (now (columns .entry))) (from .line) [] (pieces 10 (drop (from .at) (now (text .entry))))) r (now (starts .exit)) (now (columns .exit)) (now (values .exit)) ⌝ }
 {
     let room = columns.len();
     let mut here = from;

@@ -63,3 +63,14 @@ pub fn fill(text: &mut [u8]) {
     }
     put_all(text, 65530, b"0 0 0\n");
 }
+
+// The first and the last of the lines `i j 1` change places.
+pub fn exchange_ends(text: &mut [u8]) {
+    put_line(text, 22, 5458);
+    put_line(text, 65518, 0);
+}
+
+// The line that stands first once they are exchanged stands last too.
+pub fn repeat_end(text: &mut [u8]) {
+    put_line(text, 65518, 5458);
+}

@@ -1,4 +1,4 @@
-// The cases of document 01 that concern reading, one line each: the name; the number and its detail; p, n, m and the
+// The cases of document 01 that concern reading, and triples in any order, one line each: the name; the number and its detail; p, n, m and the
 // number of entries; and how many cells of the starts, the columns and the values are not 0. Lent lists hold 9s before.
 ghost use Prim.Native.Nat.{_≤_};
 ghost use lib.ListN.{length};
@@ -128,8 +128,52 @@ fn judged() {
     plain_case(b"1 0 0|7\n2 2 M\n1 1 1\n1 0 0\n");
     plain_case(b"repeated|7\n2 2 M\n1 1 1\n1 1 2147483648\n2 2 1\n0 0 0\n");
     plain_case(b"repeated after 0|7\n2 2 M\n1 1 7\n1 1 1\n2 2 1\n0 0 0\n");
-    plain_case(b"row falls|7\n2 2 M\n2 1 1\n1 2 1\n2 2 1\n0 0 0\n");
     plain_case(b"v too large|7\n2 2 M\n1 1 1\n1 2 2147483648\n2 2 1\n0 0 0\n");
+}
+
+// Triples in any order give the plan that they give when they rise.
+fn any_order() {
+    cells_case(b"row falls|7\n2 2 M\n2 1 1\n1 2 2\n2 2 3\n0 0 0\n");
+    cells_case(b"column falls|7\n2 2 M\n1 2 1\n1 1 2\n2 2 3\n0 0 0\n");
+    cells_case(b"row falls after 0|7\n2 2 M\n2 1 7\n1 2 2\n2 2 3\n0 0 0\n");
+    cells_case(
+        b"plan D reversed|7\n5 5 M\n5 5 3\n4 3 5\n4 2 1\n3 4 1\n3 3 2\n3 2 3\n3 1 4\n2 4 1\n2 2 3\n1 3 1\n1 1 2\n0 0 0\n",
+    );
+    cells_case(
+        b"plan D by column|7\n5 5 M\n1 1 2\n3 1 4\n2 2 3\n3 2 3\n4 2 1\n1 3 1\n3 3 2\n4 3 5\n2 4 1\n3 4 1\n5 5 3\n0 0 0\n",
+    );
+}
+
+// Line 6 of each text has the place of line 3: 5, before 6 and 7.
+fn repeated() {
+    plain_case(b"repeated far apart|7\n2 2 M\n1 1 1\n1 2 1\n2 2 1\n1 1 1\n0 0 0\n");
+    plain_case(b"repeated, row falls|7\n2 2 M\n2 1 1\n1 2 1\n1 1 1\n2 1 1\n0 0 0\n");
+    plain_case(b"repeated, 0 first|7\n2 2 M\n2 1 7\n1 2 1\n1 1 1\n2 1 1\n0 0 0\n");
+    plain_case(b"repeated, 0 second|7\n2 2 M\n2 1 1\n1 2 1\n1 1 1\n2 1 7\n0 0 0\n");
+    plain_case(b"repeated, v too large|7\n2 2 M\n2 1 1\n1 2 1\n1 1 1\n2 1 2147483648\n0 0 0\n");
+    plain_case(b"repeated, 3 after 5|7\n2 2 M\n2 1 1\n1 2 1\n1 1 1\n2 1 1\nx\n");
+    plain_case(b"two repeated|7\n2 2 M\n2 2 1\n1 1 1\n1 2 1\n2 2 1\n1 1 1\n0 0 0\n");
+    room_case(
+        b"repeated, room 3|7\n2 2 M\n2 1 1\n1 2 1\n1 1 1\n2 1 1\n0 0 0\n",
+        3,
+    );
+}
+
+// Lines are judged as they stand, also where a row falls: line 4 or 5 of each text is at fault.
+fn judged_as_they_stand() {
+    plain_case(b"row falls, no triple|7\n2 2 M\n2 1 1\n1 2\n2 1 1\n0 0 0\n");
+    plain_case(b"row falls, j too large|7\n2 2 M\n2 1 1\n1 3 1\n2 1 1\n0 0 0\n");
+    plain_case(b"row falls, v too large|7\n2 2 M\n2 1 1\n1 2 2147483648\n2 1 1\n0 0 0\n");
+    room_case(
+        b"row falls, room 1|7\n2 2 M\n2 1 1\n1 2 1\n2 1 1\n0 0 0\n",
+        1,
+    );
+    room_case(
+        b"row falls, room 1, a value 0|7\n2 2 M\n2 1 1\n1 2 7\n1 1 1\n0 0 0\n",
+        1,
+    );
+    plain_case(b"row falls, no last line|7\n2 2 M\n2 1 1\n1 2 1\n");
+    plain_case(b"row falls, no last line feed|7\n2 2 M\n2 1 1\n1 2 1\n0 0 0");
 }
 
 fn room() {
@@ -191,15 +235,29 @@ fn long_texts() {
     long_case(b"65537 bytes", &text, 65537);
 }
 
+// The same text with two lines exchanged, and then with one of them twice, far apart.
+fn long_any_order() {
+    let mut text = [10u8; 65537];
+    long::fill(&mut text);
+    long::exchange_ends(&mut text);
+    long_case(b"65536 bytes, ends exchanged", &text, 65536);
+    long::repeat_end(&mut text);
+    long_case(b"65536 bytes, an end repeated", &text, 65536);
+}
+
 fn main() {
     moduli();
     sizes();
     values();
     malformed();
     judged();
+    any_order();
+    repeated();
+    judged_as_they_stand();
     room();
     ends();
     lengths();
     plan_d();
     long_texts();
+    long_any_order();
 }

@@ -4,10 +4,12 @@ use mathlib.Core.List.{List}
 use Prim.Native.Nat.{ℕ, _≤_}
 use native.Mathlib.Omega.{arith}
 use lib.ListN.{length}
-use Rattle.plan_text.specs.Reading.{Entry, ReadResult, refused, accepted, kept, readOf}
-use Rattle.plan_text.specs.Call.{ReadAnswer, answerOf, callOf, Gives}
+use Rattle.plan_text.specs.Reading.{Entry, ReadResult, refused, accepted, placed, readOf}
+use Rattle.plan_text.specs.Call.{ReadAnswer, answerBy, answerOf, callOf, Gives}
+use Rattle.plan_text.specs.Stating.{entriesOf}
 use Rattle.plan_text.specs.declared.Reading.{Reading}
 use Rattle.plan_text.proofs.Accepted.{accepted-states}
+use Rattle.plan_text.proofs.Scattered.{plan-scattered, placed-length}
 use Rattle.sparse.specs.Matrix.{Compressed}
 use Rattle.call_tests.specs.Limits.{largestSize, largestEntries}
 use Rattle.stages.specs.Stages.{reading}
@@ -21,14 +23,15 @@ pub record Small (r : Reading) : Type 0 where
   pub entries : r .count ≤ largestEntries
 
 read-small : (text : List ℕ) (o : ReadResult) → readOf largestEntries text ≡ o → Small (answerOf largestEntries o .result)
-unfolding answerOf
+unfolding answerBy
 read-small text (refused c d) e = record { rows = omega arith; columns = omega arith; entries = omega arith }
 read-small text (accepted s seen) e =
     let h = accepted-states largestEntries s text seen e in
+    let stored = placed-length s (entriesOf (s .modulus .p) (h .stated)) (plan-scattered largestEntries s (h .stated) (h .plan)) in
     record {
       rows = h .plan .rows;
       columns = h .plan .columns;
-      entries = subst (λ (es : List Entry). length (kept es) ≤ largestEntries) (sym (h .entries-are)) (h .plan .fits);
+      entries = subst (λ (es : List Entry). length (placed s es) ≤ largestEntries) (sym (h .entries-are)) (omega (arith, stored, h .plan .fits));
     }
 
 reading-small : (text : List ℕ) → Small (reading text .result)

@@ -2,7 +2,8 @@
 -- plan it states. Every statement speaks of what a call returned and left in the lent lists, through the record that is its contract; everything is shown in the
 -- crate that it is about. For each call: `-exactly`, 0 is returned exactly if ..; `-by`, the numbers by which it refuses; `-cleared`, what a refusal leaves.
 --   read                                  a text read into lent lists; `stored-as-stated`, `read-each-triple`: it is stored as exactly the plan it states;
---                                         `read-accepted`: which every later call takes
+--                                         `read-accepted`: which every later call takes; `order-does-not-matter`: texts that state the same triples, in any
+--                                         order, leave the same; `rising-as-before`: what was accepted while triples had to rise is read and stored as it was
 --   factor                                a stored plan factored; `factor-seven`, `factor-row`: storage that is outgrown
 --   check-stored, check-bytes             stored factors, and a certificate, checked against a stored plan
 --   write                                 a certificate written
@@ -16,7 +17,7 @@
 -- What the words mean:
 --   moduli               a modulus is accepted exactly if it is a prime that is not above the largest
 --   accepted-exactly     a text is accepted, as these sizes and entries, exactly if it states that plan: it is the canonical text of a modulus that is
---                        accepted, sizes within the limits, and triples in their order whose values modulo p are the entries
+--                        accepted, sizes within the limits, and triples in any order, no two at one place, whose values modulo p are the entries
 --   entry-limit          a text within its length cannot pass the entry limit
 --   plans                a stored plan passes the tests that every call begins with exactly if it is a good plan and the other lists have their lengths
 use Prim.Native.Nat.{ℕ, _+_, _-_, _*_, _≤_, _<_}
@@ -38,6 +39,7 @@ use Rattle.residue.proofs.Primes.{modulus-prime, modulus-range, prime-modulus}
 use Rattle.sparse.specs.Matrix.{Compressed, matrix}
 use Rattle.sparse.specs.Set.{Set}
 use Rattle.sparse.specs.Row.{Below}
+use Rattle.grouping.specs.Members.{Member}
 use Rattle.elimination.specs.Structural.{structural}
 use Rattle.elimination.specs.Factoring.{schedule, nothing}
 use Rattle.elimination.specs.Overflow.{Overflows}
@@ -45,8 +47,9 @@ use Rattle.plan_text.specs.declared.Reading.{Reading}
 use Rattle.plan_text.specs.declared.judge.Sizes.{Sizes}
 use Rattle.plan_text.specs.Limits.{startsLength}
 use Rattle.plan_text.specs.Reading.{Entry, accepted, kept, readOf}
+use Rattle.plan_text.specs.Rising.{readRisingOf}
 use Rattle.plan_text.specs.Stating.{States, StatedEntry, Plan, planText, integerOf}
-use Rattle.plan_text.specs.Call.{callOf, Gives}
+use Rattle.plan_text.specs.Call.{answerRisingOf, callOf, Gives}
 use Rattle.plan_text.specs.Held.{heldPlan, StatesPlan, HoldsPlan, ReadCleared}
 use Rattle.plan_text.proofs.EntryLimit.{few-entries}
 use Rattle.plan_text.proofs.Done as reads
@@ -103,6 +106,17 @@ module _ (text : List ℕ) (a b c : ℕ) (r : Reading) (starts columns values : 
 
   pub read-cleared : ¬ (r .number ≡ 0) → ReadCleared a b c r starts columns values
   read-cleared = reads.read-cleared text a b c r starts columns values call
+
+  -- `readRisingOf` and `answerRisingOf` are the reading and the answer as they were while triples had to rise, by row and then by column
+  pub rising-as-before : (s : Sizes) (seen : List Entry) → a ≡ startsLength → b ≡ c → readRisingOf b text ≡ accepted s seen
+      → (readOf b text ≡ accepted s seen) × Gives (answerRisingOf b (readRisingOf b text)) r starts columns values
+  rising-as-before = reads.read-rising-as-before text a b c r starts columns values call
+
+-- ts and us are the same triples, in any order
+pub order-does-not-matter : (s : Sizes) (room : ℕ) (ts us : List StatedEntry) → Plan room s ts → Plan room s us → ((t : StatedEntry) → Member t ts ↔ Member t us)
+    → (r : Reading) (starts columns values : List ℕ) → Gives (callOf (planText s ts) startsLength room room) r starts columns values
+    → Gives (callOf (planText s us) startsLength room room) r starts columns values
+order-does-not-matter = reads.read-any-order
 
 -- t is any of the triples that are stated: xs stand before it, ys after it
 pub read-each-triple : (s : Sizes) (room : ℕ) (xs : List StatedEntry) (t : StatedEntry) (ys : List StatedEntry) → Plan room s (xs ++ (t ∷ ys))

@@ -2,6 +2,7 @@
 
     lower_edge, upper_edge   plans whose L or U has an exact number of entries
     text_of_length           a text with an exact number of bytes
+    most_lines               a text of as many lines as any can have
     edge_texts               all of them around each limit
 """
 
@@ -61,9 +62,9 @@ def _stores_nothing(characters):
     return 7 * 10 ** (characters - 1) if characters < 10 else -7 * 10**8
 
 
-def text_of_length(length):
-    """A text of exactly this many bytes whose lines store nothing; the last
-    values have as many characters as are missing."""
+def text_of_length(length, falls=False):
+    """A text of exactly this many bytes whose lines store nothing, rising or
+    falling; the last values have as many characters as are missing."""
     missing = length - len(stated(7, GREATEST_SIZE, GREATEST_SIZE, []))
     triples = []
     for i, j in ((i, j) for i in range(1, GREATEST_SIZE) for j in range(1, GREATEST_SIZE)):
@@ -74,7 +75,14 @@ def text_of_length(length):
         characters = 1 + spare if spare < 10 else 1
         triples.append((i, j, _stores_nothing(characters)))
         missing -= shortest + characters - 1
-    return stated(7, GREATEST_SIZE, GREATEST_SIZE, triples)
+    return stated(7, GREATEST_SIZE, GREATEST_SIZE, triples[::-1] if falls else triples)
+
+
+def most_lines():
+    """A text of the shortest lines there are, so that all but one repeat a
+    place."""
+    opening, line = b"2\n1 1 M\n", b"1 1 1\n"
+    return opening + line * ((GREATEST_TEXT - len(opening)) // len(line))
 
 
 def edge_texts():
@@ -84,6 +92,8 @@ def edge_texts():
         yield plain_text(upper_edge(7, entries))
     for length in (GREATEST_TEXT - 1, GREATEST_TEXT, GREATEST_TEXT + 1):
         yield text_of_length(length)
+        yield text_of_length(length, falls=True)
+    yield most_lines()
     for n in (GREATEST_SIZE, GREATEST_SIZE + 1):
         for m in (0, 1, GREATEST_SIZE, GREATEST_SIZE + 1):
             corner = [(n, m, 1)] if m else []

@@ -1,7 +1,8 @@
 """Plan texts, plain, varied and damaged.
 
     plain_text   the text with each residue as its own value
-    varied_text  the same plan, by other values and with lines that store nothing
+    ORDERS       orders in which triples may stand, by name
+    varied_text  the same plan, by other values, with lines that store nothing and in any order
     damaged_text a text with something changed
     random_question   m numbers, now and then one that is no residue
     question_text     such numbers as text, now and then with something changed
@@ -32,26 +33,58 @@ def stated(p, n, m, triples):
 
 
 def triples_of(plan):
-    """The stored entries in text order, counted from 1."""
+    """The stored entries by row, then by column, counted from 1."""
     return [
         (i + 1, j + 1, v) for i in range(plan.n) for j, v in sorted(row(plan.rows, i).items())
     ]
 
 
-def plain_text(plan):
-    return stated(plan.p, plan.n, plan.m, triples_of(plan))
+def plain_text(plan, triples=None):
+    """By its entries in their order, or by the triples given."""
+    return stated(plan.p, plan.n, plan.m, triples_of(plan) if triples is None else triples)
+
+
+def rising(rng, triples):
+    """By row, then by column: what is read without sorting."""
+    return sorted(triples)
+
+
+def by_column(rng, triples):
+    """By column, then by row, as listeners are surveyed."""
+    return sorted(triples, key=lambda triple: (triple[1], triple[0]))
+
+
+def falling(rng, triples):
+    return sorted(triples, reverse=True)
+
+
+def shuffled(rng, triples):
+    return rng.sample(triples, len(triples))
+
+
+def one_moved(rng, triples):
+    """Rising but for one triple, early or late."""
+    moved = sorted(triples)
+    if moved:
+        moved.insert(rng.randrange(len(moved)), moved.pop(rng.randrange(len(moved))))
+    return moved
+
+
+ORDERS = {order.__name__: order for order in (rising, by_column, falling, shuffled, one_moved)}
 
 
 def varied_text(rng, plan):
     """Values moved by multiples of p, negatives too, and cells stated as 0
-    modulo p; the plain text where that would pass the limit of length."""
+    modulo p; the entries as they are where that would pass the limit of
+    length. In half of the texts the triples rise."""
     cells = {(i, j): _other_value(rng, plan.p, v) for i, j, v in triples_of(plan)}
     if plan.n and plan.m:
         for _ in range(rng.randint(0, 3)):
             place = (rng.randint(1, plan.n), rng.randint(1, plan.m))
             cells.setdefault(place, _other_value(rng, plan.p, 0))
-    text = stated(plan.p, plan.n, plan.m, [(i, j, v) for (i, j), v in sorted(cells.items())])
-    return text if len(text) <= GREATEST_TEXT else plain_text(plan)
+    order = rng.choice((rising, rising, rising, *ORDERS.values()))
+    text = plain_text(plan, order(rng, [(i, j, v) for (i, j), v in cells.items()]))
+    return text if len(text) <= GREATEST_TEXT else plain_text(plan, order(rng, triples_of(plan)))
 
 
 def _other_value(rng, p, v):
@@ -118,6 +151,17 @@ def _repeat_line(rng, lines):
 
 
 @_with_lines
+def _repeat_place(rng, lines):
+    """The place of a triple on another line too, near or far, before it or
+    after it, by a value that may be 0 modulo p or out of its range."""
+    triples = range(min(2, len(lines) - 1), len(lines))
+    place = lines[rng.choice(triples)].split(b" ")[:2]
+    value = rng.choice((b"1", b"0", lines[0], b"%d" % (GREATEST_VALUE + 1)))
+    at = rng.choice(triples)
+    return [*lines[:at], b" ".join([*place, value]), *lines[at:]]
+
+
+@_with_lines
 def _drop_line(rng, lines):
     place = rng.randrange(len(lines))
     return lines[:place] + lines[place + 1 :]
@@ -140,7 +184,7 @@ def _odd_field(rng, lines):
 
 @_with_lines
 def _nearby_field(rng, lines):
-    """A number moved a little: places just outside the plan, order broken."""
+    """A number moved a little: places just outside the plan or stated twice."""
     place = rng.randrange(len(lines))
     fields = lines[place].split(b" ")
     which = rng.randrange(len(fields))
@@ -173,8 +217,8 @@ def _odd_value(rng, lines):
 
 DAMAGES = (
     _change_byte, _change_digit, _insert_byte, _delete_byte, _truncate, _drop_last_feed, _append,
-    _swap_lines, _repeat_line, _drop_line, _insert_line, _odd_field, _odd_field, _nearby_field,
-    _nearby_field, _odd_modulus, _odd_sizes, _odd_value, _odd_value,
+    _swap_lines, _repeat_line, _repeat_place, _repeat_place, _drop_line, _insert_line, _odd_field,
+    _odd_field, _nearby_field, _nearby_field, _odd_modulus, _odd_sizes, _odd_value, _odd_value,
 )
 
 

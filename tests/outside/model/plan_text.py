@@ -1,4 +1,5 @@
-"""Reading a plan text (scope, "Plan text"; order of refusals, "What the library returns").
+"""Reading a plan text (scope, "Plan text"; order of refusals, "What the library returns"; triples
+in any order, slip 2 of the change requests).
 
     read_plan    the stored plan that a text states, or the first refusal
 """
@@ -16,8 +17,8 @@ from .refusals import (
     LIMIT,
     MALFORMED,
     NOT_PRIME,
-    ORDER,
     OUTSIDE,
+    REPEATED,
     ROOM,
     VALUE_RANGE,
     Refusal,
@@ -79,10 +80,12 @@ def _sizes(lines):
 
 
 def _triples(lines, p, n, m, room):
-    """The rows stated from the third line to the last: in a line 3, 4, 5, 6, 7."""
+    """The rows stated from the third line to the last, whose triples stand in
+    any order: in a line 3, 4, 5, 6, 7. A place stays taken where nothing was
+    stored."""
     cells = [{} for _ in range(n)]
+    taken = set()
     stored = 0
-    before = (0, 0)
     number = 3
     while number > len(lines) or lines[number - 1] != LAST_LINE:
         fields = _fields(lines, number, TRIPLE_LINE)
@@ -91,8 +94,8 @@ def _triples(lines, p, n, m, room):
         i, j, v = fields
         if not (1 <= i <= n and 1 <= j <= m):
             return Refusal(OUTSIDE, number)
-        if (i, j) <= before:
-            return Refusal(ORDER, number)
+        if (i, j) in taken:
+            return Refusal(REPEATED, number)
         if not LEAST_VALUE <= v <= GREATEST_VALUE:
             return Refusal(VALUE_RANGE, number)
         if v % p != 0:
@@ -100,6 +103,6 @@ def _triples(lines, p, n, m, room):
                 return Refusal(ROOM, number)
             cells[i - 1][j - 1] = v % p
             stored += 1
-        before = (i, j)
+        taken.add((i, j))
         number += 1
     return cells

@@ -12,9 +12,9 @@ use Rattle.line_reader.specs.declared.Place.{Place}
 use Rattle.plan_text.specs.declared.judge.Sizes.{Sizes}
 use Rattle.plan_text.specs.declared.opening.Opening.{Opening}
 use Rattle.plan_text.specs.Limits.{startsLength}
-use Rattle.plan_text.specs.Reading.{ReadResult, readOf, triples}
-use Rattle.plan_text.specs.Call.{Limits, Bounded, Shows, afterOpen}
-use Rattle.plan_text.proofs.Answers.{gives-refusal, shows-refused, extendable, gives-read}
+use Rattle.plan_text.specs.Reading.{ReadResult, fresh, readOf, triples}
+use Rattle.plan_text.specs.Call.{Limits, Bounded, Settles, afterOpen}
+use Rattle.plan_text.proofs.Answers.{gives-refusal, settles-refused, extendable, gives-read}
 use Rattle.plan_text.proofs.fill.Statement.{statement}
 use Rattle.plan_text.proofs.fill.Tie as tie
 
@@ -23,27 +23,27 @@ limits : (c : tie.After-s) → Limits (now (c .before .before .before .before .b
 limits c = subst (λ (o : Opening). Bounded (now (c .before .before .before .before .before .before .before .args .text)) o) (c .s .given .1) (c .before .before .open .ensures .1)
 
 -- after the triples: the sizes, the room, the place and number of the third line, the lines from there on, and what they come to
-abbrev sizes : tie.After-read-triples → Sizes
+abbrev sizes : tie.After-read-lines → Sizes
 sizes c = c .before .before .before .before .before .s .given .0 .0
 
-abbrev room : tie.After-read-triples → ℕ
+abbrev room : tie.After-read-lines → ℕ
 room c = length (now (c .before .before .before .before .before .before .before .before .before .before .before .before .args .columns))
 
-abbrev third : tie.After-read-triples → Place
+abbrev third : tie.After-read-lines → Place
 third c = c .before .before .before .before .before .s .given .0 .1 .0
 
-abbrev rest : tie.After-read-triples → Pieces
+abbrev rest : tie.After-read-lines → Pieces
 rest c = pieces 10 (drop (third c .at) (now (c .before .before .before .before .before .before .before .before .before .before .before .before .args .text)))
 
-abbrev come-to : tie.After-read-triples → ReadResult
-come-to c = triples (sizes c) (room c) (third c .line) [] (rest c)
+abbrev come-to : tie.After-read-lines → ReadResult
+come-to c = triples fresh (sizes c) (room c) (third c .line) [] (rest c)
 
 -- the whole text is read as they are
-whole : (c : tie.After-read-triples) → readOf (room c) (now (c .before .before .before .before .before .before .before .before .before .before .before .before .args .text)) ≡ come-to c
-whole c = c .before .before .before .before .before .before .before .open .ensures .0 (room c) ∙ ap (afterOpen (room c) (now (c .before .before .before .before .before .before .before .before .before .before .before .before .args .text))) (c .before .before .before .before .before .s .given .1)
+whole : (c : tie.After-read-lines) → readOf (room c) (now (c .before .before .before .before .before .before .before .before .before .before .before .before .args .text)) ≡ come-to c
+whole c = c .before .before .before .before .before .before .before .open .ensures .0 fresh (room c) ∙ ap (afterOpen fresh (room c) (now (c .before .before .before .before .before .before .before .before .before .before .before .before .args .text))) (c .before .before .before .before .before .s .given .1)
 
-shown : (c : tie.After-read-triples) → Shows (room c) (come-to c) (c .read-triples .result) (c .read-triples .last .1 .1 .1 .0) (c .read-triples .last .1 .1 .1 .1 .0) (c .read-triples .last .1 .1 .1 .1 .1 .0)
-shown c = c .read-triples .ensures
+settled : (c : tie.After-read-lines) → Settles (room c) (come-to c) (c .read-lines .result) (c .read-lines .last .1 .1 .1 .0) (c .read-lines .last .1 .1 .1 .1 .0) (c .read-lines .last .1 .1 .1 .1 .1 .0)
+settled c = c .read-lines .ensures
 
 open-requires : tie.Need-open-requires
 open-requires c κs = search needs
@@ -57,8 +57,8 @@ refusal-requires c κs = search needs
 enum-known-s : tie.Need-enum-known-s
 enum-known-s c = search needs
 
-read-triples-requires : tie.Need-read-triples-requires
-read-triples-requires c κs = record { limits = limits (c .before .before .before .before); cleared = c .before .before .before .before .before .before .before .before .before .before .before .pre }
+read-lines-requires : tie.Need-read-lines-requires
+read-lines-requires c κs = record { limits = limits (c .before .before .before .before); cleared = c .before .before .before .before .before .before .before .before .before .before .before .pre }
 
 enum-known-number-2 : tie.Need-enum-known-number-2
 enum-known-number-2 c = search needs
@@ -84,49 +84,49 @@ cast-extend-starts c = search needs
 extend-starts-requires : tie.Need-extend-starts-requires
 extend-starts-requires c κs =
     let t = c .before .before .before .before .before .before .before .before .before .before .before in
-    extendable (sizes t) (room t) (third t .line) (rest t) _ _ _ _ _ _ (c .before .before .before .count .given .1) (limits (t .before .before .before .before .before) .n-limit) (come-to t) refl (shown t)
+    extendable (sizes t) (room t) (third t .line) (rest t) _ _ _ _ _ _ (c .before .before .before .count .given .1) (limits (t .before .before .before .before .before) .n-limit) (come-to t) refl (settled t)
 
 returns : tie.Need-returns
 returns c =
     let s = c .before .before .before .before .before .before .before .before .before in
     let r = length (now (s .args .columns)) in
-    let o = c .before .before .before .before .open .ensures .0 r ∙ ap (afterOpen r (now (s .args .text))) (c .before .before .number .given .1) in
+    let o = c .before .before .before .before .open .ensures .0 fresh r ∙ ap (afterOpen fresh r (now (s .args .text))) (c .before .before .number .given .1) in
     gives-refusal r _ _ _ _ _ _ _ o (c .refusal .ensures) (s .pre .starts-zero) (s .pre .columns-zero) (s .pre .values-zero)
 
 returns-2 : tie.Need-returns-2
 returns-2 c =
     let t = c .before .before .before .before .before .before .before .before .before .before .before .before .before .before .before .before .before .before .before .before .before .before in
     let z = t .before .before .before .before .before .before .before .before .before .before .before .before .pre in
-    let kept = t .read-triples .kept in
-    let o = whole t ∙ shows-refused (room t) (come-to t) _ _ _ _ _ _ (shown t) (c .before .before .before .before .before .before .before .before .before .before .before .before .before .before .number2 .given .1) in
+    let kept = t .read-lines .kept in
+    let o = whole t ∙ settles-refused (room t) (come-to t) _ _ _ _ _ _ (settled t) (c .before .before .before .before .before .before .before .before .before .before .before .before .before .before .number2 .given .1) in
     gives-refusal (room t) _ _ _ _ _ _ _ o (c .refusal2 .ensures)
     (c .before .before .before .before .before .before .before .before .before .before .before .clear .ensures ∙ ap zeros (kept .1 .1 .1 .0 ∙ ap length (z .starts-zero) ∙ length-zeros startsLength))
     (c .before .before .before .before .before .before .before .clear2 .ensures ∙ ap zeros (kept .1 .1 .1 .1 .0))
     (c .before .before .before .clear3 .ensures ∙ ap zeros (kept .1 .1 .1 .1 .1 .0 ∙ ap length (z .values-zero) ∙ length-zeros (room t)))
 
 same-length : tie.Need-same-length
-same-length c = c .before .before .before .before .before .before .before .before .before .before .before .clear .kept .0 ∙ c .before .before .before .before .before .before .before .before .before .before .before .before .before .before .before .before .before .before .before .before .before .before .read-triples .kept .1 .1 .1 .0
+same-length c = c .before .before .before .before .before .before .before .before .before .before .before .clear .kept .0 ∙ c .before .before .before .before .before .before .before .before .before .before .before .before .before .before .before .before .before .before .before .before .before .before .read-lines .kept .1 .1 .1 .0
 
 same-length-2 : tie.Need-same-length-2
-same-length-2 c = c .before .before .before .before .before .before .before .clear2 .kept .0 ∙ c .before .before .before .before .before .before .before .before .before .before .before .before .before .before .before .before .before .before .before .before .before .before .read-triples .kept .1 .1 .1 .1 .0
+same-length-2 c = c .before .before .before .before .before .before .before .clear2 .kept .0 ∙ c .before .before .before .before .before .before .before .before .before .before .before .before .before .before .before .before .before .before .before .before .before .before .read-lines .kept .1 .1 .1 .1 .0
 
 same-length-3 : tie.Need-same-length-3
-same-length-3 c = c .before .before .before .clear3 .kept .0 ∙ c .before .before .before .before .before .before .before .before .before .before .before .before .before .before .before .before .before .before .before .before .before .before .read-triples .kept .1 .1 .1 .1 .1 .0
+same-length-3 c = c .before .before .before .clear3 .kept .0 ∙ c .before .before .before .before .before .before .before .before .before .before .before .before .before .before .before .before .before .before .before .before .before .before .read-lines .kept .1 .1 .1 .1 .1 .0
 
 same-length-4 : tie.Need-same-length-4
-same-length-4 c = c .before .before .extend-starts .kept .0 ∙ c .before .before .before .before .before .before .before .before .before .before .before .before .before .before .read-triples .kept .1 .1 .1 .0
+same-length-4 c = c .before .before .extend-starts .kept .0 ∙ c .before .before .before .before .before .before .before .before .before .before .before .before .before .before .read-lines .kept .1 .1 .1 .0
 
 same-length-5 : tie.Need-same-length-5
-same-length-5 c = c .before .before .before .before .before .before .before .before .before .before .before .before .before .before .read-triples .kept .1 .1 .1 .1 .0
+same-length-5 c = c .before .before .before .before .before .before .before .before .before .before .before .before .before .before .read-lines .kept .1 .1 .1 .1 .0
 
 same-length-6 : tie.Need-same-length-6
-same-length-6 c = c .before .before .before .before .before .before .before .before .before .before .before .before .before .before .read-triples .kept .1 .1 .1 .1 .1 .0
+same-length-6 c = c .before .before .before .before .before .before .before .before .before .before .before .before .before .before .read-lines .kept .1 .1 .1 .1 .1 .0
 
 returns-3 : tie.Need-returns-3
 returns-3 c =
     let t = c .before .before .before .before .before .before .before .before .before .before .before .before .before .before in
     rw (whole t)
-    (gives-read (sizes t) (room t) (third t .line) (rest t) _ _ _ _ _ _ (c .before .before .before .before .before .before .count .given .1) (limits (t .before .before .before .before .before) .n-limit) (come-to t) refl (shown t) _ (c .before .before .extend-starts .ensures))
+    (gives-read (sizes t) (room t) (third t .line) (rest t) _ _ _ _ _ _ (c .before .before .before .before .before .before .count .given .1) (limits (t .before .before .before .before .before) .n-limit) (come-to t) refl (settled t) _ (c .before .before .extend-starts .ensures))
 
 pub fill-spec : {M : Type 1} → statement M
 fill-spec =
@@ -136,7 +136,7 @@ fill-spec =
     enum-known-number
     refusal-requires
     enum-known-s
-    read-triples-requires
+    read-lines-requires
     enum-known-number-2
     clear-requires
     clear-requires-2

@@ -15,7 +15,7 @@ enum-told : tie.Need-enum-told
 enum-told c = search needs
 
 returns : tie.Need-returns
-returns c = c .is-before .ensures ∙ sym (ap (mayStand _ _) (c .before .before .line .given .1))
+returns c = c .is-before .ensures ∙ sym (ap (mayStand _) (c .before .before .line .given .1))
 
 returns-2 : tie.Need-returns-2
 returns-2 c = search needs

@@ -51,7 +51,7 @@ open-second-requires c κs = let t = c .before .before .before .before .before .
 
 returns-3 : tie.Need-returns-3
 returns-3 c = let d = c .before in let t = d .before .before .before .before .before .before in let o = t .before in
-    ((λ room. first-ready (now (o .before .before .before .before .before .args .text)) (o .before .before .before .if1 .left) (o .before .before .line-from .ensures) (t .next-from .result) (ends o) (t .next-from .ensures) (d .before .before .before .before .before .number-of .ensures) (d .before .before .before .p .given .1) (accepted d) room ∙ c .open-second .ensures .0 room), c .open-second .ensures .1)
+    ((λ rule room. first-ready (now (o .before .before .before .before .before .args .text)) (o .before .before .before .if1 .left) (o .before .before .line-from .ensures) (t .next-from .result) (ends o) (t .next-from .ensures) (d .before .before .before .before .before .number-of .ensures) (d .before .before .before .p .given .1) (accepted d) rule room ∙ c .open-second .ensures .0 rule room), c .open-second .ensures .1)
 
 enum-told : tie.Need-enum-told
 enum-told c = search needs

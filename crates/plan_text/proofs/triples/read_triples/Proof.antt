@@ -9,7 +9,8 @@ use Rattle.lists.proofs.Filled.{length-zeros}
 use Rattle.line_reader.specs.Line.{Ends}
 use Rattle.plan_text.specs.Limits.{startsLength}
 use Rattle.plan_text.proofs.Moduli.{modulus-two}
-use Rattle.plan_text.proofs.Progress.{Progress, progress-starts, starts-long, columns-long, values-long, shows-read, no-line, line-end, no-feed, has-feed, next-place, is-refused, is-finished, not-finished, storable, goes-on}
+use Rattle.plan_text.proofs.EachLine.{line-end, has-feed, next-place}
+use Rattle.plan_text.proofs.Progress.{Progress, progress-starts, starts-long, columns-long, values-long, shows-read, no-line, no-feed, is-refused, is-finished, not-finished, storable, goes-on}
 use Rattle.plan_text.proofs.triples.read_triples.Statement.{statement}
 use Rattle.plan_text.proofs.triples.read_triples.Tie as tie
 
@@ -29,7 +30,7 @@ lengths c =
 
 -- the line has a line feed
 ends : (c : tie.Else2 Inv-loop μ-loop) → Ends (now (c .before .before .before .before .before .before .before .before .before .before .args .text)) (c .before .before .before .before .before .loop .here .at) (c .before .before .before .before .before .loop .here .line) (length (now (c .before .before .line-from .result)))
-ends c = has-feed (c .before .before .before .before .before .loop .inv .0) (c .before .before .line-from .ensures) (c .if2 .left)
+ends c = has-feed (c .before .before .before .before .before .loop .inv .0 .limits) (c .before .before .line-from .ensures) (c .if2 .left)
 
 loop-holds : tie.Need-loop-holds Inv-loop μ-loop
 loop-holds c =
@@ -41,7 +42,7 @@ line-from-requires : tie.Need-line-from-requires Inv-loop μ-loop
 line-from-requires c κs = search needs
 
 add-if2 : tie.Need-add-if2 Inv-loop μ-loop
-add-if2 c = let g = c .before .before .before .before .loop .inv .0 in omega (arith, line-end g (c .before .line-from .ensures), g .limits .short)
+add-if2 c = let g = c .before .before .before .before .loop .inv .0 in omega (arith, line-end (g .limits) (c .before .line-from .ensures), g .limits .short)
 
 same-length : tie.Need-same-length Inv-loop μ-loop
 same-length c = lengths (c .before .before .before .before .before) .0
@@ -132,10 +133,9 @@ store-requires c κs =
 
 loop-less : tie.Need-loop-less Inv-loop μ-loop
 loop-less c =
-    let j = c .before .before .before .before .before .before .before .before .before .before .before .before .before in
-    let t = j .before in
+    let t = c .before .before .before .before .before .before .before .before .before .before .before .before .before .before in
     let o = t .before in
-    omega (arith, ends o .feed, next-place (o .before .before .before .before .before .loop .inv .0) (o .before .before .line-from .ensures) (j .judge-after .ensures) (ends o) (t .next-from .result) (t .next-from .ensures))
+    omega (arith, ends o .feed, next-place (o .before .before .before .before .before .loop .inv .0 .limits) (o .before .before .line-from .ensures) (ends o) (t .next-from .result) (t .next-from .ensures))
 
 loop-again : tie.Need-loop-again Inv-loop μ-loop
 loop-again c =

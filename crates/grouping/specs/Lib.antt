@@ -1,0 +1,4 @@
+pub mod Grouping
+pub mod Members
+pub mod Repeats
+pub mod Needs
