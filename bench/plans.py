@@ -85,7 +85,8 @@ def wide_band(rng, p, size):
 
 
 def filling(rng, p, size):
-    """Five entries in each row, anywhere: few structural pivots and much fill."""
+    """Five entries in each row, anywhere: a third of the rows is no structural
+    pivot, and there is much fill."""
     return size, size, [_cells(rng, p, rng.sample(range(size), 5)) for _ in range(size)]
 
 
@@ -129,7 +130,7 @@ TABLE = (
     ("random sparse", random_sparse, (2, 251, 65_521), 2_048),
     ("band", band, (7, 65_521), 2_048),
     ("wide band", wide_band, (7, 65_521), 2_048),
-    ("filling", filling, (7, 65_521), 340),
+    ("filling", filling, (7, 65_521), 280),
     ("wide pads", wide_pads, (7, 65_521), 240),
     ("full tail", full_tail, (7, 65_521), 1_024),
     ("low rank", low_rank, (7, 65_521), 1_024),

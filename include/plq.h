@@ -20,7 +20,7 @@
  *       13  factor storage or shape broken                        0
  *       14  product differs                                       first position, from 0
  *
- * A call needs about 670 KiB of stack, whatever the plan, and no other memory; the library keeps nothing between calls.
+ * A call needs about 710 KiB of stack, whatever the plan, and no other memory; the library keeps nothing between calls.
  *
  * docs/FORMATS.md describes the plan text and the certificate's bytes.
  */

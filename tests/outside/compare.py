@@ -27,10 +27,11 @@ from model.limits import GREATEST_ENTRIES
 from model.plan_text import read_plan
 from model.refusals import Refusal
 from sweeps import buffer_cases
-from worked import EDITED, PLAN_D, QUESTIONS, REFUSALS, REPORTS
+from worked import EARLIER_D, EDITED, FACTORED, PLAN_D, QUESTIONS, REFUSALS, REPORTS
 
 SMALL = 1_500  # cells of a plan up to which its sets are varied at length
 SAMPLE = 24  # bytes or numbers changed in one certificate
+ANY_CERTIFICATE = 300_000  # bytes, enough for the largest that can be made
 
 
 class Difference(NamedTuple):
@@ -110,14 +111,16 @@ def tiny_cases(seed, index, most):
 
 
 def _plan_d_cases():
-    """The scope's questions and edits; then every byte of D's certificate
-    changed in every way that one bit or all bits make."""
+    """The scope's questions and edits, and the certificate that was made before
+    slip 9; then every byte of D's certificate changed in every way that one bit
+    or all bits make."""
     plan = read_plan(PLAN_D, GREATEST_ENTRIES)
     factors = factor(plan, GREATEST_ENTRIES, GREATEST_ENTRIES).factors
     own = write(plan, factors)
     for y, _ in QUESTIONS:
         yield Case("ask", PLAN_D, question=y, origin="plan D")
-    yield Case("check", PLAN_D, certificate=own, origin="plan D")
+    for certificate in (own, write(plan, EARLIER_D)):
+        yield Case("check", PLAN_D, certificate=certificate, origin="plan D")
     for which, place, value, _ in EDITED:
         stored = getattr(factors, which)
         values = stored.values[:place] + (value,) + stored.values[place + 1 :]
@@ -143,10 +146,11 @@ def _large_set_cases():
 
 def fixed_cases(seed):
     """What every run compares, whatever its count."""
-    texts = [text for text, _ in REPORTS + REFUSALS] + list(edge_texts())
+    texts = [text for text, _ in REPORTS + REFUSALS] + [text for text, _, _ in FACTORED]
+    texts += edge_texts()
     for text in texts:
         yield Case("report", text, origin="worked or limit")
-        yield Case("make", text, buffer_length=150_000, origin="worked or limit")
+        yield Case("make", text, buffer_length=ANY_CERTIFICATE, origin="worked or limit")
         yield Case("check", text, certificate=b"", origin="worked or limit")
     yield from _plan_d_cases()
     yield from _large_set_cases()

@@ -10,8 +10,8 @@ tells nothing.
 
 import sys
 
-from model import ask, calls, certificate, check, questions, report
-from model.factors import Factored, Factors, factor, reduce, schedule, structural
+from model import ask, calls, certificate, check, questions, report, structure
+from model.factors import Factored, Factors, factor, reduce, schedule
 from model.plan_text import read_plan
 from model.questions import Answer
 from model.refusals import Refusal
@@ -67,23 +67,44 @@ def structural_pivots_only():
     """The rows without a structural pivot are called dependent."""
 
     def wrong(plan, lower_room, upper_room):
-        kept = structural(plan)
+        kept = structure.structural(plan)
         pivots, upper, lower = [], [], {}
-        for i in schedule(plan):
+        for i, column in schedule(plan):
             coefficients, remainder = reduce(row(plan.rows, i), upper, pivots, plan.p)
-            if i in kept:
-                value = remainder[min(remainder)]
+            if column is not None:
+                value = remainder[column]
                 coefficients[len(pivots)] = value
-                pivots.append(min(remainder))
+                pivots.append(column)
                 inverse = pow(value, -1, plan.p)
                 upper.append({j: v * inverse % plan.p for j, v in remainder.items()})
             lower[i] = coefficients
-        rows = (*kept, *(i for i in range(plan.n) if i not in kept))
+        rows = tuple(i for i, _ in schedule(plan))
         columns = (*pivots, *(j for j in range(plan.m) if j not in pivots))
         factors = Factors(rows, columns, store(lower[i] for i in rows), store(upper), len(pivots))
         return Factored(factors, len(kept))
 
     _spoil_factoring(wrong)
+
+
+def orders_by_column():
+    """The structural pivots come by rising column, as they did before rows were
+    added; a row that is not 0 at an earlier pivot is then reduced."""
+    structure.ordered = lambda rows, pivots: [pivots[column] for column in sorted(pivots)]
+
+
+def sees_cycles_of_two_only():
+    """A choice is held to close a cycle only where one of the pivots to which
+    the row leads at once leads back. Where the order then gets stuck, the rows
+    come by number."""
+    true_ordered = structure.ordered
+
+    def ordered(rows, pivots):
+        try:
+            return true_ordered(rows, pivots)
+        except StopIteration:
+            return sorted(pivots.values())
+
+    structure.reached, structure.ordered = structure.led_to, ordered
 
 
 def no_storage():
@@ -196,6 +217,8 @@ DEFECTS = {
         passes_own_bytes_only,
         compares_stored_entries_only,
         structural_pivots_only,
+        orders_by_column,
+        sees_cycles_of_two_only,
         no_storage,
         storage_one_too_short,
         closed_always,

@@ -38,7 +38,7 @@ def _running_totals(plan, factors):
     """Each row in processing order with the entries of L and of U so far."""
     position = {row: i for i, row in enumerate(factors.R)}
     lower = upper = 0
-    for row in schedule(plan):
+    for row, _ in schedule(plan):
         i = position[row]
         lower += factors.L.starts[i + 1] - factors.L.starts[i]
         if i < factors.r:

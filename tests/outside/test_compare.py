@@ -9,12 +9,19 @@ from itertools import chain, islice
 from pathlib import Path
 
 from cases import Case, expected, keep, load
-from compare import differences, fixed_cases, in_groups, plan_cases, tiny_cases
+from compare import (
+    ANY_CERTIFICATE,
+    differences,
+    fixed_cases,
+    in_groups,
+    plan_cases,
+    tiny_cases,
+)
 from generate.edges import edge_texts
 from model.refusals import REPEATED
 from programs import FILLER, Ask, Calls, Crash, Report, compile_driver
 from standin import DEFECTS
-from worked import PLAN_D, QUESTIONS, REFUSALS
+from worked import FACTORED, PLAN_D, QUESTIONS, REFUSALS
 
 HERE = Path(__file__).parent
 STUB_HEADER = """
@@ -51,6 +58,8 @@ SHOWN_BY = {
     "passes_own_bytes_only": ("calls",),
     "compares_stored_entries_only": ("calls",),
     "structural_pivots_only": ("calls", "report", "ask"),
+    "orders_by_column": ("calls", "report"),
+    "sees_cycles_of_two_only": ("calls", "report"),
     "no_storage": ("calls", "report", "ask"),
     "storage_one_too_short": ("calls", "report"),
     "closed_always": ("report", "ask"),
@@ -67,13 +76,16 @@ SHOWN_BY = {
 
 
 def given_cases():
-    """Plan D, plans at the edge of the rooms, repeated places, and random plans."""
-    yield Case("report", PLAN_D)
+    """Plan D and the other plans whose factors are worked, plans at the edge of
+    the rooms, repeated places, and random plans."""
+    for text, _, _ in FACTORED:
+        yield Case("report", text)
+        yield Case("make", text, buffer_length=400)
     for y, _ in QUESTIONS:
         yield Case("ask", PLAN_D, question=y)
     for text in islice(edge_texts(), 4):
         yield Case("report", text)
-        yield Case("make", text, buffer_length=150_000)
+        yield Case("make", text, buffer_length=ANY_CERTIFICATE)
     for text in (text for text, refusal in REFUSALS if refusal.number == REPEATED):
         yield Case("report", text)
         yield Case("check", text)
@@ -95,6 +107,12 @@ class Notices(unittest.TestCase):
             for program in programs:
                 with self.subTest(defect=defect, program=program):
                     self.assertTrue(any(differences(cases, [standin(program, defect)])))
+
+    def test_small_plans_show_another_order_and_longer_cycles(self):
+        """The worked plans without plan D."""
+        cases = [Case("make", text, buffer_length=400) for text, _, _ in FACTORED[1:]]
+        for defect in ("orders_by_column", "sees_cycles_of_two_only"):
+            self.assertTrue(any(differences(cases, [standin("calls", defect)])), defect)
 
 
 class Reaches(unittest.TestCase):

@@ -5,7 +5,7 @@ from itertools import combinations, product
 
 from generate import edges, texts
 from generate.plans import tiny_plan
-from model import enumeration
+from model import enumeration, structure
 from model.certificate import write
 from model.check import check_certificate, check_factors
 from model.factors import factor
@@ -79,6 +79,77 @@ class Reading(unittest.TestCase):
         self.assertLess(65_536 // len("1 1 1\n"), GREATEST_ENTRIES)
 
 
+class Structure(unittest.TestCase):
+    """The structural pivots against slip 9's sentences. Whether pivots have a
+    cycle is found in another way than the model finds it."""
+
+    def plans(self):
+        for _, plan in small_plans("pivots", 300):
+            yield [row(plan.rows, i) for i in range(plan.n)], structure.structural(plan)
+
+    def has_cycle(self, rows, pivots):
+        """Pivots that lead nowhere are taken away until none is left, or until
+        each leads to another."""
+        left = dict(pivots)
+        while left:
+            ends = [c for c, i in left.items() if not (rows[i].keys() & left.keys()) - {c}]
+            if not ends:
+                return True
+            for column in ends:
+                del left[column]
+        return False
+
+    def test_choice(self):
+        """Every row by number, and of its unused columns the first that closes
+        no cycle."""
+        for rows, found in self.plans():
+            pivots = structure.leading(rows)
+            self.assertFalse(self.has_cycle(rows, pivots))
+            for i in sorted(set(range(len(rows))) - set(pivots.values())):
+                fit = (
+                    column
+                    for column in sorted(rows[i].keys() - pivots.keys())
+                    if not self.has_cycle(rows, {**pivots, column: i})
+                )
+                column = next(fit, None)
+                if column is not None:
+                    pivots[column] = i
+            self.assertEqual({pivot.column: pivot.row for pivot in found}, pivots)
+
+    def test_no_other_could_be_added(self):
+        for rows, found in self.plans():
+            pivots = {pivot.column: pivot.row for pivot in found}
+            for i in set(range(len(rows))) - set(pivots.values()):
+                for column in rows[i].keys() - pivots.keys():
+                    self.assertTrue(self.has_cycle(rows, {**pivots, column: i}))
+
+    def test_order(self):
+        for rows, found in self.plans():
+            for k, pivot in enumerate(found):
+                waiting = found[k:]
+                free = [
+                    other
+                    for other in waiting
+                    if not any(other.column in rows[q.row] for q in waiting if q != other)
+                ]
+                self.assertEqual(pivot.row, min(other.row for other in free))
+
+    def test_the_plans_need_the_rule(self):
+        """Some have pivots that are added, cycles of three and more, and an
+        order that neither the columns nor the rows give."""
+        added = longer = by_neither = 0
+        for rows, found in self.plans():
+            leading = structure.leading(rows)
+            pivots = {pivot.column: pivot.row for pivot in found}
+            added += len(found) > len(leading)
+            for i in set(range(len(rows))) - set(pivots.values()):
+                direct = structure.led_to(rows, i, pivots)
+                for column in rows[i].keys() - pivots.keys():
+                    longer += not any(column in rows[k] for k in direct)
+            by_neither += found != sorted(found) and found != sorted(found, key=lambda q: q.column)
+        self.assertGreater(min(added, longer, by_neither), 10)
+
+
 class Factoring(unittest.TestCase):
     def test_own_set_passes(self):
         for _, plan in plans("own", 200):
@@ -102,8 +173,10 @@ class Factoring(unittest.TestCase):
     def test_structural_rows_keep_their_entries(self):
         for _, plan in small_plans("structural", 100):
             factored = factor(plan, AMPLE, AMPLE)
-            for k in range(factored.structural):
-                self.assertEqual(list(row(factored.factors.L, k)), [k])
+            for k, (i, column) in enumerate(structure.structural(plan)):
+                self.assertEqual((factored.factors.R[k], factored.factors.C[k]), (i, column))
+                self.assertEqual(row(factored.factors.L, k), {k: row(plan.rows, i)[column]})
+                self.assertEqual(row(factored.factors.U, k).keys(), row(plan.rows, i).keys())
 
     def test_stored_plans(self):
         self.assertIsNone(plan_refusal(PLAN))

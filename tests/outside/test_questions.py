@@ -61,7 +61,7 @@ class Questions(unittest.TestCase):
             wanted = Refusal(number, detail)
             self.assertEqual(answer_from_factors(PLAN, FACTORS, y), wanted)
             self.assertEqual(answer_from_certificate(PLAN, certificate, y), wanted)
-        self.assertEqual(answer_from_factors(PLAN, other, (9,) * 5), Refusal(14, 2))
+        self.assertEqual(answer_from_factors(PLAN, other, (9,) * 5), Refusal(14, 1))
         self.assertEqual(answer_from_certificate(PLAN, b"", (9,) * 5), Refusal(10))
 
     def test_stored_factors_and_certificate_answer_alike(self):

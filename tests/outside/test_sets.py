@@ -115,10 +115,10 @@ class Certificates(unittest.TestCase):
     def test_layout_of_plan_d(self):
         certificate = write(PLAN, FACTORS)
         self.assertEqual(certificate[:5], b"PLQ\1\0")
-        numbers = [7, 5, 5, 4, 7, 7, *FACTORS.R, *FACTORS.C]
+        numbers = [7, 5, 5, 4, 6, 7, *FACTORS.R, *FACTORS.C]
         opening = b"".join(number.to_bytes(4, "little") for number in numbers)
         self.assertEqual(certificate[5 : 5 + len(opening)], opening)
-        self.assertEqual(len(certificate), 5 + 4 * (6 + 5 + 5 + 6 + 7 + 7 + 5 + 7 + 7))
+        self.assertEqual(len(certificate), 5 + 4 * (6 + 5 + 5 + 6 + 6 + 6 + 5 + 7 + 7))
 
     def test_what_is_written_reads_back(self):
         for rng, plan in small_plans("read back", 100):

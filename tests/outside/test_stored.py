@@ -24,7 +24,7 @@ ARGUMENT = r'b"[^"]*"|[\w:]+'
 CALL = re.compile(rf'\b(show|room|changed)\(\s*(b"[^"]*"(?:,\s*(?:{ARGUMENT}))*),?\s*\);')
 
 PLAIN_ROOM = 16
-D_ROOM = 7
+D_LOWER, D_UPPER = 6, 7
 WORKING_ROW = 2_048
 # Of reading's lists the program lends the first cells, and these past their ends.
 STARTS_READ = 2_049
@@ -52,14 +52,14 @@ def cases():
             name, *rest = re.findall(ARGUMENT, arguments)
             if name != 'b""':
                 yield literal_eval(name).decode(), CASES[kind](*rest)
-    for lower, upper in product(range(D_ROOM + 2), repeat=2):
+    for lower, upper in product(range(D_LOWER + 2), range(D_UPPER + 2)):
         yield f"D, rooms {lower} {upper}", Case(PLAN_D, lower, upper)
 
 
 CASES = {
     "show": lambda text: Case(literal_eval(text), PLAIN_ROOM, PLAIN_ROOM),
     "room": lambda lower, upper: Case(PLAN_D, int(lower), int(upper)),
-    "changed": lambda of, to: Case(PLAN_D, D_ROOM, D_ROOM, of.removeprefix("change::"), int(to)),
+    "changed": lambda of, to: Case(PLAN_D, D_LOWER, D_UPPER, of.removeprefix("change::"), int(to)),
 }
 
 

@@ -1,6 +1,7 @@
 """The model against the scope's worked cases (scope, "Report and cases")."""
 
 import unittest
+from pathlib import Path
 
 from model.ask import ask
 from model.certificate import write
@@ -11,10 +12,20 @@ from model.plan_text import read_plan
 from model.questions import answer
 from model.refusals import Refusal
 from model.report import refused, report
-from model.storage import store
 from samples import FACTORS, PLAN, factors_of
 from sweeps import AMPLE
-from worked import EDITED, PLAN_D, QUESTIONS, REFUSALS, REPORTS
+from worked import (
+    EARLIER_D,
+    EDITED,
+    FACTORED,
+    PLAN_D,
+    QUESTIONS,
+    REFUSALS,
+    REPORTS,
+    ROOMS,
+)
+
+EXAMPLES = Path(__file__).resolve().parents[2] / "examples"
 
 
 class WorkedCases(unittest.TestCase):
@@ -29,18 +40,23 @@ class WorkedCases(unittest.TestCase):
             self.assertEqual(read_plan(text, AMPLE), refusal, text)
             self.assertEqual(report(text), refused(refusal), text)
 
-    def test_factors_of_plan_d(self):
-        self.assertEqual(FACTORS.R, (0, 1, 4, 3, 2))
-        self.assertEqual(FACTORS.C, (0, 1, 4, 2, 3))
-        upper = [{0: 1, 2: 4}, {1: 1, 3: 5}, {4: 1}, {2: 1, 3: 6}]
-        lower = [{0: 2}, {1: 3}, {2: 3}, {1: 1, 3: 5}, {0: 4, 1: 3}]
-        self.assertEqual(FACTORS.U, store(upper))
-        self.assertEqual(FACTORS.L, store(lower))
-        self.assertEqual(factor(PLAN, 7, 7).structural, 3)
+    def test_factors(self):
+        for text, structural, factors in FACTORED:
+            found = factor(read_plan(text, AMPLE), AMPLE, AMPLE)
+            self.assertEqual(found, (factors, structural), text)
+
+    def test_certificates_of_plan_d(self):
+        """The one that is made now, and the one that was made before slip 9."""
+        for factors, length, name in ((FACTORS, 217, "D"), (EARLIER_D, 225, "D-earlier")):
+            certificate = write(PLAN, factors)
+            self.assertEqual(len(certificate), length)
+            self.assertEqual((EXAMPLES / f"{name}.plq").read_bytes(), certificate)
+            self.assertIsNone(check_certificate(PLAN, certificate))
 
     def test_questions(self):
         for y, output in QUESTIONS:
             self.assertEqual(ask(PLAN_D, y), output)
+            self.assertEqual(answer(PLAN, EARLIER_D, y), answer(PLAN, FACTORS, y))
 
     def test_empty_questions(self):
         none, word = (read_plan(b"7\n0 %d M\n0 0 0\n" % m, 0) for m in (0, 1))
@@ -55,10 +71,8 @@ class WorkedCases(unittest.TestCase):
             self.assertEqual(check_certificate(PLAN, write(PLAN, edited)), refusal)
 
     def test_rooms(self):
-        self.assertEqual(factor(PLAN, 7, 7).factors, FACTORS)
-        self.assertEqual(factor(PLAN, 4, 7), Refusal(7, 2))
-        self.assertEqual(factor(PLAN, 6, 7), Refusal(7, 3))
-        self.assertEqual(factor(PLAN, 7, 6), Refusal(7, 3))
+        for lower, upper, refusal in ROOMS:
+            self.assertEqual(factor(PLAN, lower, upper), refusal or (FACTORS, 4))
 
     def test_moduli(self):
         primes = [p for p in range(GREATEST_MODULUS + 100) if is_modulus(p)]

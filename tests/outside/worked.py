@@ -1,13 +1,19 @@
 """The worked cases of the scope with their results, letter by letter (scope, "Report and cases").
+Those of the structural pivots are worked by slip 9 of the change requests.
 
     PLAN_D        the text of plan D; FALLING_D and BY_COLUMN_D, the same plan in other orders
+    FACTORED      texts with the number of structural pivots and the factors
+    EARLIER_D     plan D's factors as they were made before slip 9: they pass too
     REPORTS       texts with what the report program prints
     REFUSALS      texts with the refusal that the report program prints
     QUESTIONS     questions on plan D with what the question program prints
     EDITED        plan D's set with one number changed, and the refusal
+    ROOMS         rooms for L and U on plan D, and the refusal, or None where they suffice
 """
 
+from model.factors import Factors
 from model.refusals import Refusal
+from model.storage import store
 
 PLAN_D = (
     b"7\n5 5 M\n1 1 2\n1 3 1\n2 2 3\n2 4 1\n3 1 4\n3 2 3\n3 3 2\n3 4 1\n4 2 1\n4 3 5\n5 5 3\n"
@@ -23,8 +29,117 @@ BY_COLUMN_D = (
 )
 REPORT_D = (
     b"modulus 7 slots 5 words 5 entries 11\n"
-    b"rank 4 structural 3 L 7 U 7\n"
+    b"rank 4 structural 4 L 6 U 7\n"
     b"open 5\n"
+)
+
+
+def _set(R, C, L, U):
+    """The factors with these rows of L and U."""
+    return Factors(R, C, store(L), store(U), len(U))
+
+
+FACTORED = (
+    # By leftmost column rows 0, 1 and 4. Row 2 leads to rows 0 and 1, and these
+    # have entries in its other columns, 2 and 3. Row 3 leads to row 1 alone,
+    # which has none in column 2: it is added. Row 0 leads to it, and it to row 1.
+    (
+        PLAN_D,
+        4,
+        _set(
+            R=(0, 3, 1, 4, 2),
+            C=(0, 2, 1, 4, 3),
+            L=[{0: 2}, {1: 5}, {2: 3}, {3: 3}, {0: 4, 2: 3}],
+            U=[{0: 1, 2: 4}, {1: 3, 2: 1}, {1: 1, 3: 5}, {4: 1}],
+        ),
+    ),
+    # Rows 0 | 0 1 2 | 0 1 3: row 0 is the shortest. Row 1 may have column 1 or 2,
+    # and takes 1; so row 2, which comes later, is left with 3. Row 2 leads to
+    # both others and row 1 to row 0.
+    (
+        b"7\n3 4 M\n1 1 1\n2 1 1\n2 2 1\n2 3 1\n3 1 1\n3 2 1\n3 4 1\n0 0 0\n",
+        3,
+        _set(
+            R=(2, 1, 0),
+            C=(3, 1, 0, 2),
+            L=[{0: 1}, {1: 1}, {2: 1}],
+            U=[{0: 1, 1: 1, 3: 1}, {0: 1, 1: 1, 2: 1}, {0: 1}],
+        ),
+    ),
+    # Rows 2 | 1 2 | 0, each alone with its leftmost column: no pivot is added,
+    # and yet they are ordered anew. Row 1 leads to row 0. Rows 1 and 2 are free,
+    # and 1 is lower; then rows 0 and 2 are, and 0 is lower. By column it would be
+    # 2 1 0.
+    (
+        b"7\n3 3 M\n1 3 1\n2 2 1\n2 3 1\n3 1 1\n0 0 0\n",
+        3,
+        _set(
+            R=(1, 0, 2),
+            C=(1, 2, 0),
+            L=[{0: 1}, {1: 1}, {2: 1}],
+            U=[{1: 1, 2: 1}, {2: 1}, {0: 1}],
+        ),
+    ),
+    # Rows 0 1 | 1 2 | 0 2: rows 0 and 1 by leftmost column. In column 2 row 2
+    # would close a cycle of three: it leads to row 0, that to row 1, and row 1 has
+    # an entry in column 2. So it is reduced: less row 0, plus row 1.
+    (
+        b"7\n3 3 M\n1 1 1\n1 2 1\n2 2 1\n2 3 1\n3 1 1\n3 3 1\n0 0 0\n",
+        2,
+        _set(
+            R=(0, 1, 2),
+            C=(0, 1, 2),
+            L=[{0: 1}, {1: 1}, {0: 1, 1: 6, 2: 2}],
+            U=[{0: 1, 1: 1}, {1: 1, 2: 1}, {2: 1}],
+        ),
+    ),
+    # The same with one column more in row 2: column 2 would close a cycle,
+    # column 3 does not. Row 2 leads to row 0, and comes first.
+    (
+        b"7\n3 4 M\n1 1 1\n1 2 1\n2 2 1\n2 3 1\n3 1 1\n3 3 1\n3 4 1\n0 0 0\n",
+        3,
+        _set(
+            R=(2, 0, 1),
+            C=(3, 0, 1, 2),
+            L=[{0: 1}, {1: 1}, {2: 1}],
+            U=[{0: 1, 2: 1, 3: 1}, {0: 1, 1: 1}, {1: 1, 2: 1}],
+        ),
+    ),
+    # Rows 0 | 0 1 2 | 0 1 2: row 1 is added at column 1. In column 2 row 2 would
+    # close a cycle with it. It is reduced: row 1 leaves 1 in column 2.
+    (
+        b"7\n3 3 M\n1 1 1\n2 1 1\n2 2 1\n2 3 1\n3 1 1\n3 2 1\n3 3 2\n0 0 0\n",
+        2,
+        _set(
+            R=(1, 0, 2),
+            C=(1, 0, 2),
+            L=[{0: 1}, {1: 1}, {0: 1, 2: 1}],
+            U=[{0: 1, 1: 1, 2: 1}, {0: 1}, {2: 1}],
+        ),
+    ),
+    # Rows 2 3 4 | 1 2 | 0 1 | 0 3 | 0 4: rows 2, 1 and 0 by leftmost column. Row 2
+    # leads to row 1 and that to row 0, which has entries in columns 3 and 4: there
+    # rows 3 and 4 would close cycles of four. Both are reduced: less row 2, plus
+    # row 1, less row 0. Row 3 then is 0 in column 3 and -1 in column 4; row 4 the
+    # other way about.
+    (
+        b"7\n5 5 M\n1 3 1\n1 4 1\n1 5 1\n2 2 1\n2 3 1\n3 1 1\n3 2 1\n4 1 1\n4 4 1\n5 1 1\n"
+        b"5 5 1\n0 0 0\n",
+        3,
+        _set(
+            R=(2, 1, 0, 3, 4),
+            C=(0, 1, 2, 4, 3),
+            L=[{0: 1}, {1: 1}, {2: 1}, {0: 1, 1: 6, 2: 1, 3: 6}, {0: 1, 1: 6, 2: 1, 4: 6}],
+            U=[{0: 1, 1: 1}, {1: 1, 2: 1}, {2: 1, 3: 1, 4: 1}, {4: 1}, {3: 1}],
+        ),
+    ),
+)
+
+EARLIER_D = _set(
+    R=(0, 1, 4, 3, 2),
+    C=(0, 1, 4, 2, 3),
+    L=[{0: 2}, {1: 3}, {2: 3}, {1: 1, 3: 5}, {0: 4, 1: 3}],
+    U=[{0: 1, 2: 4}, {1: 1, 3: 5}, {4: 1}, {2: 1, 3: 6}],
 )
 
 REPORTS = (
@@ -148,6 +263,12 @@ QUESTIONS = (
 
 # Which factor, the place in its list of values, the new value, the refusal.
 EDITED = (
-    ("L", 4, 4, Refusal(14, 3)),
+    ("L", 3, 4, Refusal(14, 3)),
     ("U", 0, 2, Refusal(13)),
+)
+
+ROOMS = (
+    (6, 7, None),
+    (4, 7, Refusal(7, 2)),
+    (6, 6, Refusal(7, 4)),
 )

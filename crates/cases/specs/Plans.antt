@@ -3,7 +3,8 @@
 --   blank       two rows, no entries
 --   ones        two rows of three ones
 --   D           document 01's plan D, modulo 7
---   setD l u    D's set, with l for L[3][3] and u for U[0][0]: 5 and 1 in the engine's own
+--   setD l u    D's set, with l for L[3][3] and u for U[0][0]: 3 and 1 in the engine's own
+--   earlierD    D's set as document 01 has it, before slip 9
 use Prim.Native.Nat.{ℕ}
 use mathlib.Core.List.{[], _∷_}
 use Rattle.sparse.specs.Matrix.{Compressed, compressed}
@@ -28,7 +29,15 @@ D =
 abbrev pub setD : ℕ → ℕ → Set
 setD l u =
     setOf 4
+    (0 ∷ 3 ∷ 1 ∷ 4 ∷ 2 ∷ [])
+    (0 ∷ 2 ∷ 1 ∷ 4 ∷ 3 ∷ [])
+    (compressed (0 ∷ 1 ∷ 2 ∷ 3 ∷ 4 ∷ 6 ∷ []) (0 ∷ 1 ∷ 2 ∷ 3 ∷ 0 ∷ 2 ∷ []) (2 ∷ 5 ∷ 3 ∷ l ∷ 4 ∷ 3 ∷ []))
+    (compressed (0 ∷ 2 ∷ 4 ∷ 6 ∷ 7 ∷ []) (0 ∷ 2 ∷ 1 ∷ 2 ∷ 1 ∷ 3 ∷ 4 ∷ []) (u ∷ 4 ∷ 3 ∷ 1 ∷ 1 ∷ 5 ∷ 1 ∷ []))
+
+abbrev pub earlierD : Set
+earlierD =
+    setOf 4
     (0 ∷ 1 ∷ 4 ∷ 3 ∷ 2 ∷ [])
     (0 ∷ 1 ∷ 4 ∷ 2 ∷ 3 ∷ [])
-    (compressed (0 ∷ 1 ∷ 2 ∷ 3 ∷ 5 ∷ 7 ∷ []) (0 ∷ 1 ∷ 2 ∷ 1 ∷ 3 ∷ 0 ∷ 1 ∷ []) (2 ∷ 3 ∷ 3 ∷ 1 ∷ l ∷ 4 ∷ 3 ∷ []))
-    (compressed (0 ∷ 2 ∷ 4 ∷ 5 ∷ 7 ∷ []) (0 ∷ 2 ∷ 1 ∷ 3 ∷ 4 ∷ 2 ∷ 3 ∷ []) (u ∷ 4 ∷ 1 ∷ 5 ∷ 1 ∷ 1 ∷ 6 ∷ []))
+    (compressed (0 ∷ 1 ∷ 2 ∷ 3 ∷ 5 ∷ 7 ∷ []) (0 ∷ 1 ∷ 2 ∷ 1 ∷ 3 ∷ 0 ∷ 1 ∷ []) (2 ∷ 3 ∷ 3 ∷ 1 ∷ 5 ∷ 4 ∷ 3 ∷ []))
+    (compressed (0 ∷ 2 ∷ 4 ∷ 5 ∷ 7 ∷ []) (0 ∷ 2 ∷ 1 ∷ 3 ∷ 4 ∷ 2 ∷ 3 ∷ []) (1 ∷ 4 ∷ 1 ∷ 5 ∷ 1 ∷ 1 ∷ 6 ∷ []))

@@ -1,6 +1,6 @@
 -- The certificate of document 01's plan D, computed.
---   D-length      it has 225 bytes: 29 of the header, and 49 numbers of four bytes each
---   D-opening     they open with PLQ, the version, and the header's numbers 7, 5, 5, 4, 7, 7
+--   D-length      it has 217 bytes: 29 of the header, and 47 numbers of four bytes each
+--   D-opening     they open with PLQ, the version, and the header's numbers 7, 5, 5, 4, 6, 7
 --   D-passes      the header test passes for D's p, n and m
 --   D-reads       the set that it holds is the set that was written
 --   D-modulus     another p is refused
@@ -20,19 +20,19 @@ use Rattle.certificate.specs.Reading.{placesOf, field, setIn, setOfCerti
 unfoldable pub D : Set
 D =
     setOf 4
-    (0 ∷ 1 ∷ 4 ∷ 3 ∷ 2 ∷ [])
-    (0 ∷ 1 ∷ 4 ∷ 2 ∷ 3 ∷ [])
-    (compressed (0 ∷ 1 ∷ 2 ∷ 3 ∷ 5 ∷ 7 ∷ []) (0 ∷ 1 ∷ 2 ∷ 1 ∷ 3 ∷ 0 ∷ 1 ∷ []) (2 ∷ 3 ∷ 3 ∷ 1 ∷ 5 ∷ 4 ∷ 3 ∷ []))
-    (compressed (0 ∷ 2 ∷ 4 ∷ 5 ∷ 7 ∷ []) (0 ∷ 2 ∷ 1 ∷ 3 ∷ 4 ∷ 2 ∷ 3 ∷ []) (1 ∷ 4 ∷ 1 ∷ 5 ∷ 1 ∷ 1 ∷ 6 ∷ []))
+    (0 ∷ 3 ∷ 1 ∷ 4 ∷ 2 ∷ [])
+    (0 ∷ 2 ∷ 1 ∷ 4 ∷ 3 ∷ [])
+    (compressed (0 ∷ 1 ∷ 2 ∷ 3 ∷ 4 ∷ 6 ∷ []) (0 ∷ 1 ∷ 2 ∷ 3 ∷ 0 ∷ 2 ∷ []) (2 ∷ 5 ∷ 3 ∷ 3 ∷ 4 ∷ 3 ∷ []))
+    (compressed (0 ∷ 2 ∷ 4 ∷ 6 ∷ 7 ∷ []) (0 ∷ 2 ∷ 1 ∷ 2 ∷ 1 ∷ 3 ∷ 4 ∷ []) (1 ∷ 4 ∷ 3 ∷ 1 ∷ 1 ∷ 5 ∷ 1 ∷ []))
 
 unfoldable pub certificateD : List ℕ
 certificateD = certificateOf 7 5 5 D
 
-pub D-length : length certificateD ≡ 225
+pub D-length : length certificateD ≡ 217
 unfolding certificateD D certificateOf numbersOf factorNumbers bytes mark version
 D-length = refl
 
-pub D-opening : take 29 certificateD ≡ 80 ∷ 76 ∷ 81 ∷ 1 ∷ 0 ∷ 7 ∷ 0 ∷ 0 ∷ 0 ∷ 5 ∷ 0 ∷ 0 ∷ 0 ∷ 5 ∷ 0 ∷ 0 ∷ 0 ∷ 4 ∷ 0 ∷ 0 ∷ 0 ∷ 7 ∷ 0 ∷ 0 ∷ 0 ∷ 7 ∷ 0 ∷ 0 ∷ 0 ∷ []
+pub D-opening : take 29 certificateD ≡ 80 ∷ 76 ∷ 81 ∷ 1 ∷ 0 ∷ 7 ∷ 0 ∷ 0 ∷ 0 ∷ 5 ∷ 0 ∷ 0 ∷ 0 ∷ 5 ∷ 0 ∷ 0 ∷ 0 ∷ 4 ∷ 0 ∷ 0 ∷ 0 ∷ 6 ∷ 0 ∷ 0 ∷ 0 ∷ 7 ∷ 0 ∷ 0 ∷ 0 ∷ []
 unfolding certificateD D certificateOf numbersOf factorNumbers bytes mark version
 D-opening = refl
 
@@ -52,6 +52,6 @@ pub D-longer : headerOk 7 5 5 (certificateD ++ (0 ∷ [])) ≡ false
 unfolding certificateD D certificateOf numbersOf factorNumbers bytes mark version headerOk begins lengthOk sizesOk field words placesOf
 D-longer = refl
 
-pub D-shorter : headerOk 7 5 5 (take 224 certificateD) ≡ false
+pub D-shorter : headerOk 7 5 5 (take 216 certificateD) ≡ false
 unfolding certificateD D certificateOf numbersOf factorNumbers bytes mark version headerOk begins lengthOk sizesOk field words placesOf
 D-shorter = refl

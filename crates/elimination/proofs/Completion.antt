@@ -10,7 +10,8 @@ use lib.Dec.{eqb}
 use lib.ListN.{length, getD, length-append}
 use borrow.Author.Tests.{eq-eqb, ne-eqb}
 use Rattle.algebra.specs.Matrix.{Distinct, Permutation, vector}
-use Rattle.elimination.specs.Factoring.{isIn, rest}
+use Rattle.elimination.specs.Members.{isIn}
+use Rattle.elimination.specs.Factoring.{rest}
 use Rattle.elimination.proofs.Listed.{snoc-each, isIn-append, isIn-place, listed}
 
 -- ---- each number below n is in the list or among the others

@@ -11,7 +11,7 @@ use borrow.Author.Tests.{eqb-true}
 use Rattle.algebra.specs.Matrix.{Permutation, vector}
 use Rattle.algebra.proofs.Dot.{below-suc}
 use Rattle.algebra.proofs.Finite.{onto, choose}
-use Rattle.elimination.specs.Factoring.{isIn}
+use Rattle.elimination.specs.Members.{isIn}
 
 -- ---- lists of anything
 

@@ -10,7 +10,8 @@ use Rattle.algebra.specs.Matrix.{Vector, Matrix}
 use Rattle.elimination.specs.Structural.{Pair}
 use Rattle.elimination.specs.Pairs.{pairRows}
 use Rattle.elimination.specs.Pivots.{Pivot, Found, rankOf, reducedBy, coefficients, withPivot, withDependent, pair, other, turn, turns}
-use Rattle.elimination.specs.Factoring.{isIn, rest, schedule, nothing, rowsOf}
+use Rattle.elimination.specs.Members.{isIn}
+use Rattle.elimination.specs.Factoring.{rest, schedule, nothing, rowsOf}
 use Rattle.elimination.proofs.Listed.{map-append, isIn-append}
 use Rattle.elimination.proofs.Turns.{other-either}
 use Rattle.elimination.proofs.RowsFound.{pivotRows, dependentRows}

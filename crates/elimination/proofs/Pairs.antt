@@ -1,4 +1,4 @@
--- The structural pivots of a well-formed matrix can be pivots of it as it stands.
+-- The structural pivots of document 01 of a well-formed matrix can be pivots of it as it stands.
 use mathlib.Core.Path.{_≡_, sym, ap, _∙_, subst}
 use mathlib.Core.Bool.{true, _&&_}
 use mathlib.Core.List.{List, [], _∷_, _++_, append-nil}
@@ -16,7 +16,7 @@ use Rattle.sparse.specs.Row.{entry, Row}
 use Rattle.sparse.specs.Matrix.{Compressed, rowOf, matrix, form}
 use Rattle.sparse.proofs.Entries.{entry-low, entry-at, values-at}
 use Rattle.sparse.proofs.Rows.{form-row, form-starts}
-use Rattle.elimination.specs.Structural.{size, leads, chosen, Pair, paired, structural}
+use Rattle.elimination.specs.Structural.{size, leads, chosen, Pair, paired, leading}
 use Rattle.elimination.specs.Pairs.{pairRows, pairColumns, Pairs}
 use Rattle.elimination.proofs.Listed.{snoc-each}
 use Rattle.elimination.proofs.Choice.{Choice, Chosen, chosen-right}
@@ -91,13 +91,13 @@ rising-more A n c ps qs l q long r =
       above = λ k h. omega (arith, r .above k h, ap (λ (x : Pair). x .column) (List·getD-append ps qs noPair k (omega arith)));
     }
 
-structural-rising : (A : Compressed) (n c : ℕ) (l : ℕ) → l < length (structural A n c) → Rising A n c (structural A n c) l (getD (structural A n c) l noPair)
-unfolding structural
-structural-rising A n zero l h = absurd (omega arith)
-structural-rising A n (suc c) l h = go (chosen A c n) (chosen-right A c n) (structural-rising A n c) l h
+leading-rising : (A : Compressed) (n c : ℕ) (l : ℕ) → l < length (leading A n c) → Rising A n c (leading A n c) l (getD (leading A n c) l noPair)
+unfolding leading
+leading-rising A n zero l h = absurd (omega arith)
+leading-rising A n (suc c) l h = go (chosen A c n) (chosen-right A c n) (leading-rising A n c) l h
   where
     ps : List Pair
-    ps = structural A n c
+    ps = leading A n c
 
     go : (o : Option ℕ) → Chosen A c n o → ((l : ℕ) → l < length ps → Rising A n c ps l (getD ps l noPair))
         → (l : ℕ) → l < length (ps ++ paired c o) → Rising A n (suc c) (ps ++ paired c o) l (getD (ps ++ paired c o) l noPair)
@@ -115,7 +115,7 @@ structural-rising A n (suc c) l h = go (chosen A c n) (chosen-right A c n) (stru
 
 module _ (p n m : ℕ) (A : Compressed) (formed : form p m A ≡ true) (many : length (A .starts) ≡ n + 1) where
   abbrev pairs : List Pair
-  pairs = structural A n m
+  pairs = leading A n m
 
   row-at : (k : ℕ) → getD (pairRows pairs) k 0 ≡ getD pairs k noPair .row
   row-at k = List·getD-map (λ q. q .row) pairs k noPair
@@ -125,12 +125,12 @@ module _ (p n m : ℕ) (A : Compressed) (formed : form p m A ≡ true) (many : l
 
   here : (k : ℕ) → k < length pairs → ¬ (matrix A (getD (pairRows pairs) k 0) (getD (pairColumns pairs) k 0) ≡ 0)
   here k h =
-      let r = structural-rising A n m k h in
+      let r = leading-rising A n m k h in
       rw (row-at k, column-at k) (leads-here p n m A formed many (getD pairs k noPair .row) (getD pairs k noPair .column) (r .choice .row) (r .choice .led))
 
   before : (k l : ℕ) → k < l → l < length pairs → matrix A (getD (pairRows pairs) l 0) (getD (pairColumns pairs) k 0) ≡ 0
   before k l b h =
-      let r = structural-rising A n m l h in
+      let r = leading-rising A n m l h in
       rw (row-at l, column-at k)
       (leads-before p n m A formed many (getD pairs l noPair .row) (getD pairs l noPair .column) (r .choice .row) (r .choice .led) (getD pairs k noPair .column) (r .above k b))
 
@@ -146,11 +146,11 @@ module _ (p n m : ℕ) (A : Compressed) (formed : form p m A ≡ true) (many : l
       go (no l) (yes r) = absurd (never b a r h (sym e))
       go (no l) (no r) = omega arith
 
-  pub structural-pairs : Pairs n m (matrix A) pairs
-  structural-pairs =
+  pub leading-pairs : Pairs n m (matrix A) pairs
+  leading-pairs =
       record {
-        rows = record { below = λ k h. omega (arith, row-at k, structural-rising A n m k h .choice .row); apart = apart };
-        columns = λ k h. omega (arith, column-at k, structural-rising A n m k h .below);
+        rows = record { below = λ k h. omega (arith, row-at k, leading-rising A n m k h .choice .row); apart = apart };
+        columns = λ k h. omega (arith, column-at k, leading-rising A n m k h .below);
         here = here;
         before = before;
       }

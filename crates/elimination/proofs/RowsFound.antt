@@ -11,7 +11,8 @@ use Rattle.algebra.specs.Matrix.{Vector, Matrix, Distinct, Permutation, vector}
 use Rattle.elimination.specs.Structural.{Pair}
 use Rattle.elimination.specs.Pairs.{pairRows, Pairs}
 use Rattle.elimination.specs.Pivots.{Pivot, Dependent, Found, rankOf, reducedBy, coefficients, withPivot, withDependent, Turn, pair, other, turn, turns}
-use Rattle.elimination.specs.Factoring.{isIn, rest, schedule, nothing, rowsOf, rowOfTurn}
+use Rattle.elimination.specs.Members.{isIn}
+use Rattle.elimination.specs.Factoring.{rest, schedule, nothing, rowsOf, rowOfTurn}
 use Rattle.elimination.proofs.Listed.{snoc-length, map-append, isIn-append, listed}
 use Rattle.elimination.proofs.Turns.{other-either}
 use Rattle.elimination.proofs.Completion.{completed-isIn, completed-length}

@@ -20,7 +20,8 @@ use Rattle.sparse.specs.Dense.{compress}
 use Rattle.sparse.proofs.DenseLaws.{compress-matrix, compress-lengths}
 use Rattle.sparse.proofs.DenseForm.{compress-form}
 use Rattle.sparse.proofs.Rows.{form-below}
-use Rattle.elimination.specs.Structural.{Pair, structural}
+use Rattle.elimination.specs.Structural.{Pair}
+use Rattle.elimination.specs.Selection.{structural}
 use Rattle.elimination.specs.Pairs.{Pairs}
 use Rattle.elimination.specs.Pivots.{Found, columnsOf, uppersOf, rankOf, turns}
 use Rattle.elimination.specs.Factoring.{rest, schedule, nothing, rowsOf, lowersOf, factored, factorFrom, factor}
@@ -28,7 +29,7 @@ use Rattle.elimination.proofs.Listed.{append-both}
 use Rattle.elimination.proofs.Completion.{completed, completed-length}
 use Rattle.elimination.proofs.Echelon.{cells, echelon-distinct}
 use Rattle.elimination.proofs.Invariant.{noPivot, noDependent, columns-many, uppers-many, Lower, Invariant}
-use Rattle.elimination.proofs.Pairs.{structural-pairs}
+use Rattle.elimination.proofs.Selected.{structural-pairs}
 use Rattle.elimination.proofs.RowsFound.{rows-length, rows-permutation}
 use Rattle.elimination.proofs.Schedule.{schedule-holds}
 

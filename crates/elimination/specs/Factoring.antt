@@ -1,5 +1,4 @@
 -- Factoring (document 01, "Factors" and "Pivot rules"), and the refusal of storage that is too short.
---   isIn xs x                 x is one of xs
 --   rest xs n                 the numbers below n that are not in xs, rising
 --   schedule n pairs          the pairs first, then the other rows by number
 --   nothing                   what is found before the first turn
@@ -11,21 +10,19 @@
 --   fits roomL roomU f        L and U have no more entries than their rooms
 --   firstOver ..              the row of the first turn after which they have (refusal 7)
 use Prim.Native.Nat.{ℕ, zero, suc, _+_}
-use mathlib.Core.Bool.{Bool, false, cond, _&&_, _||_}
+use mathlib.Core.Bool.{Bool, cond, _&&_}
 use mathlib.Core.List.{List, [], _∷_, _++_, map}
 use mathlib.Core.Option.{Option, none, some}
 use lib.ListN.{length}
-use lib.Dec.{eqb, leb}
+use lib.Dec.{leb}
 use Rattle.algebra.specs.Matrix.{Matrix}
 use Rattle.sparse.specs.Matrix.{Compressed, matrix}
 use Rattle.sparse.specs.Set.{Set}
 use Rattle.sparse.specs.Dense.{nonzeros, compress}
-use Rattle.elimination.specs.Structural.{Pair, structural}
+use Rattle.elimination.specs.Structural.{Pair}
+use Rattle.elimination.specs.Members.{isIn}
+use Rattle.elimination.specs.Selection.{structural}
 use Rattle.elimination.specs.Pivots.{Found, Turn, pair, other, turn, turns, columnsOf, uppersOf, rankOf}
-
-unfoldable pub isIn : List ℕ → ℕ → Bool
-isIn [] x = false
-isIn (y ∷ ys) x = eqb y x || isIn ys x
 
 unfoldable pub rest : List ℕ → ℕ → List ℕ
 rest xs zero = []

@@ -1,5 +1,9 @@
 pub mod Structural
+pub mod Members
+pub mod Pairs
+pub mod Chains
+pub mod Selection
 pub mod Pivots
 pub mod Factoring
-pub mod Pairs
 pub mod Overflow
+pub mod Rules

@@ -5,7 +5,7 @@
 --   chosen A c n          of the rows below n that lead at c the one with fewest entries, of these the lowest-numbered
 --   Pair                  a row and the column at which it is a pivot row
 --   paired c b            the pair of column c and the row chosen for it, if there is one
---   structural A n m      the chosen rows with their columns, by rising column
+--   leading A n m         the chosen rows with their columns, by rising column
 use Prim.Native.Nat.{ℕ, zero, suc, _+_, _-_}
 use mathlib.Core.Bool.{Bool, cond, _&&_}
 use mathlib.Core.List.{List, [], _∷_, _++_}
@@ -37,6 +37,6 @@ abbrev pub paired : ℕ → Option ℕ → List Pair
 paired c none = []
 paired c (some i) = record { row = i; column = c } ∷ []
 
-unfoldable pub structural : Compressed → ℕ → ℕ → List Pair
-structural A n zero = []
-structural A n (suc c) = structural A n c ++ paired c (chosen A c n)
+unfoldable pub leading : Compressed → ℕ → ℕ → List Pair
+leading A n zero = []
+leading A n (suc c) = leading A n c ++ paired c (chosen A c n)

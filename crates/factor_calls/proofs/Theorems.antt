@@ -13,7 +13,7 @@ use mathlib.Core.Logic.{_↔_, inl, inr}
 use mathlib.Core.Bool.{true, true≢false}
 use mathlib.Core.List.{List, [], _∷_, _++_}
 use mathlib.Core.Option.{Option, none, some}
-use Prim.Native.Nat.{ℕ}
+use Prim.Native.Nat.{ℕ, _<_}
 use native.Mathlib.Omega.{arith}
 use lib.ListN.{length}
 use Rattle.lists.specs.Tests.{among}
@@ -24,9 +24,12 @@ use Rattle.lists.specs.declared.Outcome.the-variants.{Passed, Refused}
 use Rattle.lists.proofs.Filled.{filled-none}
 use Rattle.lists.proofs.Refusals.{RefusedBy, among-left, zero-passed}
 use Rattle.algebra.specs.Rank.{Rank}
-use Rattle.sparse.specs.Matrix.{Compressed, matrix}
+use Rattle.sparse.specs.Matrix.{Compressed, matrix, rowOf}
+use Rattle.sparse.specs.Set.{Set}
 use Rattle.pluq.specs.Judge.{Passes}
-use Rattle.elimination.specs.Structural as rules
+use Rattle.elimination.specs.Selection as rules
+use Rattle.elimination.specs.Rules.{FollowsRules}
+use Rattle.elimination.proofs.Rules.{follows-rules}
 use Rattle.elimination.specs.Factoring.{schedule, nothing, firstOver, factor}
 use Rattle.elimination.specs.Overflow.{Overflows}
 use Rattle.elimination.proofs.Room.{none-enough, enough-none, some-overflows}
@@ -210,3 +213,10 @@ module _ (p n m : ℕ) (A : Compressed) (l : Lent) (number detail rank structura
         call .structural-is
         ∙ ap (λ (o : Outcome). o .structural) same
         ∙ ap (λ (o : Option ℕ). unlessOver o (whole p n m A l) .structural) (fits-exactly p n m A l .1 (accepted .fits))
+
+    pub factored-rules : FollowsRules p n m A
+    factored-rules = let g = accepted .plan in follows-rules p n m A (g .formed) (g .rows)
+
+    pub factored-diagonal : (k : ℕ) → k < structural → rowOf (ownSet n m rank R C L U .L .starts) k (ownSet n m rank R C L U .L .cols) ≡ k ∷ []
+    factored-diagonal k h =
+        ap (λ (s : Set). rowOf (s .L .starts) k (s .L .cols)) factored-set ∙ factored-rules .diagonal k (subst (λ (z : ℕ). k < z) factored-structural h)

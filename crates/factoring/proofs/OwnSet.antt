@@ -15,7 +15,7 @@ use Rattle.sparse.specs.Set.{Set, setOf}
 use Rattle.sparse.specs.Dense.{compress}
 use Rattle.sparse.proofs.DenseLaws.{Lengths, compress-lengths}
 use Rattle.pluq.specs.Judge.{Passes}
-use Rattle.elimination.specs.Structural.{structural}
+use Rattle.elimination.specs.Selection.{structural}
 use Rattle.elimination.specs.Factoring.{schedule, nothing, firstOver, factored, factorFrom, factor, lowersOf}
 use Rattle.elimination.specs.Pivots.{Found, uppersOf, turns}
 use Rattle.elimination.proofs.Theorem.{StoredFactors, factor-stored, factor-rank}

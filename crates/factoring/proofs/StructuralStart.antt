@@ -7,9 +7,10 @@ use lib.ListN.{length, take, drop, length-append, length-map}
 use lib.Seq.{length-take-le, take-at}
 use Rattle.lists.specs.Filled.{zeros, filled}
 use Rattle.sparse.specs.Matrix.{Compressed, matrix}
-use Rattle.elimination.specs.Structural.{Pair, structural}
+use Rattle.elimination.specs.Structural.{Pair}
+use Rattle.elimination.specs.Selection.{structural}
 use Rattle.elimination.specs.Pairs.{pairRows, pairColumns}
-use Rattle.elimination.proofs.Pairs.{structural-pairs}
+use Rattle.elimination.proofs.Selected.{structural-pairs}
 use Rattle.ordering.specs.Needs.{Searchable}
 use Rattle.ordering.specs.Search.{PairsFound}
 use Rattle.pivoting.specs.Passing.{pairsIn, pairsOf}
@@ -41,8 +42,8 @@ module _ (p n m : ℕ) (A : Compressed) (R C : List ℕ) (L U : Compressed) (w :
       record {
         formed = h .lists .formed;
         rows = omega (arith, h .lists .rows, h .n-rows);
-        n-narrow = omega (arith, h .lists .n-narrow, h .n-rows);
-        m-narrow = omega (arith, h .lists .m-narrow);
+        n-small = omega (arith, h .lists .n-narrow, h .n-rows);
+        m-small = omega (arith, h .lists .m-narrow);
         R-clear = h .clear .R-clear ∙ ap zeros (h .n-rows);
         C-clear = h .clear .C-clear;
         w-clear = part-clear w (h .lists .clear) m m-fits ∙ ap zeros (sym (h .m-columns));

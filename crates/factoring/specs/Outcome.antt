@@ -16,7 +16,8 @@ use Rattle.lists.specs.Table.{storageTooShort}
 use Rattle.algebra.specs.Matrix.{Matrix}
 use Rattle.sparse.specs.Matrix.{Compressed, compressed, matrix}
 use Rattle.sparse.specs.Set.{Set}
-use Rattle.elimination.specs.Structural.{Pair, structural}
+use Rattle.elimination.specs.Structural.{Pair}
+use Rattle.elimination.specs.Selection.{structural}
 use Rattle.elimination.specs.Factoring.{schedule, nothing, factorFrom, firstOver}
 
 pub record Outcome : Type 0 where

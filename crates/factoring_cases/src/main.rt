@@ -8,6 +8,7 @@ fn main() {
     plans::sizes();
     plans::gaps();
     plans::elimination();
+    plans::structure();
     plans::moduli();
     plan_d::rooms();
     plan_d::sweep();

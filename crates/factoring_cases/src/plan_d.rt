@@ -21,18 +21,18 @@ fn room(name: &[u8], l: u32, u: u32) {
 
 // D with just the room it takes, and with one thing changed.
 fn changed(name: &[u8], of: u32, to: u32) {
-    plan_d(name, 7, 7, Change { of, to });
+    plan_d(name, 6, 7, Change { of, to });
 }
 
 pub fn rooms() {
-    room(b"D, room 7 and 7", 7, 7);
+    room(b"D, room 6 and 7", 6, 7);
     room(b"D, room 8 and 9", 8, 9);
-    room(b"D, L room 6", 6, 7);
+    room(b"D, L room 5", 5, 7);
     room(b"D, L room 4", 4, 7);
-    room(b"D, U room 6", 7, 6);
+    room(b"D, U room 6", 6, 6);
     room(b"D, room 4 and 6", 4, 6);
     room(b"D, no room for L", 0, 7);
-    room(b"D, no room for U", 7, 0);
+    room(b"D, no room for U", 6, 0);
 }
 
 // The same, named by its rooms.
@@ -66,7 +66,6 @@ pub fn sweep() {
     upper_rooms(5);
     upper_rooms(6);
     upper_rooms(7);
-    upper_rooms(8);
 }
 
 // 1; and 8 for 5, which is a value of D
@@ -123,10 +122,10 @@ pub fn order_lengths() {
 pub fn lower_lengths() {
     changed(b"D, L starts 5", change::L_STARTS, 5);
     changed(b"D, L starts 7", change::L_STARTS, 7);
-    changed(b"D, L columns 6", change::L_COLUMNS, 6);
-    changed(b"D, L columns 8", change::L_COLUMNS, 8);
-    changed(b"D, L values 6", change::L_VALUES, 6);
-    changed(b"D, L values 8", change::L_VALUES, 8);
+    changed(b"D, L columns 5", change::L_COLUMNS, 5);
+    changed(b"D, L columns 7", change::L_COLUMNS, 7);
+    changed(b"D, L values 5", change::L_VALUES, 5);
+    changed(b"D, L values 7", change::L_VALUES, 7);
 }
 
 // 9

@@ -15,7 +15,8 @@ use Rattle.lists.specs.Tabulate.{tabulate}
 use Rattle.lists.proofs.Filled.{Clearing, zeros-at, clearing-starts, clearing-turn, clearing-ends, clearing-cell}
 use Rattle.lists.proofs.Tabulate.{length-tabulate, tabulate-at, tabulated}
 use Rattle.algebra.specs.Matrix.{Distinct, vector}
-use Rattle.elimination.specs.Factoring.{isIn, rest}
+use Rattle.elimination.specs.Members.{isIn}
+use Rattle.elimination.specs.Factoring.{rest}
 use Rattle.elimination.proofs.Listed.{isIn-append}
 use Rattle.elimination.proofs.Completion.{completed-length}
 use Rattle.ordering.specs.Needs.{Completable}

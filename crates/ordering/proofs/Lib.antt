@@ -1,4 +1,4 @@
 pub mod Writing
 pub mod Completing
 pub mod Choosing
-pub mod Collecting
+pub mod Selecting

@@ -10,7 +10,8 @@ use mathlib.Core.List.{List, [], _∷_, _++_}
 use lib.ListN.{length, take}
 use Rattle.lists.specs.Filled.{zeros}
 use Rattle.lists.specs.Tabulate.{tabulate}
-use Rattle.elimination.specs.Factoring.{isIn, rest}
+use Rattle.elimination.specs.Members.{isIn}
+use Rattle.elimination.specs.Factoring.{rest}
 
 abbrev pub marked : List ℕ → ℕ → ℕ
 marked xs x = cond (isIn xs x) 1 0

@@ -6,23 +6,18 @@
 --   Chosen A i w                 the cells of w name the rows chosen among the first i
 --   ChooseReady p n A w          what the choice among the n rows of A needs
 --   ConsiderReady p i A w        what considering row i needs: the cells name the rows chosen before it
---   pairsOf w c                  the pairs of the first c cells of w, by rising column
---   PairsWritten ps at ..        the rows and the columns of the pairs ps are written from place `at` on
---   PutReady c x at R C          there is room for the pair of the cell x at column c, if it names a row
---   CollectReady w R C           there is room for the pairs of all cells
---   Collected w₀ s ..            the pairs of w₀ are written from the start, s of them, and the cells cleared
 --   PairsFound n m A s R C w     the s structural pivots of A are in the orders R and C, which are 0 past them; the working row is cleared
-use Prim.Native.Nat.{ℕ, zero, suc, _+_, _^_, _≤_, _<_}
+use Prim.Native.Nat.{ℕ, zero, suc, _+_, _≤_, _<_}
 use mathlib.Core.Path.{_≡_}
 use mathlib.Core.Bool.{true}
-use mathlib.Core.List.{List, [], _++_}
+use mathlib.Core.List.{List}
 use mathlib.Core.Option.{Option, none, some}
 use lib.ListN.{length, getD}
 use Rattle.lists.specs.Filled.{zeros, filled}
 use Rattle.sparse.specs.Matrix.{Compressed, form}
-use Rattle.elimination.specs.Structural.{prefer, chosen, Pair, paired, structural}
+use Rattle.elimination.specs.Structural.{prefer, chosen}
+use Rattle.elimination.specs.Selection.{structural}
 use Rattle.elimination.specs.Pairs.{pairRows, pairColumns}
-use Rattle.ordering.specs.Written.{Written}
 
 abbrev pub rowIn : ℕ → Option ℕ
 rowIn zero = none
@@ -57,29 +52,6 @@ pub record ConsiderReady (p i : ℕ) (A : Compressed) (w : List ℕ) : Type 0 wh
   pub before : Chosen A i w
 
 -- ---- the pairs
-
-unfoldable pub pairsOf : List ℕ → ℕ → List Pair
-pairsOf w zero = []
-pairsOf w (suc c) = pairsOf w c ++ paired c (rowIn (getD w c 0))
-
-pub record PairsWritten (ps : List Pair) (at : ℕ) (R₀ C₀ R C : List ℕ) (next : ℕ) : Type 0 where
-  pub rows : Written (pairRows ps) at R₀ R next
-  pub columns : Written (pairColumns ps) at C₀ C next
-
-pub record PutReady (c x at : ℕ) (R C : List ℕ) : Type 0 where
-  pub rows : at + length (paired c (rowIn x)) ≤ length R
-  pub columns : at + length (paired c (rowIn x)) ≤ length C
-  pub narrow : x ≤ 2 ^ 32
-
-pub record CollectReady (w R C : List ℕ) : Type 0 where
-  pub rows : length (pairsOf w (length w)) ≤ length R
-  pub columns : length (pairsOf w (length w)) ≤ length C
-  pub narrow : length w ≤ 2 ^ 32
-  pub below : (c : ℕ) → getD w c 0 ≤ 2 ^ 32
-
-pub record Collected (w₀ : List ℕ) (s : ℕ) (R₀ C₀ R C w : List ℕ) : Type 0 where
-  pub pairs : PairsWritten (pairsOf w₀ (length w₀)) 0 R₀ C₀ R C s
-  pub cleared : w ≡ zeros (length w₀)
 
 pub record PairsFound (n m : ℕ) (A : Compressed) (s : ℕ) (R C w : List ℕ) : Type 0 where
   pub count : s ≡ length (structural A n m)

@@ -1,13 +1,12 @@
-// Pivot rule 1: the structural pivots, in two passes without arithmetic modulo p. The first leaves in the working row, for
-// each column, one more than the row chosen for it, or 0; the second writes the pairs by rising column and clears the row.
+// The structural pivots, without arithmetic modulo p: pivot rule 1 leaves in the working row, for each column, one more than the row chosen for it, or 0;
+// the selection adds rows that close no cycle; the arrangement puts all of them in order.
 // The modulus and the values are named in contracts only.
 ghost use mathlib.Core.Path.{_≡_};
 ghost use Prim.Native.Nat.{_+_, _-_};
 ghost use lib.ListN.{length, getD};
 ghost use Rattle.sparse.specs.Matrix.{compressed};
-ghost use Rattle.elimination.specs.Structural.{paired};
-ghost use Rattle.ordering.specs.Needs.{Searchable};
-ghost use Rattle.ordering.specs.Search.{rowIn, RowWithin, PreferReady, Preferred, Chosen, ChooseReady, ConsiderReady, PairsWritten, PutReady, CollectReady, Collected, PairsFound};
+ghost use Rattle.ordering.specs.Needs.{Searchable, Findable};
+ghost use Rattle.ordering.specs.Search.{RowWithin, PreferReady, Preferred, Chosen, ChooseReady, ConsiderReady, PairsFound};
 use lists::index;
 
 // How many entries row i has.
@@ -57,35 +56,29 @@ fn choose(ss: &[u32], cols: &[u32], vals: &[u32], p: u32, n: usize, work: &mut [
     }
 }
 
-// Writes the pair of column c and the row that its cell names, if it names one, at place `at`; gives the next place.
-fn put(c: u32, cell: u64, at: usize, rows: &mut [u32], columns: &mut [u32]) -> usize
-    requires { ⌜ PutReady c cell at (now rows) (now columns) ⌝ }
-    ensures { λ next. ⌜ PairsWritten (paired c (rowIn cell)) at (now (rows .entry)) (now (columns .entry)) (now (rows .exit)) (now (columns .exit)) next ⌝ }
+// Finds the structural pivots; `named` has a cell for each row and is all zero.
+fn find_pairs(
+    ss: &[u32],
+    cols: &[u32],
+    vals: &[u32],
+    p: u32,
+    n: usize,
+    named: &mut [u32],
+    rows: &mut [u32],
+    columns: &mut [u32],
+    work: &mut [u64],
+) -> usize
+    requires { ⌜ Findable p n (length (now columns)) (compressed (now ss) (now cols) (now vals)) (now named) (now rows) (now columns) (now work) ⌝ }
+    ensures { λ s. ⌜ PairsFound n (length (now (columns .entry))) (compressed (now (ss .entry)) (now (cols .entry)) (now (vals .entry))) s (now (rows .exit)) (now (columns .exit)) (now (work .exit)) ⌝ }
 {
-    if cell == 0 {
-        return at;
-    }
-    rows[at] = (cell - 1) as u32;
-    columns[at] = c;
-    at + 1
+    choose(ss, cols, vals, p, n, work);
+    selection::select(ss, cols, vals, p, n, work, named);
+    let found = arrangement::arrange(ss, cols, vals, p, n, work, named, rows, columns);
+    lists::clear_row(work);
+    found
 }
 
-// Writes the pairs of all cells, and clears the cells; gives how many pairs there are.
-fn collect(rows: &mut [u32], columns: &mut [u32], work: &mut [u64]) -> usize
-    requires { ⌜ CollectReady (now work) (now rows) (now columns) ⌝ }
-    ensures { λ s. ⌜ Collected (now (work .entry)) s (now (rows .entry)) (now (columns .entry)) (now (rows .exit)) (now (columns .exit)) (now (work .exit)) ⌝ }
-{
-    let mut at = 0;
-    let mut c = 0;
-    while c < work.len() {
-        at = put(c as u32, work[c], at, rows, columns);
-        work[c] = 0;
-        c += 1;
-    }
-    at
-}
-
-// Finds the structural pivots: their rows and their columns by rising column; gives how many there are.
+// Finds the structural pivots: document 01's, those that close no cycle with them, and their order; gives how many there are.
 pub fn structural_pairs(
     ss: &[u32],
     cols: &[u32],
@@ -99,6 +92,6 @@ pub fn structural_pairs(
     requires { ⌜ Searchable p n (length (now columns)) (compressed (now ss) (now cols) (now vals)) (now rows) (now columns) (now work) ⌝ }
     ensures { λ s. ⌜ PairsFound n (length (now (columns .entry))) (compressed (now (ss .entry)) (now (cols .entry)) (now (vals .entry))) s (now (rows .exit)) (now (columns .exit)) (now (work .exit)) ⌝ }
 {
-    choose(ss, cols, vals, p, n, work);
-    collect(rows, columns, work)
+    let mut named = [0u32; 2048];
+    find_pairs(ss, cols, vals, p, n, &mut named[..n], rows, columns, work)
 }

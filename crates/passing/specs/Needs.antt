@@ -29,8 +29,8 @@ pub record Lists (p : ℕ) (A : Compressed) (R C : List ℕ) (L U : Compressed) 
   pub U-starts : length (U .starts) ≡ length R + 1
   pub L-paired : length (L .cols) ≡ length (L .vals)
   pub U-paired : length (U .cols) ≡ length (U .vals)
-  pub n-narrow : length R < 2 ^ 32
-  pub m-narrow : length C < 2 ^ 32
+  pub n-narrow : length R ≤ 2048
+  pub m-narrow : length C ≤ 2048
   pub small : length R * length C < 2 ^ 32
   pub n-fits : length R ≤ length w
   pub m-fits : length C ≤ length w

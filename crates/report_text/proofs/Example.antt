@@ -1,6 +1,6 @@
 -- What is printed for document 01's plan D, computed byte for byte.
 --   D-report     modulus 7 slots 5 words 5 entries 11
---                rank 4 structural 3 L 7 U 7
+--                rank 4 structural 4 L 6 U 7
 --                open 5
 --   a-refusal    refused 4 at 6
 --   D-open       open 0 0 0 0 5: the answer to the question (0,0,0,0,1)
@@ -17,11 +17,11 @@ use Rattle.report_text.specs.Report.{reportText, refusalText}
 use Rattle.report_text.specs.Answer.{valuesText, answerLine, answerText}
 
 abbrev pub summaryD : Summary
-summaryD = record { modulus = 7; slots = 5; words = 5; entries = 11; rank = 4; structural = 3; lower = 7; upper = 7 }
+summaryD = record { modulus = 7; slots = 5; words = 5; entries = 11; rank = 4; structural = 4; lower = 6; upper = 7 }
 
 pub D-report : reportText summaryD (0 ∷ 0 ∷ 0 ∷ 0 ∷ 1 ∷ [])
     ≡ (109 ∷ 111 ∷ 100 ∷ 117 ∷ 108 ∷ 117 ∷ 115 ∷ 32 ∷ 55 ∷ 32 ∷ 115 ∷ 108 ∷ 111 ∷ 116 ∷ 115 ∷ 32 ∷ 53 ∷ 32 ∷ 119 ∷ 111 ∷ 114 ∷ 100 ∷ 115 ∷ 32 ∷ 53 ∷ 32 ∷ 101 ∷ 110 ∷ 116 ∷ 114 ∷ 105 ∷ 101 ∷ 115 ∷ 32 ∷ 49 ∷ 49 ∷ 10 ∷ [])
-    ++ ((114 ∷ 97 ∷ 110 ∷ 107 ∷ 32 ∷ 52 ∷ 32 ∷ 115 ∷ 116 ∷ 114 ∷ 117 ∷ 99 ∷ 116 ∷ 117 ∷ 114 ∷ 97 ∷ 108 ∷ 32 ∷ 51 ∷ 32 ∷ 76 ∷ 32 ∷ 55 ∷ 32 ∷ 85 ∷ 32 ∷ 55 ∷ 10 ∷ [])
+    ++ ((114 ∷ 97 ∷ 110 ∷ 107 ∷ 32 ∷ 52 ∷ 32 ∷ 115 ∷ 116 ∷ 114 ∷ 117 ∷ 99 ∷ 116 ∷ 117 ∷ 114 ∷ 97 ∷ 108 ∷ 32 ∷ 52 ∷ 32 ∷ 76 ∷ 32 ∷ 54 ∷ 32 ∷ 85 ∷ 32 ∷ 55 ∷ 10 ∷ [])
     ++ (111 ∷ 112 ∷ 101 ∷ 110 ∷ 32 ∷ 53 ∷ 10 ∷ []))
 unfolding reportText sizesLine rankLine openLines wordLine openLine flatten labelled decimal decimalIn
 D-report = refl

@@ -1,7 +1,7 @@
 -- The printed lines, each with its line feed (document 01, "Report and cases").
 --   labelled label x         a label and a number in decimal
 --   sizesLine s              `modulus 7 slots 5 words 5 entries 11`
---   rankLine s               `rank 4 structural 3 L 7 U 7`
+--   rankLine s               `rank 4 structural 4 L 6 U 7`
 --   openLine j               `open 5`, for column 4: words count from 1
 --   wordLine j cell          the line of column j where its cell is 1 (open), none where it is 0 (closed)
 --   openLines j cells        the lines of the columns from j on, rising

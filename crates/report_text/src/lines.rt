@@ -31,7 +31,7 @@ pub fn put_sizes_line(s: Summary, out: &mut [u8], at: usize) -> usize
     put_bytes(b"\n", out, after_entries)
 }
 
-// `rank 4 structural 3 L 7 U 7`
+// `rank 4 structural 4 L 6 U 7`
 pub fn put_rank_line(s: Summary, out: &mut [u8], at: usize) -> usize
     requires { ⌜ at + length (rankLine s) ≤ length (now out) ⌝ }
     ensures { λ r. ⌜ Stored (now (out .entry)) (now (out .exit)) at r (rankLine s) ⌝ }

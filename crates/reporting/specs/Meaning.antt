@@ -11,7 +11,7 @@ use Prim.Native.Nat.{ℕ}
 use lib.ListN.{length}
 use Rattle.algebra.specs.Rank.{Rank}
 use Rattle.sparse.specs.Matrix.{matrix}
-use Rattle.elimination.specs.Structural.{structural}
+use Rattle.elimination.specs.Selection.{structural}
 use Rattle.plan_text.specs.Call.{ReadAnswer}
 use Rattle.plan_text.specs.Held.{planOf}
 use Rattle.column_calls.specs.Meaning.{MarksOpen}

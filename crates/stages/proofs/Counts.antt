@@ -13,10 +13,10 @@ use Rattle.residue.proofs.Primes.{modulus-prime}
 use Rattle.sparse.specs.Matrix.{Compressed, matrix, form}
 use Rattle.sparse.specs.Set.{Set}
 use Rattle.sparse.proofs.DenseLaws.{compress-lengths}
-use Rattle.elimination.specs.Structural.{structural}
+use Rattle.elimination.specs.Selection.{structural}
 use Rattle.elimination.specs.Pivots.{Found, uppersOf, turns}
 use Rattle.elimination.specs.Factoring.{schedule, nothing, firstOver, factored, factorFrom, factor, lowersOf}
-use Rattle.elimination.proofs.Pairs.{structural-pairs}
+use Rattle.elimination.proofs.Selected.{structural-pairs}
 use Rattle.elimination.proofs.Theorem.{StoredFactors, factor-stored}
 use Rattle.call_tests.specs.Tests.{planLengths, limitsOk, planOutcome}
 use Rattle.call_tests.specs.Accepted.{GoodPlan}

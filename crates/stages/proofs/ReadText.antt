@@ -20,7 +20,7 @@ use Rattle.lists.specs.Refusals.{unless, NumberFrom}
 use Rattle.lists.specs.declared.Outcome.the-variants.{Passed, Refused}
 use Rattle.lists.proofs.Refusals.{RefusedBy, number-passed}
 use Rattle.sparse.specs.Matrix.{Compressed, matrix}
-use Rattle.elimination.specs.Structural.{structural}
+use Rattle.elimination.specs.Selection.{structural}
 use Rattle.elimination.proofs.Room.{some-overflows}
 use Rattle.call_tests.specs.Limits.{largestEntries}
 use Rattle.call_tests.specs.Accepted.{GoodPlan}

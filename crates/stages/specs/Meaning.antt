@@ -7,7 +7,7 @@ use Rattle.sparse.specs.Matrix.{matrix}
 use Rattle.sparse.specs.Set.{Set}
 use Rattle.plan_text.specs.Call.{ReadAnswer}
 use Rattle.plan_text.specs.Held.{planOf}
-use Rattle.elimination.specs.Structural.{structural}
+use Rattle.elimination.specs.Selection.{structural}
 use Rattle.elimination.specs.Factoring.{schedule, nothing, factor}
 use Rattle.elimination.specs.Overflow.{Overflows}
 use Rattle.call_tests.specs.Limits.{largestEntries}

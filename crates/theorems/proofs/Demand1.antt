@@ -40,7 +40,7 @@ use Rattle.sparse.specs.Matrix.{Compressed, matrix}
 use Rattle.sparse.specs.Set.{Set}
 use Rattle.sparse.specs.Row.{Below}
 use Rattle.grouping.specs.Members.{Member}
-use Rattle.elimination.specs.Structural.{structural}
+use Rattle.elimination.specs.Selection.{structural}
 use Rattle.elimination.specs.Factoring.{schedule, nothing}
 use Rattle.elimination.specs.Overflow.{Overflows}
 use Rattle.plan_text.specs.declared.Reading.{Reading}

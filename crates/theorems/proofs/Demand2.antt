@@ -4,6 +4,8 @@
 --   factor-product       its product is A
 --   factor-rank          the rank returned is the greatest number of independent rows
 --   factor-structural    the number of structural pivots is that of the rules
+--   factor-rules         which obey document 02's five rules for them (slip 9)
+--   factor-diagonal      of each of them the row of L that was left holds its diagonal alone
 --   make-set             the call for C that returned 0 left the certificate of that set
 -- Of a question that was answered from stored factors (`stored`) or from a certificate (`bytes`):
 --   .. -open             open exactly if some x has x A = y
@@ -16,10 +18,10 @@
 -- What the two programs print, for a text that states a plan whose factors fit:
 --   report-right         the report has the plan's sizes, its rank, the number of structural pivots, the entries of L and U, and its open words
 --   ask-right            the line has the right verdict on a question of m residues, with the x or the z that `.. -x` and `.. -z` describe
-use Prim.Native.Nat.{ℕ}
+use Prim.Native.Nat.{ℕ, _<_}
 use mathlib.Core.Path.{_≡_}
 use mathlib.Core.Logic.{_↔_}
-use mathlib.Core.List.{List}
+use mathlib.Core.List.{List, [], _∷_}
 use lib.ListN.{length, take}
 use Rattle.lists.specs.Filled.{filled}
 use Rattle.lists.specs.Refusals.{numberOf}
@@ -29,9 +31,10 @@ use Rattle.algebra.specs.Rank.{Rank}
 use Rattle.algebra.specs.RowSpace.{InRowSpace}
 use Rattle.algebra.specs.Factors.{Factors}
 use Rattle.sparse.specs.Row.{Below}
-use Rattle.sparse.specs.Matrix.{Compressed, matrix}
+use Rattle.sparse.specs.Matrix.{Compressed, matrix, rowOf}
 use Rattle.sparse.specs.Set.{Set}
-use Rattle.elimination.specs.Structural.{structural}
+use Rattle.elimination.specs.Selection.{structural}
+use Rattle.elimination.specs.Rules.{FollowsRules}
 use Rattle.elimination.specs.Factoring.{factor}
 use Rattle.certificate.specs.Reading.{setOfCertificate}
 use Rattle.plan_text.specs.Held.{StatesPlan}
@@ -82,6 +85,12 @@ module _ (p n m : ℕ) (A : Compressed) (l : Lent) (number detail rank pivots : 
 
   pub factor-structural : pivots ≡ length (structural A n m)
   factor-structural = factors.factored-structural p n m A l number detail rank pivots R C L U w call done
+
+  pub factor-rules : FollowsRules p n m A
+  factor-rules = factors.factored-rules p n m A l number detail rank pivots R C L U w call done
+
+  pub factor-diagonal : (k : ℕ) → k < pivots → rowOf (own .L .starts) k (own .L .cols) ≡ k ∷ []
+  factor-diagonal = factors.factored-diagonal p n m A l number detail rank pivots R C L U w call done
 
 pub make-set : (text : List ℕ) (z : ℕ) (b₀ b : List ℕ) → Makes text z b₀ b → z ≡ 0 → b ≡ filled (length b₀) (ownCertificate (reading text))
 make-set = texts.made-buffer

@@ -21,7 +21,8 @@ def _chain(length):
 
 
 def _runner():
-    """A row that starts at column 0 and is no structural pivot beside a chain."""
+    """A row that starts at column 0 and leaves 3 at the end of a chain. Beside
+    the chain it has no unused column, and so is no structural pivot."""
     return {0: 1, 1: 1, 2: 1}
 
 
@@ -46,15 +47,24 @@ def lower_edge(p, entries):
 
 def upper_edge(p, entries):
     """A plan whose U has this many entries: each further row runs down the
-    chain into one wide row, and has a pivot column of its own before it."""
-    rows = _chain(CHAIN)
+    chain into one wide row, and has a pivot column of its own before it. There
+    it is no structural pivot, since two rows at the chain's end have entries in
+    these columns, so that a cycle would close; but these two cancel. p is not 3.
+
+    The chain, its end, the two rows, the wide row and the further rows have so
+    many entries in U: 2 CHAIN, 4, 1 + count each, 1 + WIDE, and 1 + WIDE each."""
     each = WIDE + 1
-    count = (entries - 2 * CHAIN - each) // each
-    first_wide = CHAIN + 1 + count
-    wide = dict.fromkeys(range(first_wide, first_wide + WIDE), 1)
-    rows.append({CHAIN: 1, **wide})
-    rows += [{**_runner(), CHAIN + 1 + i: 1} for i in range(count)]
-    return _padded(p, rows, entries - 2 * CHAIN - each * (count + 1))
+    count = (entries - 2 * CHAIN - 6 - each) // (each + 2)
+    total = 2 * CHAIN + 4 + 2 * (1 + count) + each + count * each
+    plus, minus, to_wide, first_own = range(CHAIN + 1, CHAIN + 5)
+    own = range(first_own, first_own + count)
+    wide = range(own.stop, own.stop + WIDE)
+    rows = _chain(CHAIN)
+    rows.append({CHAIN: 1, plus: 1, minus: -1, to_wide: 1})
+    rows += [{column: 1, **dict.fromkeys(own, 1)} for column in (plus, minus)]
+    rows.append({to_wide: 1, **dict.fromkeys(wide, 1)})
+    rows += [{**_runner(), column: 1} for column in own]
+    return _padded(p, rows, entries - total)
 
 
 def _stores_nothing(characters):

@@ -89,8 +89,27 @@ def staircase(rng, p, n, m):
     ]
 
 
+def hidden_staircase(rng, p, n, m):
+    """A staircase whose columns are renamed: most of its pivots are not at the
+    leftmost column of their row."""
+    names = rng.sample(range(m), m)
+    return [_cells(rng, p, (names[j] for j in cells)) for cells in staircase(rng, p, n, m)]
+
+
+def rings(rng, p, n, m):
+    """Circles: each row has a column in common with the next one, the last with
+    the first; now and then a cell more."""
+    rows = []
+    while m and len(rows) < n:
+        ring = rng.sample(range(m), min(m, rng.randint(2, 6)))
+        for j, column in enumerate(ring):
+            more = _few_columns(rng, m, 1) if rng.random() < 0.2 else []
+            rows.append(_cells(rng, p, {column, ring[j - 1], *more}))
+    return rows[:n] if m else [{}] * n
+
+
 def common_left(rng, p, n, m):
-    """All rows with the same leftmost column, so one structural pivot."""
+    """All rows with the same leftmost column, so one pivot by leftmost column."""
     return [
         _cells(rng, p, {0, *_few_columns(rng, m, 3)}) if m and rng.random() < 0.9 else {}
         for _ in range(n)
@@ -127,14 +146,17 @@ def chains(rng, p, n, m):
 
 
 def filling(rng, p, n, m):
-    """Five entries in each row at random: few structural pivots, and factors
-    that soon hold more entries than any room."""
+    """Five entries in each row at random: a third of the rows is no structural
+    pivot, and factors soon hold more entries than any room."""
     return [_cells(rng, p, rng.sample(range(m), min(m, 5))) for _ in range(n)]
 
 
 THIN_KINDS = {
     kind.__name__: kind
-    for kind in (sparse, holes, repeated, banded, staircase, cancelling, single_entries, chains)
+    for kind in (
+        sparse, holes, repeated, banded, staircase, hidden_staircase, cancelling, single_entries,
+        chains, rings,
+    )
 }
 KINDS = {**THIN_KINDS, **{kind.__name__: kind for kind in (dense, empty, low_rank, common_left)}}
 

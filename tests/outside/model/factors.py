@@ -2,7 +2,6 @@
 
     Factors      the scope's set: R, C, L, U and r
     Factored     the factors with the number of structural pivots
-    structural   rule 1: the rows chosen by leftmost column
     schedule     the processing order: the structural rows, then the others
     reduce       a row reduced by rows of U, in order
     factor       rules 1 to 3, within the lent rooms
@@ -10,6 +9,7 @@
 
 from typing import NamedTuple
 
+from . import structure
 from .refusals import ROOM, Refusal
 from .storage import Rows, row, store
 
@@ -31,24 +31,12 @@ class Factored(NamedTuple):
     structural: int
 
 
-def structural(plan):
-    """Rule 1: for each leftmost column the row with fewest entries, then with
-    the lowest number; by rising leftmost column."""
-    chosen = {}
-    for i in range(plan.n):
-        cells = row(plan.rows, i)
-        if cells:
-            column = min(cells)
-            candidate = (len(cells), i)
-            chosen[column] = min(chosen.get(column, candidate), candidate)
-    return [chosen[column][1] for column in sorted(chosen)]
-
-
 def schedule(plan):
-    """The rows in processing order."""
-    first = structural(plan)
-    taken = set(first)
-    return first + [i for i in range(plan.n) if i not in taken]
+    """The rows in processing order, each with its column where it is a
+    structural pivot, else with None."""
+    first = structure.structural(plan)
+    taken = {pivot.row for pivot in first}
+    return [*first, *((i, None) for i in range(plan.n) if i not in taken)]
 
 
 def reduce(cells, upper, pivots, p):
@@ -75,10 +63,11 @@ def factor(plan, lower_room, upper_room):
     p, n, m = plan.p, plan.n, plan.m
     pivots, pivot_rows, upper, lower = [], [], [], {}
     lower_entries = upper_entries = 0
-    for i in schedule(plan):
+    turns = schedule(plan)
+    for i, column in turns:
         coefficients, remainder = reduce(row(plan.rows, i), upper, pivots, p)
         if remainder:
-            pivot = min(remainder)
+            pivot = column if column in remainder else min(remainder)
             value = remainder[pivot]
             inverse = pow(value, -1, p)
             coefficients[len(pivots)] = value
@@ -95,7 +84,7 @@ def factor(plan, lower_room, upper_room):
     column_order = _completed(pivots, m)
     lower_rows = store(lower[i] for i in row_order)
     factors = Factors(row_order, column_order, lower_rows, store(upper), len(pivots))
-    return Factored(factors, len(structural(plan)))
+    return Factored(factors, sum(column is not None for _, column in turns))
 
 
 def _completed(first, size):

@@ -1,26 +1,17 @@
--- `structural_pairs` meets its contract: the pairs of the cells, which name the chosen rows, are the structural pivots. Assumes nothing.
-use mathlib.Core.Path.{_≡_, ap, _∙_}
-use lib.ListN.{length}
+-- `structural_pairs` meets its contract: the local list is all zero and has a cell for each row. Assumes nothing.
 use borrow.Author.Needs.{needs}
-use Rattle.lists.proofs.Filled.{length-zeros}
-use Rattle.ordering.proofs.Collecting.{choose-ready, collect-ready, pairs-found}
+use Rattle.naming.proofs.LocalLists.{part-clear, part-long}
 use Rattle.ordering.proofs.pairs.structural_pairs.Statement.{statement}
 use Rattle.ordering.proofs.pairs.structural_pairs.Tie as tie
 
-abbrev start : tie.After-choose → tie.Start
-start c = c .before .before .before .before .before .before .before .before
+array-borrow-prefix-named : tie.Need-array-borrow-prefix-named
+array-borrow-prefix-named c = search needs
 
-choose-requires : tie.Need-choose-requires
-choose-requires c κs = let s = c .before .before .before .before .before .before .before in
-    choose-ready _ _ _ _ _ _ _ (s .pre)
+slice-aggregate-find-pairs : tie.Need-slice-aggregate-find-pairs
+slice-aggregate-find-pairs c = part-long _ 2048 (c .before .before .before .before .before .before .before .pre .n-small)
 
--- the cells are as many as the columns
-wide : (c : tie.After-choose) → length (c .choose .last .1 .1 .1 .1 .1 .0) ≡ length (start c .args .columns .now)
-wide c = let s = start c in c .choose .kept .1 .1 .1 .1 .1 .0 ∙ ap length (s .pre .w-clear) ∙ length-zeros (length (s .args .columns .now))
-
-collect-requires : tie.Need-collect-requires
-collect-requires c κs = let k = c .before .before .before .before .before in
-    collect-ready _ _ _ _ _ _ _ (start k .pre) _ (wide k) (k .choose .ensures)
+find-pairs-requires : tie.Need-find-pairs-requires
+find-pairs-requires c κs = let s = c .before .before .before .before .before .before .before .before .before .before in record { lent = s .pre; v-clear = part-clear _ 2048 (s .pre .n-small) }
 
 same-length : tie.Need-same-length
 same-length c = search needs
@@ -32,10 +23,16 @@ same-length-3 : tie.Need-same-length-3
 same-length-3 c = search needs
 
 returns : tie.Need-returns
-returns c = let d = c .before .before .before .before .before .before in let k = d .before .before .before .before .before .before in
-    pairs-found _ _ _ _ _ _ _ (start k .pre) _ (wide k) (k .choose .ensures) _ _ _ _ (d .collect .ensures)
+returns c = search needs
 
 pub structural-pairs-spec : {M : Type 1} → statement M
 structural-pairs-spec =
     tie.close
-    (tie.spec choose-requires collect-requires same-length same-length-2 same-length-3 returns)
+    (tie.spec
+    array-borrow-prefix-named
+    slice-aggregate-find-pairs
+    find-pairs-requires
+    same-length
+    same-length-2
+    same-length-3
+    returns)

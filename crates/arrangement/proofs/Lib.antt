@@ -1,0 +1,5 @@
+pub mod Waits
+pub mod Cells
+pub mod Counting
+pub mod Releasing
+pub mod Listing

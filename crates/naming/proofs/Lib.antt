@@ -1,0 +1,2 @@
+pub mod RowEntries
+pub mod LocalLists

@@ -1,0 +1,5 @@
+pub mod Trails
+pub mod Fitting
+pub mod Reaching
+pub mod Cells
+pub mod Taking
