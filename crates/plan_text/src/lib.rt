@@ -1,4 +1,4 @@
-// Reads a plan text (document 01, "Plan text") into lent lists.
+// Reads a plan text (document 01, "Plan text"; triples in any order, document 02, slip 2) into lent lists.
 ghost use mathlib.Core.Path.{_≡_};
 ghost use mathlib.Core.List.{[]};
 ghost use lib.ListN.{length, drop};
@@ -46,8 +46,8 @@ fn refusal(number: u32, detail: u32) -> Reading
     }
 }
 
-// The lines from the third one on, into lists that are all zero. Most texts list their triples by row and column and are read as they stand; only where
-// a triple does not come after the one before are the lines read once more and sorted.
+// The lines from the third one on, into lists that are all zero. A text whose triples rise is read once, as it stands; only where a triple
+// does not come after the one before are the lines read once more and sorted.
 fn read_lines(
     text: &[u8],
     third: Place,
