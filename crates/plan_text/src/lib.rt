@@ -5,18 +5,14 @@ ghost use lib.ListN.{length, drop};
 ghost use Rattle.fields.specs.Pieces.{pieces};
 ghost use Rattle.plan_text.specs.Reading.{fresh, triples, readOf};
 ghost use Rattle.plan_text.specs.Call.{answerOf, callOf, refusalOf, Gives, Cleared, Begins, Settles};
-use judge::Sizes;
 use line_reader::Place;
 use opening::Opening;
+use plan_lines::judge::Sizes;
 use triples::TripleLines;
 
 pub mod collecting;
 pub mod filling;
-pub mod header;
-pub mod judge;
-pub mod line;
 pub mod opening;
-pub mod sight;
 pub mod sorting;
 pub mod triples;
 
