@@ -20,20 +20,20 @@ use Rattle.fields.proofs.CanonicalSigned.{signed-prints}
 use Rattle.fields.proofs.Joins.{joined-pieces}
 use Rattle.residue.specs.Range.{isModulus}
 use Rattle.residue.proofs.Signed.{residue-value}
-use Rattle.plan_text.specs.declared.line.Line.the-variants.{Triple, NotTriple}
-use Rattle.plan_text.specs.declared.header.Header.{Header}
-use Rattle.plan_text.specs.declared.header.Header.the-variants.{Given, NotHeader}
-use Rattle.plan_text.specs.declared.judge.Sizes.{Sizes}
-use Rattle.plan_text.specs.declared.judge.Verdict.{Verdict}
-use Rattle.plan_text.specs.declared.judge.Verdict.the-variants.{Refused, Last, Entry as AnEntry}
+use Rattle.plan_lines.specs.declared.line.Line.the-variants.{Triple, NotTriple}
+use Rattle.plan_lines.specs.declared.header.Header.{Header}
+use Rattle.plan_lines.specs.declared.header.Header.the-variants.{Given, NotHeader}
+use Rattle.plan_lines.specs.declared.judge.Sizes.{Sizes}
+use Rattle.plan_lines.specs.declared.judge.Verdict.{Verdict}
+use Rattle.plan_lines.specs.declared.judge.Verdict.the-variants.{Refused, Last, Entry as AnEntry}
 use Rattle.call_tests.specs.Limits.{largestSize}
 use Rattle.plan_text.specs.Limits.{largestText}
-use Rattle.plan_text.specs.Line.{fieldsOf, lineOf, lineIn, lineWith, headerOf, headerIn, headerWith, isM}
-use Rattle.plan_text.specs.Judge.{mayStand}
+use Rattle.plan_lines.specs.Line.{fieldsOf, lineOf, lineIn, lineWith, headerOf, headerIn, headerWith, isM}
+use Rattle.plan_lines.specs.Judge.{mayStand}
 use Rattle.plan_text.specs.Reading.{Entry, refused, accepted, kept, fresh, verdictOn, ending, onward, triples, withSizes, fromSecond, withModulus, fromFirst, readBy, readOf}
 use Rattle.plan_text.specs.Stating.{StatedEntry, tripleText, sizesText, tripleLines, planText, entryOf, Apart, States}
 use Rattle.plan_text.proofs.Storing.{kept-zero, kept-more}
-use Rattle.plan_text.proofs.Verdicts.{judged-entry, judged-last}
+use Rattle.plan_lines.proofs.Verdicts.{judged-entry, judged-last}
 
 pub refused-not : {A : Type 0} {c k : ℕ} {s : Sizes} {seen : List Entry} → refused c k ≡ accepted s seen → A
 refused-not e = let z : _≡_ {A = ℕ} 0 1 = cc in absurd (omega arith)

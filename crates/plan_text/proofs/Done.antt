@@ -31,19 +31,19 @@ use Rattle.residue.specs.Signed.{residueOf}
 use Rattle.sparse.specs.Matrix.{matrix, form}
 use Rattle.sparse.proofs.Rows.{form-paired}
 use Rattle.grouping.specs.Members.{Member}
-use Rattle.plan_text.specs.declared.header.Header.{Header}
-use Rattle.plan_text.specs.declared.header.Header.the-variants.{Given, NotHeader}
-use Rattle.plan_text.specs.declared.line.Line.{Line}
-use Rattle.plan_text.specs.declared.line.Line.the-variants.{Triple, NotTriple}
-use Rattle.plan_text.specs.declared.judge.Sizes.{Sizes}
-use Rattle.plan_text.specs.declared.judge.Verdict.{Verdict}
-use Rattle.plan_text.specs.declared.judge.Verdict.the-variants.{Refused, Last, Entry as AnEntry}
+use Rattle.plan_lines.specs.declared.header.Header.{Header}
+use Rattle.plan_lines.specs.declared.header.Header.the-variants.{Given, NotHeader}
+use Rattle.plan_lines.specs.declared.line.Line.{Line}
+use Rattle.plan_lines.specs.declared.line.Line.the-variants.{Triple, NotTriple}
+use Rattle.plan_lines.specs.declared.judge.Sizes.{Sizes}
+use Rattle.plan_lines.specs.declared.judge.Verdict.{Verdict}
+use Rattle.plan_lines.specs.declared.judge.Verdict.the-variants.{Refused, Last, Entry as AnEntry}
 use Rattle.plan_text.specs.declared.Reading.{Reading}
 use Rattle.call_tests.specs.Limits.{largestSize}
 use Rattle.call_tests.specs.Accepted.{GoodPlan}
 use Rattle.plan_text.specs.Limits.{largestText, startsLength}
-use Rattle.plan_text.specs.Line.{headerOf}
-use Rattle.plan_text.specs.Judge.{judge, inRange, isLast, within, residueAt}
+use Rattle.plan_lines.specs.Line.{headerOf}
+use Rattle.plan_lines.specs.Judge.{judge, inRange, isLast, within, residueAt}
 use Rattle.plan_text.specs.Reading.{Entry, ReadResult, refused, accepted, fresh, ending, onward, triples, verdictOn, withSizes, fromSecond, withModulus, fromFirst, readBy, readOf}
 use Rattle.plan_text.specs.Rising.{readRisingOf}
 use Rattle.plan_text.specs.Stating.{States, StatedEntry, Plan, planText, entriesOf, integerOf}

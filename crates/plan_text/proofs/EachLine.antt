@@ -11,7 +11,7 @@ use Rattle.fields.specs.Pieces.{Pieces, last, more, prepend, pieces}
 use Rattle.fields.proofs.Cuts.{piece-end, piece-last, piece-more}
 use Rattle.line_reader.specs.Line.{lineAt, lineEnd, Ends}
 use Rattle.line_reader.specs.declared.Place.{Place}
-use Rattle.plan_text.specs.declared.judge.Sizes.{Sizes}
+use Rattle.plan_lines.specs.declared.judge.Sizes.{Sizes}
 use Rattle.plan_text.specs.Reading.{Entry, refused, accepted, ending}
 use Rattle.plan_text.specs.Call.{Limits}
 

@@ -14,12 +14,12 @@ use Rattle.fields.proofs.Cuts.{piece-end, piece-last, piece-more}
 use Rattle.line_reader.specs.Line.{lineAt, lineEnd, Ends}
 use Rattle.line_reader.specs.declared.Place.{Place}
 use Rattle.residue.specs.Range.{isModulus}
-use Rattle.plan_text.specs.declared.judge.Sizes.{Sizes}
-use Rattle.plan_text.specs.declared.header.Header.{Header}
-use Rattle.plan_text.specs.declared.header.Header.the-variants.{Given, NotHeader}
+use Rattle.plan_lines.specs.declared.judge.Sizes.{Sizes}
+use Rattle.plan_lines.specs.declared.header.Header.{Header}
+use Rattle.plan_lines.specs.declared.header.Header.the-variants.{Given, NotHeader}
 use Rattle.call_tests.specs.Limits.{largestSize}
 use Rattle.plan_text.specs.Limits.{largestText}
-use Rattle.plan_text.specs.Line.{headerOf}
+use Rattle.plan_lines.specs.Line.{headerOf}
 use Rattle.plan_text.specs.Reading.{Entry, refused, triples, withSizes, fromSecond, withModulus, fromFirst, readBy}
 use Rattle.plan_text.specs.Call.{Limits, Second}
 

@@ -13,17 +13,17 @@ use Rattle.lists.specs.declared.Outcome.the-variants.{Passed, Refused}
 use Rattle.fields.specs.Pieces.{Pieces, pieces}
 use Rattle.line_reader.specs.Line.{lineAt, lineEnd, Ends}
 use Rattle.line_reader.specs.declared.Place.{Place}
-use Rattle.plan_text.specs.declared.judge.Sizes.{Sizes}
-use Rattle.plan_text.specs.declared.sight.Sight.{Sight}
-use Rattle.plan_text.specs.declared.sight.Sight.the-variants.{Stops, Finishes, Stands, Fails}
-use Rattle.plan_text.specs.Line.{lineOf}
-use Rattle.plan_text.specs.Sight.{sight}
+use Rattle.plan_lines.specs.declared.judge.Sizes.{Sizes}
+use Rattle.plan_lines.specs.declared.sight.Sight.{Sight}
+use Rattle.plan_lines.specs.declared.sight.Sight.the-variants.{Stops, Finishes, Stands, Fails}
+use Rattle.plan_lines.specs.Line.{lineOf}
+use Rattle.plan_lines.specs.Sight.{sight}
 use Rattle.plan_text.specs.Reading.{Entry, ReadResult, refused, kept, ending}
 use Rattle.plan_text.specs.Call.{Limits}
 use Rattle.plan_text.specs.Collect.{Collected, tripleOf, gather, collect, outcomeOf, tripleIn, Held}
 use Rattle.plan_text.specs.Needs.{mostLines, Keepable, Collectable, Collects}
-use Rattle.plan_text.proofs.Verdicts.{within-bounds}
-use Rattle.plan_text.proofs.Sights.{Placed, Places, sight-places}
+use Rattle.plan_lines.proofs.Verdicts.{within-bounds}
+use Rattle.plan_lines.proofs.Sights.{Placed, Places, sight-places}
 use Rattle.plan_text.proofs.Storing.{kept-zero, kept-more}
 use Rattle.plan_text.proofs.EachLine.{ending-none, ending-some, no-lines, last-line, next-place, line-more, next-limits}
 use Rattle.plan_text.proofs.Accepted.{line-prints}

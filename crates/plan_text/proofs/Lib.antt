@@ -1,7 +1,4 @@
 pub mod Moduli
-pub mod Cutting
-pub mod Verdicts
-pub mod Sights
 pub mod FirstLines
 pub mod StoredForm
 pub mod Storing

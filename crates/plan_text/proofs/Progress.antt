@@ -10,13 +10,13 @@ use borrow.Author.Tests.{eqb-true, eqb-false, ne-eqb, leb-false}
 use Rattle.fields.specs.Pieces.{Pieces, pieces}
 use Rattle.line_reader.specs.Line.{lineAt, lineEnd, Ends}
 use Rattle.line_reader.specs.declared.Place.{Place}
-use Rattle.plan_text.specs.declared.judge.Sizes.{Sizes}
-use Rattle.plan_text.specs.declared.judge.Verdict.{Verdict}
-use Rattle.plan_text.specs.declared.judge.Verdict.the-variants.{Refused, Last, Entry as AnEntry}
+use Rattle.plan_lines.specs.declared.judge.Sizes.{Sizes}
+use Rattle.plan_lines.specs.declared.judge.Verdict.{Verdict}
+use Rattle.plan_lines.specs.declared.judge.Verdict.the-variants.{Refused, Last, Entry as AnEntry}
 use Rattle.plan_text.specs.declared.triples.TripleLines.the-variants.{Read}
 use Rattle.plan_text.specs.Limits.{startsLength}
-use Rattle.plan_text.specs.Line.{lineOf}
-use Rattle.plan_text.specs.Judge.{judge, mayStand, before}
+use Rattle.plan_lines.specs.Line.{lineOf}
+use Rattle.plan_lines.specs.Judge.{judge, mayStand, before}
 use Rattle.plan_text.specs.Reading.{Entry, ReadResult, refused, accepted, kept, onward, triples, verdictOn}
 use Rattle.plan_text.specs.Rising.{lastRow, lastColumn, rises}
 use Rattle.plan_text.specs.Stored.{startsOf, RowsWithin, EntriesStored, Storable}
@@ -24,7 +24,7 @@ use Rattle.plan_text.specs.Call.{Begins, Limits, Shows}
 use Rattle.plan_text.proofs.EachLine.{ending-none, ending-some, no-lines, last-line, next-place, line-more, next-limits}
 use Rattle.plan_text.proofs.StoredForm.{starts-length, columns-length, values-length}
 use Rattle.plan_text.proofs.Storing.{cleared-stores-none, kept-zero, kept-more}
-use Rattle.plan_text.proofs.Verdicts.{IsEntry, judged-entry, within-bounds, before-row}
+use Rattle.plan_lines.proofs.Verdicts.{IsEntry, judged-entry, within-bounds, before-row}
 
 -- the loop before the line at `here`, after the triple at a and b, with so many entries stored
 pub record Progress (text : List ℕ) (from : Place) (s : Sizes) (room : ℕ) (st co va : List ℕ) (here : Place) (a b count : ℕ) : Type 0 where

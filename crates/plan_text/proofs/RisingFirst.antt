@@ -17,22 +17,22 @@ use Rattle.fields.specs.declared.numbers.Number.the-variants.{Value, NotNumber}
 use Rattle.residue.specs.Range.{isModulus}
 use Rattle.call_tests.specs.Limits.{largestSize}
 use Rattle.plan_text.specs.Limits.{largestText}
-use Rattle.plan_text.specs.Line.{lineOf, headerOf}
-use Rattle.plan_text.specs.Judge.{mayStand, before}
+use Rattle.plan_lines.specs.Line.{lineOf, headerOf}
+use Rattle.plan_lines.specs.Judge.{mayStand, before}
 use Rattle.plan_text.specs.Reading.{Entry, ReadResult, refused, accepted, kept, fresh, placed, ending, onward, triples, withSizes, fromSecond, withModulus, fromFirst, readBy, readOf}
 use Rattle.plan_text.specs.Rising.{lastRow, lastColumn, rises, readRisingOf}
 use Rattle.plan_text.specs.Call.{answerBy, answerOf, answerRisingOf}
-use Rattle.plan_text.specs.declared.header.Header.{Header}
-use Rattle.plan_text.specs.declared.header.Header.the-variants.{Given, NotHeader}
-use Rattle.plan_text.specs.declared.judge.Sizes.{Sizes}
-use Rattle.plan_text.proofs.Verdicts.{within-bounds}
-use Rattle.plan_text.specs.declared.sight.Sight.{Sight}
-use Rattle.plan_text.specs.declared.sight.Sight.the-variants.{Stops, Finishes, Stands, Fails}
-use Rattle.plan_text.specs.Sight.{sight, judgedFrom}
+use Rattle.plan_lines.specs.declared.header.Header.{Header}
+use Rattle.plan_lines.specs.declared.header.Header.the-variants.{Given, NotHeader}
+use Rattle.plan_lines.specs.declared.judge.Sizes.{Sizes}
+use Rattle.plan_lines.proofs.Verdicts.{within-bounds}
+use Rattle.plan_lines.specs.declared.sight.Sight.{Sight}
+use Rattle.plan_lines.specs.declared.sight.Sight.the-variants.{Stops, Finishes, Stands, Fails}
+use Rattle.plan_lines.specs.Sight.{sight, judgedFrom}
 use Rattle.plan_text.specs.Collect.{tripleOf}
 use Rattle.plan_text.proofs.Kept.{kept-all, Earlier, kept-pairwise}
 use Rattle.plan_text.proofs.Scattered.{rowOf, columnOf}
-use Rattle.plan_text.proofs.Sights.{Places, judged-sight, sight-places}
+use Rattle.plan_lines.proofs.Sights.{Places, judged-sight, sight-places}
 use Rattle.grouping.proofs.Every.{All, all-map, pairwise-with}
 use Rattle.grouping.proofs.Groups.{Then, grouped-twice}
 

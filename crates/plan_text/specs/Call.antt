@@ -29,7 +29,7 @@ use Rattle.plan_text.specs.Reading.{Entry, kept, placed, ReadResult, ref
 use Rattle.plan_text.specs.Rising.{lastRow}
 use Rattle.plan_text.specs.Stored.{startsOf, columnsOf, valuesOf, EntriesStored}
 use Rattle.plan_text.specs.declared.Reading.{Reading}
-use Rattle.plan_text.specs.declared.judge.Sizes.{Sizes}
+use Rattle.plan_lines.specs.declared.judge.Sizes.{Sizes}
 use Rattle.plan_text.specs.declared.opening.Opening.{Opening}
 use Rattle.plan_text.specs.declared.opening.Opening.the-variants.{Refused as NotOpened, Opened}
 use Rattle.plan_text.specs.declared.triples.TripleLines.{TripleLines}

@@ -19,12 +19,12 @@ use Rattle.lists.specs.declared.Outcome.{Outcome}
 use Rattle.lists.specs.declared.Outcome.the-variants.{Passed, Refused}
 use Rattle.grouping.specs.Grouping.{keyOf, grouped}
 use Rattle.fields.specs.Pieces.{Pieces, last, more}
-use Rattle.plan_text.specs.Line.{lineOf}
-use Rattle.plan_text.specs.Sight.{sight}
+use Rattle.plan_lines.specs.Line.{lineOf}
+use Rattle.plan_lines.specs.Sight.{sight}
 use Rattle.plan_text.specs.Reading.{Entry, ReadResult, refused, accepted, kept, fresh, ending}
-use Rattle.plan_text.specs.declared.judge.Sizes.{Sizes}
-use Rattle.plan_text.specs.declared.sight.Sight.{Sight}
-use Rattle.plan_text.specs.declared.sight.Sight.the-variants.{Stops, Finishes, Stands, Fails}
+use Rattle.plan_lines.specs.declared.judge.Sizes.{Sizes}
+use Rattle.plan_lines.specs.declared.sight.Sight.{Sight}
+use Rattle.plan_lines.specs.declared.sight.Sight.the-variants.{Stops, Finishes, Stands, Fails}
 
 pub record Collected : Type 0 where
   pub all : List Entry

@@ -1,7 +1,4 @@
 pub mod Limits
-pub mod Line
-pub mod Judge
-pub mod Sight
 pub mod Reading
 pub mod Rising
 pub mod Stored

@@ -16,7 +16,7 @@ use Rattle.call_tests.specs.Limits.{largestSize}
 use Rattle.plan_text.specs.Reading.{kept}
 use Rattle.plan_text.specs.Call.{Limits, Cleared}
 use Rattle.plan_text.specs.Collect.{Collected, outcomeOf, tripleIn, Held}
-use Rattle.plan_text.specs.declared.judge.Sizes.{Sizes}
+use Rattle.plan_lines.specs.declared.judge.Sizes.{Sizes}
 use Rattle.plan_text.specs.declared.collecting.Gathered.{Gathered}
 
 abbrev pub mostLines : ℕ

@@ -25,13 +25,13 @@ use Rattle.fields.specs.declared.numbers.Number.the-variants.{Value, NotNumber}
 use Rattle.residue.specs.Range.{isModulus}
 use Rattle.call_tests.specs.Limits.{largestSize}
 use Rattle.plan_text.specs.Limits.{largestText}
-use Rattle.plan_text.specs.Line.{lineOf, headerOf}
-use Rattle.plan_text.specs.Judge.{judge, mayStand}
-use Rattle.plan_text.specs.declared.header.Header.{Header}
-use Rattle.plan_text.specs.declared.header.Header.the-variants.{Given, NotHeader}
-use Rattle.plan_text.specs.declared.judge.Sizes.{Sizes}
-use Rattle.plan_text.specs.declared.judge.Verdict.{Verdict}
-use Rattle.plan_text.specs.declared.judge.Verdict.the-variants.{Refused, Last, Entry as AnEntry}
+use Rattle.plan_lines.specs.Line.{lineOf, headerOf}
+use Rattle.plan_lines.specs.Judge.{judge, mayStand}
+use Rattle.plan_lines.specs.declared.header.Header.{Header}
+use Rattle.plan_lines.specs.declared.header.Header.the-variants.{Given, NotHeader}
+use Rattle.plan_lines.specs.declared.judge.Sizes.{Sizes}
+use Rattle.plan_lines.specs.declared.judge.Verdict.{Verdict}
+use Rattle.plan_lines.specs.declared.judge.Verdict.the-variants.{Refused, Last, Entry as AnEntry}
 
 pub record Entry : Type 0 where
   pub row : ℕ

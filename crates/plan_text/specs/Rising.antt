@@ -1,11 +1,11 @@
 -- The reading as it was while triples had to rise: by row, then by column. It is kept to say that what it accepted is read as it was.
 --   lastRow, lastColumn      where the latest triple seen stands, 0 and 0 before the first
---   rises seen i j           i and j stand after every triple seen
+--   rises seen i j           i and j stand after the latest triple seen
 --   readRisingOf room text   a text read whose triples rise
 use Prim.Native.Nat.{ℕ}
 use mathlib.Core.List.{List, [], _∷_}
 use mathlib.Core.Bool.{Bool}
-use Rattle.plan_text.specs.Judge.{before}
+use Rattle.plan_lines.specs.Judge.{before}
 use Rattle.plan_text.specs.Reading.{Entry, ReadResult, readBy}
 
 abbrev pub lastRow : List Entry → ℕ

@@ -7,10 +7,10 @@ ghost use lib.ListN.{length, drop, set};
 ghost use Rattle.fields.specs.Pieces.{pieces};
 ghost use Rattle.plan_text.specs.Collect.{collect};
 ghost use Rattle.plan_text.specs.Needs.{Keepable, Collectable, Collects};
-use crate::judge::Sizes;
-use crate::sight::Sight;
 use line_reader::Place;
 use lists::Outcome;
+use plan_lines::judge::Sizes;
+use plan_lines::sight::Sight;
 
 // How many lines were collected, and what ended it, places that are taken twice left aside: the last line, or a refusal.
 pub struct Gathered {
@@ -82,8 +82,8 @@ pub fn collect_lines(
             return Gathered { count, outcome };
         }
         let next = line_reader::next_from(text, here.at, line, l.len());
-        let said = crate::line::line_of(l);
-        match crate::sight::sight_of(room <= stored, s, said) {
+        let said = plan_lines::line::line_of(l);
+        match plan_lines::sight::sight_of(room <= stored, s, said) {
             Sight::Stops(number) => {
                 let outcome = Outcome::Refused(number, line);
                 return Gathered { count, outcome };

@@ -1,22 +1,18 @@
-// Reads a plan text (document 01, "Plan text") into lent lists.
+// Reads a plan text (document 01, "Plan text"; triples in any order, document 02, slip 2) into lent lists.
 ghost use mathlib.Core.Path.{_≡_};
 ghost use mathlib.Core.List.{[]};
 ghost use lib.ListN.{length, drop};
 ghost use Rattle.fields.specs.Pieces.{pieces};
 ghost use Rattle.plan_text.specs.Reading.{fresh, triples, readOf};
 ghost use Rattle.plan_text.specs.Call.{answerOf, callOf, refusalOf, Gives, Cleared, Begins, Settles};
-use judge::Sizes;
 use line_reader::Place;
 use opening::Opening;
+use plan_lines::judge::Sizes;
 use triples::TripleLines;
 
 pub mod collecting;
 pub mod filling;
-pub mod header;
-pub mod judge;
-pub mod line;
 pub mod opening;
-pub mod sight;
 pub mod sorting;
 pub mod triples;
 
@@ -46,8 +42,8 @@ fn refusal(number: u32, detail: u32) -> Reading
     }
 }
 
-// The lines from the third one on, into lists that are all zero. Most texts list their triples by row and column and are read as they stand; only where
-// a triple does not come after the one before are the lines read once more and sorted.
+// The lines from the third one on, into lists that are all zero. A text whose triples rise is read once, as it stands; only where a triple
+// does not come after the one before are the lines read once more and sorted.
 fn read_lines(
     text: &[u8],
     third: Place,

@@ -8,10 +8,10 @@ ghost use Rattle.fields.specs.Pieces.{pieces};
 ghost use Rattle.residue.specs.Range.{isModulus};
 ghost use Rattle.plan_text.specs.Reading.{Entry, fromSecond, readBy};
 ghost use Rattle.plan_text.specs.Call.{afterOpen, Bounded, Second};
-use crate::header::Header;
-use crate::judge::Sizes;
 use fields::numbers::Number;
 use line_reader::Place;
+use plan_lines::header::Header;
+use plan_lines::judge::Sizes;
 use residue::Modulus;
 
 const LARGEST_TEXT: usize = 65536;
@@ -45,7 +45,7 @@ fn open_second(text: &[u8], second: Place, modulus: Modulus) -> Opening
         return Opening::Refused { number: 3, detail };
     }
     let third = line_reader::next_from(text, second.at, second.line, l.len());
-    match crate::header::header_of(l) {
+    match plan_lines::header::header_of(l) {
         Header::Given { n, m } => {
             if LARGEST_SIZE < n {
                 return Opening::Refused {

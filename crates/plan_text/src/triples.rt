@@ -5,9 +5,9 @@ ghost use Rattle.fields.specs.Pieces.{pieces};
 ghost use Rattle.plan_text.specs.Reading.{triples};
 ghost use Rattle.plan_text.specs.Rising.{rises};
 ghost use Rattle.plan_text.specs.Call.{Begins, Shows};
-use crate::judge::Sizes;
-use crate::judge::Verdict;
 use line_reader::Place;
+use plan_lines::judge::Sizes;
+use plan_lines::judge::Verdict;
 
 // What they come to: a refusal and its line, or the number of entries and the row of the last triple.
 pub enum TripleLines {
@@ -39,7 +39,7 @@ pub fn read_triples(
             return TripleLines::Refused { number: 3, line };
         }
         let next = line_reader::next_from(text, here.at, line, l.len());
-        let verdict = crate::judge::judge_after(a, b, room <= count as usize, s, l);
+        let verdict = plan_lines::judge::judge_after(a, b, room <= count as usize, s, l);
         match verdict {
             Verdict::Refused(number) => {
                 return TripleLines::Refused { number, line };

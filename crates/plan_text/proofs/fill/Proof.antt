@@ -9,7 +9,7 @@ use Rattle.lists.specs.Filled.{zeros}
 use Rattle.lists.proofs.Filled.{length-zeros}
 use Rattle.fields.specs.Pieces.{Pieces, pieces}
 use Rattle.line_reader.specs.declared.Place.{Place}
-use Rattle.plan_text.specs.declared.judge.Sizes.{Sizes}
+use Rattle.plan_lines.specs.declared.judge.Sizes.{Sizes}
 use Rattle.plan_text.specs.declared.opening.Opening.{Opening}
 use Rattle.plan_text.specs.Limits.{startsLength}
 use Rattle.plan_text.specs.Reading.{ReadResult, fresh, readOf, triples}

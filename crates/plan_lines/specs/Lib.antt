@@ -1,0 +1,3 @@
+pub mod Line
+pub mod Judge
+pub mod Sight
