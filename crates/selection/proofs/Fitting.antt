@@ -1,4 +1,5 @@
 -- The columns that a row may still take, by the test of each.
+--   fit-inside                 the column at a place has a cell
 --   Before                     the loop's invariant
 --   before-none, before-more   its start, and a turn
 --   next-found, next-none      the loop's two ends
@@ -16,6 +17,7 @@ use borrow.Author.Count.{below-more}
 use borrow.Author.Tests.{eqb-true, eq-eqb}
 use Rattle.lists.proofs.Bools.{and-left, and-right}
 use Rattle.selection.specs.Search.{Passed, NextFit}
+use Rattle.selection.specs.Needs.{FitReady}
 
 module _ (cell stamp mark : ℕ) where
   fit-cell : (eqb cell 0 && not (eqb stamp mark)) ≡ true → cell ≡ 0
@@ -31,6 +33,10 @@ unfit-passed w stamps mark j e = go (eqb (getD w j 0) 0) refl (eqb (getD stamps 
     go true s true u e = inr (eqb-true (getD stamps j 0) mark u)
     go true s false u e = absurd (true≢false e)
     go false s c u e = inl (λ z. true≢false (sym (eq-eqb (getD w j 0) 0 z) ∙ s))
+
+-- the column at a place has a cell
+pub fit-inside : {row w stamps : List ℕ} → FitReady row w stamps → {t j : ℕ} → j ≡ getD row t 0 → t < length row → j < length w
+fit-inside r {t} e h = omega (arith, r .inside t h)
 
 -- the columns from a place on and before place t are used or stamped
 pub record Before (row w stamps : List ℕ) (mark from t : ℕ) : Type 0 where

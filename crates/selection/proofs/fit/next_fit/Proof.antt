@@ -4,7 +4,7 @@ use mathlib.Core.Path.{sym, _∙_}
 use native.Mathlib.Omega.{arith}
 use lib.ListN.{length}
 use borrow.Author.Needs.{needs}
-use Rattle.selection.proofs.Fitting.{Before, before-none, before-more, next-found, next-none}
+use Rattle.selection.proofs.Fitting.{fit-inside, Before, before-none, before-more, next-found, next-none}
 use Rattle.selection.proofs.fit.next_fit.Statement.{statement}
 use Rattle.selection.proofs.fit.next_fit.Tie as tie
 
@@ -19,7 +19,7 @@ start c = c .before .before .before .before .before .before .before
 
 -- the column has a cell
 inside : (c : tie.After-index Inv-loop μ-loop) → c .index .result < length (start c .args .work .now)
-inside c = omega (arith, c .index .ensures, start c .pre .inside (c .before .before .before .loop .t) (c .before .before .loop-test .taken))
+inside c = fit-inside (start c .pre) (c .index .ensures) (omega (arith, c .before .before .loop-test .taken))
 
 loop-holds : tie.Need-loop-holds Inv-loop μ-loop
 loop-holds c = before-none _ _ _ _ _

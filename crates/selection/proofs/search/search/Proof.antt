@@ -1,6 +1,6 @@
 -- `search` meets its contract; the loop's invariant is `Reaching` and the place of the lowest candidate that is left, the measure the columns that can
 -- still leave the queue. Assumes nothing.
-use Prim.Native.Nat.{_-_, _<_}
+use Prim.Native.Nat.{_-_, _≤_, _<_}
 use mathlib.Core.Path.{sym, _∙_}
 use native.Mathlib.Omega.{arith}
 use lib.ListN.{length}
@@ -50,6 +50,10 @@ place c = omega (arith, c .if1 .left, trail-few _ _ _ _ _ (c .before .before .lo
 -- the column that stands there has a cell
 inside : (c : tie.After-index2 Inv-loop μ-loop) → c .index2 .result < length (start (turn c .before .before) .args .work .now)
 inside c = let e = turn c in let l = e .before .before in next-column (start l .pre) (l .loop .inv .0) (e .if1 .left) _ (c .index2 .ensures)
+
+-- the place is before the queue's end, also after the visit
+before-end : (c : tie.After-visit2 Inv-loop μ-loop) → let l = turn (queued c) .before .before in (l .loop .head < c .visit2 .result) × (c .visit2 .result ≤ length (start l .args .work .now))
+before-end c = (omega (arith, turn (queued c) .if1 .left, c .visit2 .ensures .tail-grows), trail-few _ _ _ _ _ (c .visit2 .ensures .trail))
 
 columns-of-requires : tie.Need-columns-of-requires Inv-loop μ-loop
 columns-of-requires c κs = own-stored (c .before .before .before .before .before .before .before .pre)
@@ -112,14 +116,14 @@ visit-requires-2 c κs = let o = c .before .before in let i = o .before .before 
     next-ready (start l .pre) (l .loop .inv .0) (e .if1 .left) _ (i .index2 .ensures) _ (o .columns-of2 .ensures)
 
 add-head : tie.Need-add-head Inv-loop μ-loop
-add-head c = let e = turn (queued (c .before .before .before .before)) in omega (arith, place e, start (e .before .before) .pre .sized .m-small)
+add-head c = let u = c .before .before .before .before in let e = before-end u in omega (arith, e .0, e .1, start (turn (queued u) .before .before) .pre .sized .m-small)
 
 next-fit-requires-2 : tie.Need-next-fit-requires-2 Inv-loop μ-loop
 next-fit-requires-2 c κs = let u = visited c in let l = turn (queued u) .before .before in
     fit-ready (start l .pre) _ (row (first l) .columns-of .ensures) _ (u .visit2 .ensures .trail .stamps-long)
 
 loop-less : tie.Need-loop-less Inv-loop μ-loop
-loop-less c = omega (arith, place (turn (queued (visited (c .before)))))
+loop-less c = let e = before-end (visited (c .before)) in omega (arith, e .0, e .1)
 
 loop-again : tie.Need-loop-again Inv-loop μ-loop
 loop-again c = let u = visited (c .before) in let i = queued u in let e = turn i in let l = e .before .before in (
