@@ -16,9 +16,8 @@ use Rattle.lists.proofs.Tests.{first-before, first-here}
 use Rattle.algebra.specs.Matrix.{Matrix}
 use Rattle.elimination.specs.Structural.{Pair}
 use Rattle.elimination.specs.Pairs.{Pairs, pairRows, pairColumns}
-use Rattle.elimination.specs.Members.{isIn}
+use Rattle.elimination.specs.Members.{isIn, In}
 use Rattle.elimination.proofs.Pairs.{noPair}
-use Rattle.elimination.specs.Members.{In}
 use Rattle.elimination.specs.Chains.{chain, closes}
 use Rattle.elimination.specs.Selection.{nonzero, pairAt, unfit, extended, extendedTo, Apart}
 use Rattle.elimination.proofs.Members.{here, in-snoc, in-place, not-named, apart-snoc, at-apart}

@@ -13,9 +13,8 @@ use lib.ListN.{length, getD}
 use borrow.Author.Tests.{eqb-true, eq-eqb}
 use Rattle.lists.proofs.Bools.{or-right}
 use Rattle.elimination.specs.Structural.{Pair}
-use Rattle.elimination.specs.Members.{isIn}
+use Rattle.elimination.specs.Members.{isIn, In}
 use Rattle.elimination.proofs.Pairs.{noPair}
-use Rattle.elimination.specs.Members.{In}
 use Rattle.elimination.specs.Selection.{Apart}
 
 pub later : (q : Pair) (qs : List Pair) (b : Pair) → In b qs → In b (q ∷ qs)

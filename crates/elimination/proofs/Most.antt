@@ -12,7 +12,7 @@ use Rattle.algebra.proofs.Dot.{below-suc}
 use Rattle.elimination.specs.Structural.{Pair}
 use Rattle.elimination.specs.Pairs.{pairRows, pairColumns}
 use Rattle.elimination.specs.Members.{isIn, In}
-use Rattle.elimination.specs.Chains.{Back, closes}
+use Rattle.elimination.specs.Chains.{closes}
 use Rattle.elimination.specs.Selection.{pairAt, unfit, extended, extendedTo, Takes, NoneLeft}
 use Rattle.elimination.proofs.Members.{in-front, in-last, not-named, named-fewer}
 use Rattle.elimination.proofs.Paths.{closes-back, back-closes, closes-wider}

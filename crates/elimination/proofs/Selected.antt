@@ -21,9 +21,8 @@ use Rattle.algebra.proofs.Finite.{pigeons}
 use Rattle.sparse.specs.Matrix.{Compressed, matrix, form}
 use Rattle.elimination.specs.Structural.{Pair, leading}
 use Rattle.elimination.specs.Pairs.{Pairs, pairRows, pairColumns}
-use Rattle.elimination.specs.Members.{isIn}
+use Rattle.elimination.specs.Members.{isIn, In}
 use Rattle.elimination.proofs.Pairs.{noPair, leading-pairs}
-use Rattle.elimination.specs.Members.{In}
 use Rattle.elimination.specs.Chains.{Back}
 use Rattle.elimination.specs.Selection.{nonzero, without, extendedTo, Ordering, selected, structural}
 use Rattle.elimination.proofs.Members.{in-at, named-fewer, apart-at}

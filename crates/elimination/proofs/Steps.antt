@@ -16,7 +16,7 @@ use mathlib.Core.Option.{Option, none, some}
 use native.Mathlib.Omega.{arith}
 use lib.Dec.{eqb, leb}
 use lib.ListN.{length}
-use borrow.Author.Tests.{eq-eqb, ne-eqb, le-leb, leb-true}
+use borrow.Author.Tests.{eq-eqb, ne-eqb, le-leb, lt-leb}
 use Rattle.lists.specs.Tests.{first}
 use Rattle.lists.proofs.Bools.{or-right}
 use Rattle.lists.proofs.Tests.{first-all, first-fails}
@@ -28,13 +28,6 @@ use Rattle.elimination.specs.Selection.{pairAt, unfit, extended, without
 use Rattle.elimination.proofs.Members.{apart-same}
 use Rattle.elimination.proofs.Paths.{closes-back, back-closes}
 use Rattle.elimination.proofs.Ordering.{Least, Lowest, lowest-right, Ranked, ordered-right, order-only}
-
-lt-leb : (m c : ℕ) → c < m → leb m c ≡ false
-lt-leb m c l = go (leb m c) refl
-  where
-    go : (t : Bool) → leb m c ≡ t → t ≡ false
-    go true e = absurd (omega (arith, leb-true m c e))
-    go false e = refl
 
 module _ (has : ℕ → ℕ → Bool) where
   -- ---- the search

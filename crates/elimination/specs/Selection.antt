@@ -1,5 +1,6 @@
 -- The structural pivots (document 01's rule 1, and document 02's slip 9): their choice and their order.
 --   nonzero A i j           row i of the matrix A has an entry in column j
+--   pairAt i c              the pair of row i and column c
 --   unfit has ps i j        row i has no entry in column j, or the column is used, or the pair (i, j) closes a cycle
 --   extended has m ps i     ps and row i with its lowest-numbered column that is fit; ps alone where row i is chosen or has no such column
 --   extendedTo has m ps n   the same for the rows below n, by number

@@ -4,7 +4,7 @@
 --   reaching-starts        the invariant after it
 --   next-ready ..          what the visit of a queued column's row needs
 --   reaching-turn          the invariant after it
---   reaching-ends          once all queued columns were visited the search is done
+--   reaching-ends          once all queued columns were visited exactly the columns that close a cycle with the row have the stamp
 use Prim.Native.Nat.{ℕ, suc, _+_, _-_, _≤_, _<_}
 use mathlib.Core.Path.{_≡_, refl, sym, ap, _∙_, subst}
 use mathlib.Core.Bool.{Bool, true, false, true≢false}
@@ -18,7 +18,7 @@ use borrow.Author.Tests.{eqb-true, eq-eqb}
 use Rattle.sparse.specs.Matrix.{Compressed, matrix, rowOf}
 use Rattle.elimination.specs.Structural.{Pair, leading}
 use Rattle.elimination.specs.Members.{In}
-use Rattle.elimination.specs.Chains.{one, Back}
+use Rattle.elimination.specs.Chains.{one, Back, closes}
 use Rattle.elimination.specs.Selection.{nonzero, pairAt}
 use Rattle.elimination.proofs.Pairs.{leading-pairs}
 use Rattle.elimination.proofs.Paths.{chain-join, entry-chain, path-chain, chain-path}
@@ -27,7 +27,7 @@ use Rattle.elimination.proofs.Steps.{Searched, searched}
 use Rattle.elimination.specs.Rules.{pivotsTo}
 use Rattle.naming.specs.Sized.{RowStored}
 use Rattle.naming.proofs.RowEntries.{row-stored, row-inside, row-has, has-row}
-use Rattle.selection.specs.Search.{Used, Trail, VisitReady, Visited, Reached}
+use Rattle.selection.specs.Search.{Used, Trail, VisitReady, Visited}
 use Rattle.selection.specs.Needs.{SearchReady}
 use Rattle.selection.proofs.Trails.{Got, visited-still, visited-kept}
 
@@ -42,7 +42,7 @@ back-on has ps i j q m b e =
     }
 
 -- cells that got the mark or were left, twice
-kept-then : {mark a b c : ℕ} → (b ≡ a) ⊎ (b ≡ mark) → (c ≡ b) ⊎ (c ≡ mark) → (c ≡ a) ⊎ (c ≡ mark)
+pub kept-then : {mark a b c : ℕ} → (b ≡ a) ⊎ (b ≡ mark) → (c ≡ b) ⊎ (c ≡ mark) → (c ≡ a) ⊎ (c ≡ mark)
 kept-then d (inr e) = inr e
 kept-then (inl d) (inl e) = inl (e ∙ d)
 kept-then (inr d) (inl e) = inr (e ∙ d)
@@ -134,36 +134,6 @@ module _ {p n i : ℕ} {A : Compressed} {w v stamps₀ queue₀ : List ℕ} {mar
           kept = λ j. inl refl;
         }
 
-    -- ---- the end
-
-    module _ (stamps₁ queue₁ : List ℕ) (tail₁ head : ℕ) (g : Reaching A n i mark w stamps stamps₁ queue₁ tail₁ head) (over : tail₁ ≤ head) where
-      -- the column of a pivot that the row has, or that is stamped, was in the queue
-      pivot-whole : (q : Pair) → In q ps → (has i (q .column) ≡ true) ⊎ (getD stamps₁ (q .column) 0 ≡ mark) → (j : ℕ) → has (q .row) j ≡ true → getD stamps₁ j 0 ≡ mark
-      pivot-whole q m d j e =
-          let cell : getD w (q .column) 0 ≡ suc (q .row) = h .named .by-column .all q m in
-          let used : Used w (q .column) = λ z. omega arith in
-          let s = g .trail .all (q .column) (sound .column q m) (stamped d used) used in
-          let named : q .row ≡ rowAt w (getD queue₁ (s .0) 0) = omega (arith, ap (λ (c : ℕ). getD w c 0) (s .2)) in
-          g .whole (s .0) (omega (arith, s .1)) j (subst (λ (k : ℕ). has k j ≡ true) named e)
-        where
-          stamped : (has i (q .column) ≡ true) ⊎ (getD stamps₁ (q .column) 0 ≡ mark) → Used w (q .column) → getD stamps₁ (q .column) 0 ≡ mark
-          stamped (inl e) a = g .own (q .column) e a
-          stamped (inr e) a = e
-
-      done : Searched has ps i (λ j. eqb (getD stamps₁ j 0) mark)
-      done =
-          record {
-            right = λ j e. g .back j (eqb-true (getD stamps₁ j 0) mark e);
-            whole = λ q m d j e. eq-eqb (getD stamps₁ j 0) mark (pivot-whole q m (plain q d) j e);
-          }
-        where
-          plain : (q : Pair) → (has i (q .column) ≡ true) ⊎ (eqb (getD stamps₁ (q .column) 0) mark ≡ true) → (has i (q .column) ≡ true) ⊎ (getD stamps₁ (q .column) 0 ≡ mark)
-          plain q (inl e) = inl e
-          plain q (inr e) = inr (eqb-true (getD stamps₁ (q .column) 0) mark e)
-
-      pub reaching-ends : Reached A n (length w) i mark stamps₀ stamps₁
-      reaching-ends = record { closing = λ j l. searched has ps i (λ j. eqb (getD stamps₁ j 0) mark) done j; kept = λ j. kept-then (visited-kept u j) (g .kept j) }
-
   -- ---- the next queued column
 
   module _ {stamps₁ stamps queue : List ℕ} {tail head : ℕ} (g : Reaching A n i mark w stamps₁ stamps queue tail head) (more : head < tail) (c : ℕ) (stands : c ≡ getD queue head 0) where
@@ -222,3 +192,33 @@ module _ {p n i : ℕ} {A : Compressed} {w v stamps₀ queue₀ : List ℕ} {mar
             back = next-back;
             kept = λ j. kept-then (g .kept j) (visited-kept u j);
           }
+
+  -- ---- the end
+
+  module _ {stamps₁ stamps queue : List ℕ} {tail head : ℕ} (g : Reaching A n i mark w stamps₁ stamps queue tail head) (over : tail ≤ head) where
+    -- the column of a pivot that the row has, or that is stamped, was in the queue
+    pivot-whole : (q : Pair) → In q ps → (has i (q .column) ≡ true) ⊎ (getD stamps (q .column) 0 ≡ mark) → (j : ℕ) → has (q .row) j ≡ true → getD stamps j 0 ≡ mark
+    pivot-whole q m d j e =
+        let cell : getD w (q .column) 0 ≡ suc (q .row) = h .named .by-column .all q m in
+        let used : Used w (q .column) = λ z. omega arith in
+        let s = g .trail .all (q .column) (sound .column q m) (stamped d used) used in
+        let named : q .row ≡ rowAt w (getD queue (s .0) 0) = omega (arith, ap (λ (c : ℕ). getD w c 0) (s .2)) in
+        g .whole (s .0) (omega (arith, s .1)) j (subst (λ (k : ℕ). has k j ≡ true) named e)
+      where
+        stamped : (has i (q .column) ≡ true) ⊎ (getD stamps (q .column) 0 ≡ mark) → Used w (q .column) → getD stamps (q .column) 0 ≡ mark
+        stamped (inl e) a = g .own (q .column) e a
+        stamped (inr e) a = e
+
+    done : Searched has ps i (λ j. eqb (getD stamps j 0) mark)
+    done =
+        record {
+          right = λ j e. g .back j (eqb-true (getD stamps j 0) mark e);
+          whole = λ q m d j e. eq-eqb (getD stamps j 0) mark (pivot-whole q m (plain q d) j e);
+        }
+      where
+        plain : (q : Pair) → (has i (q .column) ≡ true) ⊎ (eqb (getD stamps (q .column) 0) mark ≡ true) → (has i (q .column) ≡ true) ⊎ (getD stamps (q .column) 0 ≡ mark)
+        plain q (inl e) = inl e
+        plain q (inr e) = inr (eqb-true (getD stamps (q .column) 0) mark e)
+
+    pub reaching-ends : (j : ℕ) → eqb (getD stamps j 0) mark ≡ closes has ps i j
+    reaching-ends j = searched has ps i (λ j. eqb (getD stamps j 0) mark) done j

@@ -1,8 +1,8 @@
 -- What the selection of pivots starts from.
---   NameReady A n m w v        the cells of w name document 01's pivots, and v is all zero
+--   NameReady p n A w v        the cells of w name document 01's pivots, and v is all zero
 --   SearchReady p n i A ..     what a search from row i needs: no column has its mark yet
 --   ExtendReady p n i A ..     what taking row i needs: the rows below it were taken, and no column has its mark
---   Extended A n m i ..        row i was taken, and no column has a later mark
+--   Extended A n m i ..        the rows below i were taken, and no column has a later mark than theirs
 --   SelectReady p n A ..       what taking all rows needs
 --   FitReady row w stamps      the columns of a row have cells
 use Prim.Native.Nat.{ℕ, _≤_, _<_}

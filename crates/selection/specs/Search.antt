@@ -1,22 +1,23 @@
 -- The search for what a row reaches through pivots. A column is stamped with the search's mark when it is reached, and queued once if it is used.
+--   Used w j                column j is used: its cell names a row
 --   Wanted own w j          column j is to be stamped: of the searching row's own columns the used ones alone
 --   Trail w stamps queue k t   the first t cells of the queue are the used columns with the stamp k, each once
 --   TouchReady ..           what one column needs
 --   VisitReady ..           what visiting the columns of a row needs
 --   Visited own row ..      the wanted columns of the row have the stamp, and no other column got it; the queue only grew
---   Reached A n m i ..      exactly the columns that close a cycle with row i have the stamp
---   Lowest row w stamps k r    r is the first column of the row that is neither used nor stamped, the width where there is none
+--   Passed w stamps k j     column j is used or stamped: no candidate, or one no more
+--   NextFit row w stamps k f t   t is the first place of the row from f on whose column is neither used nor stamped, past the row's end where there is none
+--   Survivor A n m i ..     r is the column that row i takes, the width where it takes none; no column got another stamp
 use Prim.Native.Nat.{ℕ, _≤_, _<_}
 use mathlib.Core.Path.{_≡_}
 use mathlib.Core.Bool.{Bool, false}
 use mathlib.Core.Logic.{_⊎_}
 use mathlib.Core.List.{List}
-use lib.Dec.{eqb}
 use lib.ListN.{length, getD}
+use Rattle.lists.specs.Tests.{first}
 use Rattle.algebra.specs.Matrix.{Distinct, vector}
 use Rattle.sparse.specs.Matrix.{Compressed, matrix}
-use Rattle.elimination.specs.Chains.{closes}
-use Rattle.elimination.specs.Selection.{nonzero}
+use Rattle.elimination.specs.Selection.{nonzero, unfit}
 use Rattle.elimination.specs.Rules.{pivotsTo}
 
 abbrev pub Used : List ℕ → ℕ → Type 0
@@ -49,16 +50,15 @@ pub record Visited (own : Bool) (row w stamps₀ queue₀ : List ℕ) (mark tail
   pub stamped : (t : ℕ) → t < length row → Wanted own w (getD row t 0) → getD stamps (getD row t 0) 0 ≡ mark
   pub kept : (j : ℕ) → (getD stamps j 0 ≡ getD stamps₀ j 0) ⊎ ((t : ℕ) × (t < length row) × (getD row t 0 ≡ j) × Wanted own w j × (getD stamps j 0 ≡ mark))
 
-pub record Reached (A : Compressed) (n m i : ℕ) (mark : ℕ) (stamps₀ stamps : List ℕ) : Type 0 where
-  pub closing : (j : ℕ) → j < m → eqb (getD stamps j 0) mark ≡ closes (nonzero (matrix A)) (pivotsTo A n m i) i j
-  pub kept : (j : ℕ) → (getD stamps j 0 ≡ getD stamps₀ j 0) ⊎ (getD stamps j 0 ≡ mark)
-
 -- ---- the choice
 
 abbrev pub Passed : List ℕ → List ℕ → ℕ → ℕ → Type 0
 Passed w stamps mark j = Used w j ⊎ (getD stamps j 0 ≡ mark)
 
-pub record Lowest (row w stamps : List ℕ) (mark r : ℕ) : Type 0 where
-  pub place : ℕ
-  pub before : (t : ℕ) → t < place → t < length row → Passed w stamps mark (getD row t 0)
-  pub here : ((length row ≤ place) × (r ≡ length w)) ⊎ ((place < length row) × (r ≡ getD row place 0) × (getD w r 0 ≡ 0) × ¬ (getD stamps r 0 ≡ mark))
+pub record NextFit (row w stamps : List ℕ) (mark from place : ℕ) : Type 0 where
+  pub before : (k : ℕ) → k < place → from ≤ k → Passed w stamps mark (getD row k 0)
+  pub here : place < length row → (getD w (getD row place 0) 0 ≡ 0) × ¬ (getD stamps (getD row place 0) 0 ≡ mark)
+
+pub record Survivor (A : Compressed) (n m i mark : ℕ) (stamps₀ stamps : List ℕ) (r : ℕ) : Type 0 where
+  pub lowest : r ≡ first m (unfit (nonzero (matrix A)) (pivotsTo A n m i) i)
+  pub kept : (j : ℕ) → (getD stamps j 0 ≡ getD stamps₀ j 0) ⊎ (getD stamps j 0 ≡ mark)

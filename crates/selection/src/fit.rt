@@ -1,8 +1,8 @@
-// The column that a row takes.
+// The columns that a row may still take.
 ghost use mathlib.Core.Path.{_≡_};
 ghost use mathlib.Core.Bool.{_&&_, not};
 ghost use lib.Dec.{eqb};
-ghost use Rattle.selection.specs.Search.{Lowest};
+ghost use Rattle.selection.specs.Search.{NextFit};
 ghost use Rattle.selection.specs.Needs.{FitReady};
 use lists::index;
 
@@ -16,18 +16,18 @@ fn is_fit(cell: u64, stamp: u32, mark: u32) -> bool
     stamp != mark
 }
 
-// The first column of a row that is neither used nor stamped, the width where there is none.
-pub fn lowest_fit(row: &[u32], work: &[u64], mark: u32, stamps: &[u32]) -> usize
+// The first place of a row, from a place on, whose column is neither used nor stamped; past the row's end where there is none.
+pub fn next_fit(row: &[u32], work: &[u64], mark: u32, stamps: &[u32], from: usize) -> usize
     requires { ⌜ FitReady (now row) (now work) (now stamps) ⌝ }
-    ensures { λ r. ⌜ Lowest (now (row .entry)) (now (work .entry)) (now (stamps .entry)) mark r ⌝ }
+    ensures { λ r. ⌜ NextFit (now (row .entry)) (now (work .entry)) (now (stamps .entry)) mark from r ⌝ }
 {
-    let mut t = 0;
+    let mut t = from;
     while t < row.len() {
         let j = index(row[t]);
         if is_fit(work[j], stamps[j], mark) {
-            return j;
+            return t;
         }
         t += 1;
     }
-    work.len()
+    t
 }

@@ -54,9 +54,7 @@ fn extend_row(
         return;
     }
     let mark = i as u32 + 1;
-    search::search(ss, cols, vals, p, n, i, mark, work, chosen, stamps, queue);
-    let row = naming::columns_of(ss, cols, i);
-    let c = fit::lowest_fit(row, work, mark, stamps);
+    let c = search::search(ss, cols, vals, p, n, i, mark, work, chosen, stamps, queue);
     if c < work.len() {
         work[c] = i as u64 + 1;
         chosen[i] = c as u32 + 1;

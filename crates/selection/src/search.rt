@@ -4,8 +4,9 @@ ghost use lib.ListN.{length};
 ghost use mathlib.Core.List.{List, [], _∷_};
 ghost use Prim.Native.Nat.{ℕ};
 ghost use Rattle.sparse.specs.Matrix.{compressed};
-ghost use Rattle.selection.specs.Search.{TouchReady, VisitReady, Visited, Reached};
+ghost use Rattle.selection.specs.Search.{TouchReady, VisitReady, Visited, Survivor};
 ghost use Rattle.selection.specs.Needs.{SearchReady};
+use crate::fit::next_fit;
 use lists::index;
 
 // One column j, whose cell of the working row is given: it is stamped, and queued if it is used and had no stamp. Of the searching row's own columns
@@ -61,7 +62,8 @@ fn visit(
     tail
 }
 
-// Searches from row i: the rows of all used columns that it reaches are visited, as they come in the queue.
+// Searches from row i: the rows of the used columns that it reaches are visited, as they come in the queue, while the row has a candidate left, a
+// column that is neither used nor stamped. The lowest that is left when the queue is empty is the answer, the width where none is.
 pub fn search(
     ss: &[u32],
     cols: &[u32],
@@ -74,18 +76,24 @@ pub fn search(
     chosen: &[u32],
     stamps: &mut [u32],
     queue: &mut [u32],
-)
+) -> usize
     requires { ⌜ SearchReady p n i (compressed (now ss) (now cols) (now vals)) (now work) (now chosen) (now stamps) (now queue) mark ⌝ }
-    ensures { λ _. ⌜ Reached (compressed (now (ss .entry)) (now (cols .entry)) (now (vals .entry))) n (length (now (work .entry))) i mark (now (stamps .entry)) (now (stamps .exit)) ⌝ }
+    ensures { λ r. ⌜ Survivor (compressed (now (ss .entry)) (now (cols .entry)) (now (vals .entry))) n (length (now (work .entry))) i mark (now (stamps .entry)) (now (stamps .exit)) r ⌝ }
 {
     let own = naming::columns_of(ss, cols, i);
     let mut tail = visit(true, own, work, mark, stamps, queue, 0);
     let mut head = 0;
-    while head < tail {
+    let mut t = next_fit(own, work, mark, stamps, 0);
+    while t < own.len() {
+        if tail <= head {
+            return index(own[t]);
+        }
         let c = index(queue[head]);
         let r = work[c] as usize - 1;
         let row = naming::columns_of(ss, cols, r);
         tail = visit(false, row, work, mark, stamps, queue, tail);
         head += 1;
+        t = next_fit(own, work, mark, stamps, t);
     }
+    work.len()
 }

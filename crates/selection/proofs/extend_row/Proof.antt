@@ -3,12 +3,12 @@ use Prim.Native.Nat.{_+_}
 use mathlib.Core.Path.{refl}
 use native.Mathlib.Omega.{arith}
 use lib.ListN.{length-set}
-use Rattle.selection.proofs.Taking.{chosen-extended, search-ready, row-ready, fit-ready, none-extended, one-extended}
+use Rattle.selection.proofs.Taking.{chosen-extended, search-ready, none-extended, one-extended}
 use Rattle.selection.proofs.extend_row.Statement.{statement}
 use Rattle.selection.proofs.extend_row.Tie as tie
 
-abbrev searched : tie.After-lowest-fit → tie.After-search
-searched c = c .before .before .before .before .before .before .before .before
+abbrev searched : tie.After-slice-known7 → tie.After-search
+searched c = c .before .before .before .before
 
 abbrev left : tie.After-search → tie.Else1
 left c = c .before .before .before .before .before
@@ -16,7 +16,7 @@ left c = c .before .before .before .before .before
 abbrev entry : tie.Else1 → tie.Start
 entry c = c .before .before .before .before .before .before .before .before .before
 
-abbrev start : tie.After-lowest-fit → tie.Start
+abbrev start : tie.After-slice-known7 → tie.Start
 start c = entry (left (searched c))
 
 mul-if1 : tie.Need-mul-if1
@@ -36,13 +36,6 @@ add-mark c = let s = entry c in omega (arith, s .pre .row, s .pre .sized .n-smal
 
 search-requires : tie.Need-search-requires
 search-requires c κs = search-ready _ _ _ _ _ _ _ _ (entry (c .before .before .before .before) .pre)
-
-columns-of-requires : tie.Need-columns-of-requires
-columns-of-requires c κs = row-ready _ _ _ _ _ _ _ _ (entry (left (c .before .before .before .before)) .pre)
-
-lowest-fit-requires : tie.Need-lowest-fit-requires
-lowest-fit-requires c κs = let s = c .before .before .before .before .before .before .before in
-    fit-ready _ _ _ _ _ _ _ _ (entry (left s) .pre) _ _ (c .before .before .columns-of .ensures) (s .search .kept .1 .1 .1 .1 .1 .1 .1 .1 .1 .0)
 
 add-work : tie.Need-add-work
 add-work c = let s = start (c .before) in omega (arith, s .pre .row, s .pre .sized .n-small)
@@ -66,10 +59,10 @@ slice-write-chosen : tie.Need-slice-write-chosen
 slice-write-chosen c = let s = start (c .before) in omega (arith, s .pre .row, s .pre .before .named .rows-long)
 
 same-length : tie.Need-same-length
-same-length c = let l = c .before in length-set (start l .args .work .now) (l .lowest-fit .result) (start l .args .i + 1)
+same-length c = let l = c .before in length-set (start l .args .work .now) (searched l .search .result) (start l .args .i + 1)
 
 same-length-2 : tie.Need-same-length-2
-same-length-2 c = let l = c .before in length-set (start l .args .chosen .now) (start l .args .i) (l .lowest-fit .result + 1)
+same-length-2 c = let l = c .before in length-set (start l .args .chosen .now) (start l .args .i) (searched l .search .result + 1)
 
 same-length-3 : tie.Need-same-length-3
 same-length-3 c = searched (c .before) .search .kept .1 .1 .1 .1 .1 .1 .1 .1 .1 .0
@@ -79,7 +72,7 @@ same-length-4 c = searched (c .before) .search .kept .1 .1 .1 .1 .1 .1 .1 .1 .1 
 
 returns-2 : tie.Need-returns-2
 returns-2 c = let l = c .before in let s = searched l in
-    one-extended _ _ _ _ _ _ _ _ (start l .pre) _ _ _ _ (s .search .ensures) (l .lowest-fit .ensures) (l .before .before .before .columns-of .ensures) (s .search .kept .1 .1 .1 .1 .1 .1 .1 .1 .1 .0) (s .search .kept .1 .1 .1 .1 .1 .1 .1 .1 .1 .1 .0) (left s .if1 .left) (c .if2 .taken)
+    one-extended _ _ _ _ _ _ _ _ (start l .pre) _ _ _ (s .search .ensures) (s .search .kept .1 .1 .1 .1 .1 .1 .1 .1 .1 .0) (s .search .kept .1 .1 .1 .1 .1 .1 .1 .1 .1 .1 .0) (left s .if1 .left) (c .if2 .taken)
 
 same-length-5 : tie.Need-same-length-5
 same-length-5 c = refl
@@ -95,7 +88,7 @@ same-length-8 c = searched (c .before) .search .kept .1 .1 .1 .1 .1 .1 .1 .1 .1 
 
 returns-3 : tie.Need-returns-3
 returns-3 c = let l = c .before in let s = searched l in
-    none-extended _ _ _ _ _ _ _ _ (start l .pre) _ _ _ _ (s .search .ensures) (l .lowest-fit .ensures) (l .before .before .before .columns-of .ensures) (s .search .kept .1 .1 .1 .1 .1 .1 .1 .1 .1 .0) (s .search .kept .1 .1 .1 .1 .1 .1 .1 .1 .1 .1 .0) (c .if2 .left)
+    none-extended _ _ _ _ _ _ _ _ (start l .pre) _ _ _ (s .search .ensures) (s .search .kept .1 .1 .1 .1 .1 .1 .1 .1 .1 .0) (s .search .kept .1 .1 .1 .1 .1 .1 .1 .1 .1 .1 .0) (c .if2 .left)
 
 pub extend-row-spec : {M : Type 1} → statement M
 extend-row-spec =
@@ -107,8 +100,6 @@ extend-row-spec =
     cast-mark
     add-mark
     search-requires
-    columns-of-requires
-    lowest-fit-requires
     add-work
     mul-work
     slice-write-work

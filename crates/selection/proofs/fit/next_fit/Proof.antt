@@ -1,28 +1,28 @@
--- `lowest_fit` meets its contract; the loop's invariant: the columns passed are used or stamped. Assumes nothing.
+-- `next_fit` meets its contract; the loop's invariant: the columns passed are used or stamped. Assumes nothing.
 use Prim.Native.Nat.{_-_, _<_}
 use mathlib.Core.Path.{sym, _∙_}
 use native.Mathlib.Omega.{arith}
 use lib.ListN.{length}
 use borrow.Author.Needs.{needs}
-use Rattle.selection.proofs.Fitting.{Before, before-none, before-more, lowest-found, lowest-none}
-use Rattle.selection.proofs.fit.lowest_fit.Statement.{statement}
-use Rattle.selection.proofs.fit.lowest_fit.Tie as tie
+use Rattle.selection.proofs.Fitting.{fit-inside, Before, before-none, before-more, next-found, next-none}
+use Rattle.selection.proofs.fit.next_fit.Statement.{statement}
+use Rattle.selection.proofs.fit.next_fit.Tie as tie
 
 abbrev Inv-loop : tie.InvT-loop
-Inv-loop row work mark stamps t₀ t = Before row work stamps mark t
+Inv-loop row work mark stamps from t₀ t = Before row work stamps mark from t
 
 abbrev μ-loop : tie.MeasureT-loop
-μ-loop row work mark stamps t₀ t = length row - t
+μ-loop row work mark stamps from t₀ t = length row - t
 
 abbrev start : tie.After-index Inv-loop μ-loop → tie.Start Inv-loop μ-loop
 start c = c .before .before .before .before .before .before .before
 
 -- the column has a cell
 inside : (c : tie.After-index Inv-loop μ-loop) → c .index .result < length (start c .args .work .now)
-inside c = omega (arith, c .index .ensures, start c .pre .inside (c .before .before .before .loop .t) (c .before .before .loop-test .taken))
+inside c = fit-inside (start c .pre) (c .index .ensures) (omega (arith, c .before .before .loop-test .taken))
 
 loop-holds : tie.Need-loop-holds Inv-loop μ-loop
-loop-holds c = before-none _ _ _ _
+loop-holds c = before-none _ _ _ _ _
 
 mul-index : tie.Need-mul-index Inv-loop μ-loop
 mul-index c = search needs
@@ -50,7 +50,7 @@ is-fit-requires c κs = search needs
 
 returns : tie.Need-returns Inv-loop μ-loop
 returns c = let f = c .before in let i = f .before .before .before in let l = i .before .before in
-    lowest-found _ _ _ _ (l .before .loop .t) (l .before .loop .inv) (l .loop-test .taken) _ (i .index .ensures) (sym (f .is-fit .ensures) ∙ c .if1 .taken)
+    next-found _ _ _ _ _ (l .before .loop .t) (l .before .loop .inv) _ (i .index .ensures) (sym (f .is-fit .ensures) ∙ c .if1 .taken)
 
 add-t : tie.Need-add-t Inv-loop μ-loop
 add-t c = search needs
@@ -60,13 +60,13 @@ loop-less c = search needs
 
 loop-again : tie.Need-loop-again Inv-loop μ-loop
 loop-again c = let f = c .before in let i = f .before .before .before in let l = i .before .before in
-    before-more _ _ _ _ (l .before .loop .t) (l .before .loop .inv) _ (i .index .ensures) (sym (f .is-fit .ensures) ∙ c .if1 .left)
+    before-more _ _ _ _ _ (l .before .loop .t) (l .before .loop .inv) _ (i .index .ensures) (sym (f .is-fit .ensures) ∙ c .if1 .left)
 
 returns-2 : tie.Need-returns-2 Inv-loop μ-loop
-returns-2 c = lowest-none _ _ _ _ _ (c .before .loop .inv) (c .loop-test .left)
+returns-2 c = next-none _ _ _ _ _ _ (c .before .loop .inv) (c .loop-test .left)
 
-pub lowest-fit-spec : {M : Type 1} → statement M
-lowest-fit-spec =
+pub next-fit-spec : {M : Type 1} → statement M
+next-fit-spec =
     tie.close
     (tie.spec
     Inv-loop
