@@ -100,13 +100,18 @@ def wide_pads(rng, p, size):
     return size, 2_048, rows
 
 
-def full_tail(rng, p, size):
+def full_tail(rng, p, size, tail=48):
     """A thin plan whose last rows are nearly full over the last columns."""
-    tail = 48
     rows = [_cells(rng, p, {i, rng.randrange(i, size)}) for i in range(size - tail)]
     last = range(size - 2 * tail, size)
     rows += [_cells(rng, p, [j for j in last if rng.random() < 0.9]) for _ in range(tail)]
     return size, size, rows
+
+
+def dense_end(rng, p, size):
+    """The same with fewer last rows: 28 and 30 rows, and as many columns, have no
+    structural pivot in the two plans of the table, and fit a block of 32 by 32."""
+    return full_tail(rng, p, size, tail=32)
 
 
 def low_rank(rng, p, size):
@@ -133,6 +138,8 @@ TABLE = (
     ("filling", filling, (7, 65_521), 280),
     ("wide pads", wide_pads, (7, 65_521), 240),
     ("full tail", full_tail, (7, 65_521), 1_024),
+    ("dense end", dense_end, (7,), 800),
+    ("dense end", dense_end, (65_521,), 384),
     ("low rank", low_rank, (7, 65_521), 1_024),
     ("small dense", small_dense, (2, 7, 251, 65_521), 112),
 )

@@ -2,6 +2,8 @@
 
     Measured     one plan with the times of every tool in seconds
     in_order     what tools gave for a text whose triples stand in another order
+    markdown     rows of cells under a header
+    milliseconds, ratio   numbers as the tables write them
     table        times and ratios as Markdown
 """
 
@@ -55,7 +57,7 @@ def _cell(write, value):
     return "" if value is None else write(value)
 
 
-def _markdown(header, rows):
+def markdown(header, rows):
     yield "| " + " | ".join(header) + " |"
     yield "|" + "|".join("---" if i == 0 else "---:" for i in range(len(header))) + "|"
     for cells in rows:
@@ -70,7 +72,7 @@ def _times(measured, tools):
         + [_cell(milliseconds, one.times.get(tool)) for tool in tools]
         for one in measured
     )
-    yield from _markdown(["plan", "size", "entries", "rank", *tools], rows)
+    yield from markdown(["plan", "size", "entries", "rank", *tools], rows)
 
 
 def _ratios(measured, tool, words, peers):
@@ -79,7 +81,7 @@ def _ratios(measured, tool, words, peers):
     rows = (
         [one.plan] + [_cell(ratio, one.over(peer, tool)) for peer in peers] for one in measured
     )
-    yield from _markdown(["plan", *(f"{peer} / {tool}" for peer in peers)], rows)
+    yield from markdown(["plan", *(f"{peer} / {tool}" for peer in peers)], rows)
 
 
 def _least_ratio(measured, tool, peers):
@@ -128,7 +130,7 @@ def _orders(measured, tool, words):
         for one in plans
     )
     header = ["plan", "rising", *ORDERS, *(f"{order} / rising" for order in ORDERS)]
-    yield from _markdown(header, rows)
+    yield from markdown(header, rows)
     yield ""
     most, plan = max((one.over(other, tool), one.plan) for one in plans for other in others)
     yield f"{words} takes at most {ratio(most)} times as long as on the rising text ({plan})."

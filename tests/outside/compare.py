@@ -19,7 +19,8 @@ from generate.certificates import (
     words_replaced,
 )
 from generate.edges import edge_texts, lower_edge, upper_edge
-from generate.plans import build, dense, random_plan, tiny_plan
+from generate.left import plan_in_turn
+from generate.plans import build, dense, tiny_plan
 from generate.texts import damaged_text, plain_text, question_text, random_question, varied_text
 from model.certificate import write
 from model.factors import factor
@@ -31,6 +32,7 @@ from worked import EARLIER_D, EDITED, FACTORED, PLAN_D, QUESTIONS, REFUSALS, REP
 
 SMALL = 1_500  # cells of a plan up to which its sets are varied at length
 SAMPLE = 24  # bytes or numbers changed in one certificate
+FEW = 6  # bytes changed where there are many entries to multiply
 ANY_CERTIFICATE = 300_000  # bytes, enough for the largest that can be made
 
 
@@ -68,7 +70,7 @@ def _certificates(rng, plan, factors):
     """Certificates to be checked for a plan; fewer for a large one."""
     own = write(plan, factors)
     yield from resized(rng, own)
-    yield from bytes_changed(rng, own, SAMPLE)
+    yield from bytes_changed(rng, own, SAMPLE if len(plan.rows.columns) <= SMALL else FEW)
     if plan.n * plan.m > SMALL:
         yield own
         return
@@ -94,7 +96,7 @@ def plan_cases(seed, index):
     """All cases of the random plan with this index."""
     rng = Random(f"plan {seed} {index}")
     origin = f"seed {seed} plan {index}"
-    plan = random_plan(rng)
+    plan = plan_in_turn(rng, index)
     text = varied_text(rng, plan)
     yield from _printed_cases(rng, plan, text, origin)
     yield from _call_cases(rng, plan, text, origin)

@@ -9,7 +9,7 @@ The peers of the benchmark read many matrices from standard input and print
 import subprocess
 from random import Random
 
-from generate.plans import random_plan
+from generate.left import plan_in_turn
 from model.factors import factor
 from model.storage import row
 from sweeps import AMPLE
@@ -27,7 +27,7 @@ def rank_differences(program, seed, count):
     programs are compared on; large ones are left out, peers take them full."""
     plans = []
     for index in range(count):
-        plan = random_plan(Random(f"plan {seed} {index}"))
+        plan = plan_in_turn(Random(f"plan {seed} {index}"), index)
         if plan.n * plan.m <= 40_000:
             plans.append((index, plan))
     forms = "".join(_peer_form(plan) for _, plan in plans)

@@ -9,7 +9,9 @@ tells nothing.
 """
 
 import sys
+from typing import NamedTuple
 
+from generate.left import BLOCK, Side, side
 from model import ask, calls, certificate, check, questions, report, structure
 from model.factors import Factored, Factors, factor, reduce, schedule
 from model.plan_text import read_plan
@@ -63,25 +65,133 @@ def compares_stored_entries_only():
     check._first_difference = first_difference
 
 
-def structural_pivots_only():
-    """The rows without a structural pivot are called dependent."""
+class Before(NamedTuple):
+    """What the rows before gave: rows of U with their pivot columns, of which
+    the first are structural."""
+
+    upper: list
+    pivots: list
+    structural: int
+
+
+def _spoil_rows_left(turn, spoiled=lambda plan: True):
+    """In plans that are `spoiled`, a row without a structural pivot is taken by
+    `turn`, which has the plan, the row and what came before, and gives the
+    row's coefficients, its remainder and the column of its pivot or None."""
 
     def wrong(plan, lower_room, upper_room):
-        kept = structure.structural(plan)
-        pivots, upper, lower = [], [], {}
-        for i, column in schedule(plan):
-            coefficients, remainder = reduce(row(plan.rows, i), upper, pivots, plan.p)
-            if column is not None:
-                value = remainder[column]
-                coefficients[len(pivots)] = value
-                pivots.append(column)
-                inverse = pow(value, -1, plan.p)
-                upper.append({j: v * inverse % plan.p for j, v in remainder.items()})
-            lower[i] = coefficients
-        rows = tuple(i for i, _ in schedule(plan))
-        columns = (*pivots, *(j for j in range(plan.m) if j not in pivots))
-        factors = Factors(rows, columns, store(lower[i] for i in rows), store(upper), len(pivots))
-        return Factored(factors, len(kept))
+        right = factor(plan, lower_room, upper_room)
+        if isinstance(right, Refusal) or not spoiled(plan):
+            return right
+        return Factored(_factors_by(turn, plan, right.structural), right.structural)
+
+    _spoil_factoring(wrong)
+
+
+def _factors_by(turn, plan, structural):
+    pivot_rows, dependent, lower = [], [], {}
+    before = Before([], [], structural)
+    for i, column in schedule(plan):
+        cells = row(plan.rows, i)
+        found = ({}, cells, column) if column is not None else turn(plan, cells, before)
+        lower[i], remainder, pivot = found
+        if pivot is None:
+            dependent.append(i)
+            continue
+        lower[i][len(pivot_rows)] = value = remainder[pivot]
+        inverse = pow(value, -1, plan.p)
+        pivot_rows.append(i)
+        before.pivots.append(pivot)
+        before.upper.append({j: v * inverse % plan.p for j, v in remainder.items()})
+    R = (*pivot_rows, *dependent)
+    C = (*before.pivots, *_unused(plan, before.pivots))
+    return Factors(R, C, store(lower[i] for i in R), store(before.upper), len(pivot_rows))
+
+
+def _unused(plan, pivots):
+    return [j for j in range(plan.m) if j not in pivots]
+
+
+def _reduced(plan, cells, before):
+    """The row as it should be taken."""
+    coefficients, remainder = reduce(cells, before.upper, before.pivots, plan.p)
+    return coefficients, remainder, min(remainder, default=None)
+
+
+def _left_out(plan, cells, before):
+    """The row is called dependent, whatever remains of it."""
+    coefficients, _, _ = _reduced(plan, cells, before)
+    return coefficients, {}, None
+
+
+def structural_pivots_only():
+    """The rows without a structural pivot are called dependent."""
+    _spoil_rows_left(_left_out)
+
+
+def _in_block(plan):
+    return side(plan) == Side(False, False)
+
+
+def stored_rows_left_out():
+    """The same where they do not fit the block."""
+    _spoil_rows_left(_left_out, lambda plan: not _in_block(plan))
+
+
+def block_in_pivot_order():
+    """In the block the columns of pivots change places with those before them,
+    and the lowest place gives the pivot, not the lowest column."""
+
+    def turn(plan, cells, before):
+        coefficients, remainder, _ = _reduced(plan, cells, before)
+        places = _unused(plan, before.pivots[: before.structural])
+        for t, pivot in enumerate(before.pivots[before.structural :]):
+            at = places.index(pivot)
+            places[t], places[at] = places[at], places[t]
+        return coefficients, remainder, next((j for j in places if j in remainder), None)
+
+    _spoil_rows_left(turn, _in_block)
+
+
+def block_row_not_replaced():
+    """Of the rows of the block only the pivots are taken away: the rest of each
+    stayed 0."""
+
+    def turn(plan, cells, before):
+        s = before.structural
+        bare = [{pivot: 1} for pivot in before.pivots[s:]]
+        return _reduced(plan, cells, before._replace(upper=before.upper[:s] + bare))
+
+    _spoil_rows_left(turn, _in_block)
+
+
+def block_too_large():
+    """33 columns are held to fit the block, and the last of them is lost."""
+
+    def turn(plan, cells, before):
+        coefficients, remainder, _ = _reduced(plan, cells, before)
+        held = _unused(plan, before.pivots[: before.structural])[:BLOCK]
+        kept = {j: v for j, v in remainder.items() if j in held}
+        return coefficients, kept, min(kept, default=None)
+
+    def is_spoiled(plan):
+        return plan.m - len(structure.structural(plan)) == BLOCK + 1
+
+    _spoil_rows_left(turn, is_spoiled)
+
+
+def lower_columns_of_the_block():
+    """In L the multiple of a row of the block stands at its place in the block,
+    to which the number of structural pivots was not added."""
+
+    def wrong(plan, lower_room, upper_room):
+        right = factor(plan, lower_room, upper_room)
+        if isinstance(right, Refusal) or not _in_block(plan):
+            return right
+        s, factors = right.structural, right.factors
+        lower = [row(factors.L, i) for i in range(plan.n)]
+        moved = [{k - s if k >= s else k: v for k, v in cells.items()} for cells in lower[s:]]
+        return right._replace(factors=factors._replace(L=store(lower[:s] + moved)))
 
     _spoil_factoring(wrong)
 
@@ -217,6 +327,11 @@ DEFECTS = {
         passes_own_bytes_only,
         compares_stored_entries_only,
         structural_pivots_only,
+        stored_rows_left_out,
+        block_in_pivot_order,
+        block_row_not_replaced,
+        block_too_large,
+        lower_columns_of_the_block,
         orders_by_column,
         sees_cycles_of_two_only,
         no_storage,

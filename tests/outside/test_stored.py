@@ -1,8 +1,9 @@
 """The stored output of the program that runs the cases of factoring, against the model.
 
 The program's source names its cases: a plan's text; plan D with rooms, and with
-every room of L and U up to one more than it takes; plan D with one thing
-changed. The model says what each must come to.
+every room of L and U up to one more than it takes; a plan that leaves eight rows,
+with every room of L and every room of U; plan D with one thing changed. The
+model says what each must come to.
 """
 
 import re
@@ -12,12 +13,13 @@ from itertools import product
 from pathlib import Path
 from typing import NamedTuple
 
+from generate.left import BLOCK, left, side
 from model.factors import factor
 from model.plan_text import read_plan
 from model.refusals import LENGTH, Refusal
 from model.storage import Plan, Rows, plan_refusal
 from sweeps import AMPLE
-from worked import PLAN_D
+from worked import EIGHT_LEFT, PLAN_D
 
 PROGRAM = Path(__file__).resolve().parents[2] / "crates" / "factoring_cases"
 ARGUMENT = r'b"[^"]*"|[\w:]+'
@@ -25,6 +27,8 @@ CALL = re.compile(rf'\b(show|room|changed)\(\s*(b"[^"]*"(?:,\s*(?:{ARGUMENT}))*)
 
 PLAIN_ROOM = 16
 D_LOWER, D_UPPER = 6, 7
+EIGHT_LOWER, EIGHT_UPPER = 24, 16
+GREATEST_ROOM = 32
 WORKING_ROW = 2_048
 # Of reading's lists the program lends the first cells, and these past their ends.
 STARTS_READ = 2_049
@@ -54,6 +58,10 @@ def cases():
                 yield literal_eval(name).decode(), CASES[kind](*rest)
     for lower, upper in product(range(D_LOWER + 2), range(D_UPPER + 2)):
         yield f"D, rooms {lower} {upper}", Case(PLAN_D, lower, upper)
+    rooms = [(lower, GREATEST_ROOM) for lower in range(EIGHT_LOWER + 2)]
+    rooms += [(GREATEST_ROOM, upper) for upper in range(EIGHT_UPPER + 2)]
+    for lower, upper in rooms:
+        yield f"eight rows left, rooms {lower} {upper}", Case(EIGHT_LEFT, lower, upper)
 
 
 CASES = {
@@ -146,6 +154,25 @@ class StoredCases(unittest.TestCase):
         self.assertGreater(len(found), 50)
         self.assertEqual(dict(found), {name: wanted(case) for name, case in cases()})
         self.assertEqual(len(found), len(list(cases())))
+
+    def test_cases_at_the_size_of_the_block(self):
+        """The names say what is left, and both sides of the block are there."""
+        plans = {name: handed(case) for name, case in cases() if case.of == "NOTHING"}
+        for count in (BLOCK, BLOCK + 1):
+            self.assertEqual(left(plans[f"{count} rows left"]).rows, count)
+            self.assertEqual(left(plans[f"{count} columns left"]).columns, count)
+        self.assertEqual(left(plans["rows left, but no column"]).columns, 0)
+        self.assertEqual(len({side(plan) for plan in plans.values()}), 3)
+
+    def test_rooms_of_eight_rows(self):
+        """7 comes at each row that is left and has entries, by L and by U."""
+        over = {"L": set(), "U": set()}
+        for name, case in cases():
+            if name.startswith("eight rows left") and "7" == wanted(case)[0].split()[0]:
+                which = "L" if case.lower < GREATEST_ROOM else "U"
+                over[which].add(int(wanted(case)[0].split()[1]))
+        self.assertEqual(over["L"], set(range(10)) - {7})
+        self.assertEqual(over["U"], {0, 1, 2, 3, 6, 8, 9})
 
 
 if __name__ == "__main__":

@@ -2,6 +2,7 @@
 Those of the structural pivots are worked by slip 9 of the change requests.
 
     PLAN_D        the text of plan D; FALLING_D and BY_COLUMN_D, the same plan in other orders
+    EIGHT_LEFT    the text of a plan with eight rows that have no structural pivot
     FACTORED      texts with the number of structural pivots and the factors
     EARLIER_D     plan D's factors as they were made before slip 9: they pass too
     REPORTS       texts with what the report program prints
@@ -26,6 +27,13 @@ FALLING_D = (
 BY_COLUMN_D = (
     b"7\n5 5 M\n1 1 2\n3 1 4\n2 2 3\n3 2 3\n4 2 1\n1 3 1\n3 3 2\n4 3 5\n2 4 1\n3 4 1\n5 5 3\n"
     b"0 0 0\n"
+)
+EIGHT_LEFT = (
+    b"7\n10 7 M\n1 1 1\n1 2 1\n2 2 1\n2 3 1\n2 4 1\n2 5 1\n2 6 1\n2 7 1\n3 1 1\n3 3 6\n"
+    b"3 5 6\n3 6 1\n3 7 6\n4 1 1\n4 4 6\n4 5 6\n4 6 6\n4 7 2\n5 1 1\n5 3 1\n5 4 1\n5 5 6\n"
+    b"5 6 3\n5 7 5\n6 1 1\n6 3 6\n6 4 6\n6 5 6\n6 6 6\n6 7 6\n7 1 1\n7 4 6\n7 5 3\n7 6 6\n"
+    b"7 7 6\n9 1 1\n9 3 6\n9 4 6\n9 5 6\n9 7 6\n10 1 1\n10 3 6\n10 4 6\n10 5 6\n10 6 6\n"
+    b"10 7 4\n0 0 0\n"
 )
 REPORT_D = (
     b"modulus 7 slots 5 words 5 entries 11\n"
@@ -131,6 +139,40 @@ FACTORED = (
             C=(0, 1, 2, 4, 3),
             L=[{0: 1}, {1: 1}, {2: 1}, {0: 1, 1: 6, 2: 1, 3: 6}, {0: 1, 1: 6, 2: 1, 4: 6}],
             U=[{0: 1, 1: 1}, {1: 1, 2: 1}, {2: 1, 3: 1, 4: 1}, {4: 1}, {3: 1}],
+        ),
+    ),
+    # Rows 0 1 | 1 2 3 4 5 6: row 0 leads to row 1, which has every column from 2 on.
+    # Eight rows start at column 0 and are no structural pivots. Less row 0, plus row 1,
+    # they are from column 2 on, by row: 0 1 0 2 0 | 1 0 0 0 3 | twice both | 0 | 1 0 4 0 0 |
+    # an empty row | 0 0 0 1 0 | 0 0 0 0 5. The first has its pivot in column 3, the
+    # second in column 2. Less the second, the fifth is 0 0 4 0 4.
+    (
+        EIGHT_LEFT,
+        2,
+        _set(
+            R=(0, 1, 2, 3, 6, 8, 9, 4, 5, 7),
+            C=(0, 1, 3, 2, 4, 5, 6),
+            L=[
+                {0: 1},
+                {1: 1},
+                {0: 1, 1: 6, 2: 1},
+                {0: 1, 1: 6, 3: 1},
+                {0: 1, 1: 6, 3: 1, 4: 4},
+                {0: 1, 1: 6, 5: 1},
+                {0: 1, 1: 6, 6: 5},
+                {0: 1, 1: 6, 2: 2, 3: 2},
+                {0: 1, 1: 6},
+                {},
+            ],
+            U=[
+                {0: 1, 1: 1},
+                {1: 1, 2: 1, 3: 1, 4: 1, 5: 1, 6: 1},
+                {3: 1, 5: 2},
+                {2: 1, 6: 3},
+                {4: 1, 6: 1},
+                {5: 1},
+                {6: 1},
+            ],
         ),
     ),
 )

@@ -2,7 +2,7 @@
 use factoring_runs::change;
 use factoring_runs::run::run;
 
-fn show(name: &[u8], text: &[u8]) {
+pub fn show(name: &[u8], text: &[u8]) {
     run(name, text, 16, 16, change::none());
 }
 

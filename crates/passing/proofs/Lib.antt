@@ -1,3 +1,4 @@
+pub mod Orders
 pub mod WorkingRow
 pub mod PassOne
 pub mod PassTwo

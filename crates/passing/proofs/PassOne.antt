@@ -1,23 +1,42 @@
--- The first pass: R is completed to the schedule, then every row is taken.
-use mathlib.Core.Path.{_≡_, refl, sym, ap, _∙_, subst}
+-- The first pass: R is completed to the schedule, and C where the block needs it, then every row is taken.
+use mathlib.Core.Path.{_≡_, refl, sym, ap, _∙_, subst₂}
 use mathlib.Core.Bool.{Bool}
 use mathlib.Core.List.{List, _++_}
-use Prim.Native.Nat.{ℕ, _<_}
+use Prim.Native.Nat.{ℕ, _+_, _≤_}
 use native.Mathlib.Omega.{arith}
-use lib.ListN.{length, getD, take, drop}
-use lib.Seq.{length-take-le, getD-take, take-at}
+use lib.ListN.{length, take, drop, length-append, length-drop}
+use lib.Seq.{length-take-le}
 use Rattle.lists.specs.Filled.{zeros}
 use Rattle.algebra.specs.Matrix.{Distinct, vector}
-use Rattle.sparse.specs.Matrix.{Compressed}
-use Rattle.elimination.specs.Pairs.{pairRows}
-use Rattle.elimination.specs.Factoring.{rest}
-use Rattle.elimination.proofs.Completion.{completed-length}
+use Rattle.sparse.specs.Matrix.{Compressed, matrix}
+use Rattle.elimination.proofs.Selected.{pairs-columns}
 use Rattle.ordering.specs.Needs.{Completable}
 use Rattle.ordering.specs.Completion.{Completed}
+use Rattle.pivoting.specs.Turning.{Lent}
 use Rattle.pivoting.specs.Passing.{pairsIn, pairsOf, PassReady, PassLeaves}
-use Rattle.pivoting.proofs.Schedules.{rows-are, pairs-many}
-use Rattle.passing.specs.Needs.{Lists, FromReady}
+use Rattle.pivoting.proofs.Schedules.{rows-are, columns-are, pairs-many}
+use Rattle.passing.specs.Needs.{FromReady, ColumnsCompleted}
+use Rattle.passing.proofs.Orders.{distinct-front, distinct-cut, front-kept, order-long, order-completed}
 use Rattle.passing.proofs.WorkingRow.{part-clear, whole-again, lists-lent, lists-same}
+
+-- ---- C, completed or left as it is
+
+pub columns-same : (n s : ℕ) (C w : List ℕ) → Completable s C w → (n ≤ s + 32 → length C ≤ s + 32 → ⊥) → ColumnsCompleted n s C C w
+columns-same n s C w h many = record { order = λ a b. absurd (many a b); front = refl; long = refl; cleared = h .marks }
+
+pub columns-completed : (n s : ℕ) (C w C₁ marks : List ℕ) → Completable s C w → Completed s C C₁ marks → ColumnsCompleted n s C C₁ marks
+columns-completed n s C w C₁ marks h c =
+    record {
+      order = λ a b. order-completed s C (h .inside) C₁ marks c distinct;
+      front = front-kept s C (h .inside) C₁ marks c;
+      long = order-long s C (h .inside) C₁ marks c distinct;
+      cleared = c .cleared;
+    }
+  where
+    distinct : Distinct s (length C) (vector (take s C))
+    distinct = distinct-cut s (length C) C (h .distinct)
+
+-- ---- the pass
 
 module _ (p s : ℕ) (A : Compressed) (R C : List ℕ) (L U : Compressed) (w : List ℕ) (h : FromReady p s A R C L U w) where
   abbrev n : ℕ
@@ -26,75 +45,105 @@ module _ (p s : ℕ) (A : Compressed) (R C : List ℕ) (L U : Compressed) (w : L
   abbrev m : ℕ
   m = length C
 
+  -- the pairs' rows and columns are distinct
+  R-distinct : Distinct s n (vector (take s R))
+  R-distinct =
+      subst₂ (λ (k : ℕ) (l : List ℕ). Distinct k n (vector l)) (pairs-many s R C (h .rows-inside) (h .columns-inside)) (rows-are s R C (h .rows-inside) (h .columns-inside)) (h .pairs .rows)
+
+  C-distinct : Distinct s m (vector (take s C))
+  C-distinct =
+      subst₂ (λ (k : ℕ) (l : List ℕ). Distinct k m (vector l)) (pairs-many s R C (h .rows-inside) (h .columns-inside)) (columns-are s R C (h .rows-inside) (h .columns-inside))
+      (pairs-columns n m (matrix A) (pairsOf s R C) (h .pairs))
+
   pub rows-part : n ≡ length (take n w)
   rows-part = sym (length-take-le n w (h .lists .n-fits))
 
-  row-at : (k : ℕ) → k < s → vector (pairRows (pairsOf s R C)) k ≡ vector R k
-  row-at k b = ap (λ (l : List ℕ). getD l k 0) (rows-are s R C (h .rows-inside) (h .columns-inside)) ∙ getD-take s R k 0 b
-
-  distinct : Distinct s n (vector R)
-  distinct =
-      let q = subst (λ (k : ℕ). Distinct k n (vector (pairRows (pairsOf s R C)))) (pairs-many s R C (h .rows-inside) (h .columns-inside)) (h .pairs .rows) in
+  pub one-rows : Completable s R (take n w)
+  one-rows =
       record {
-        below = λ a b. subst (λ (x : ℕ). x < n) (row-at a b) (q .below a b);
-        apart = λ a b x y e. q .apart a b x y (row-at a x ∙ e ∙ sym (row-at b y));
+        inside = h .rows-inside;
+        narrow = omega (arith, h .lists .n-narrow);
+        distinct = distinct-front s n (take s R) R refl R-distinct;
+        marks = part-clear w (h .lists .clear) n (h .lists .n-fits);
       }
 
-  pub one-complete : Completable s R (take n w)
-  one-complete = record { inside = h .rows-inside; narrow = omega (arith, h .lists .n-narrow); distinct = distinct; marks = part-clear w (h .lists .clear) n (h .lists .n-fits) }
-
-  module _ (R₁ marks : List ℕ) (c : Completed s R R₁ marks) where
+  module _ (R₁ marks₁ : List ℕ) (cr : Completed s R R₁ marks₁) where
     -- the working row is as it was
     abbrev w₁ : List ℕ
-    w₁ = marks ++ drop n w
+    w₁ = marks₁ ++ drop n w
 
-    again : w₁ ≡ w
-    again = whole-again w (h .lists .clear) n (h .lists .n-fits) marks (c .cleared)
+    first-again : w₁ ≡ w
+    first-again = whole-again w (h .lists .clear) n (h .lists .n-fits) marks₁ (cr .cleared)
+
+    pub R-kept : length R₁ ≡ n
+    R-kept = order-long s R (h .rows-inside) R₁ marks₁ cr R-distinct
+
+    pub columns-fit : m ≤ length w₁
+    columns-fit = omega (arith, ap length first-again, h .lists .m-fits)
 
     pub columns-part : m ≡ length (take m w₁)
-    columns-part = sym (length-take-le m w₁ (omega (arith, ap length again, h .lists .m-fits)))
+    columns-part = sym (length-take-le m w₁ columns-fit)
 
-    front : take s R₁ ≡ take s R
-    front = ap (take s) (c .order) ∙ take-at (take s R) (rest (take s R) n) s (length-take-le s R (h .rows-inside))
-
-    pub R₁-long : length R₁ ≡ n
-    R₁-long = ap length (c .order) ∙ completed-length (take s R) n (record {
-      below = λ a b. subst (λ (x : ℕ). x < n) (sym (getD-take s R a 0 (omega (arith, many)))) (distinct .below a (omega (arith, many)));
-      apart = λ a b x y e. distinct .apart a b (omega (arith, many)) (omega (arith, many)) (sym (getD-take s R a 0 (omega (arith, many))) ∙ e ∙ getD-take s R b 0 (omega (arith, many)));
-    })
-      where
-        many : length (take s R) ≡ s
-        many = length-take-le s R (h .rows-inside)
-
-    same-pairs : pairsOf s R₁ C ≡ pairsOf s R C
-    same-pairs = ap (λ (l : List ℕ). pairsIn l (take s C)) front
-
-    lists : Lists p A R₁ C L U w
-    lists = lists-same p A R C R₁ C L U L U w w (h .lists) R₁-long refl refl refl refl refl refl refl (h .lists .clear) refl
-
-    pub one-pass : PassReady p s A R₁ C L U (take m w₁)
-    one-pass =
-        rw again (record {
-          lent = lists-lent p A R₁ C L U w lists;
-          rows-inside = omega (arith, R₁-long, h .rows-inside);
-          columns-inside = h .columns-inside;
-          pairs = rw (R₁-long, length-take-le m w (h .lists .m-fits), same-pairs) (h .pairs);
-          order = c .order ∙ (λ t. sym front t ++ rest (sym front t) (sym R₁-long t));
-          L-clear = h .L-clear;
-          U-clear = h .U-clear;
-        })
-
-    pub one-passed : (roomL roomU : ℕ) (R′ C′ : List ℕ) (L′ U′ : Compressed) (over : Bool) (stop r at l total : ℕ)
-        → PassLeaves p s A R₁ C (length (take m w₁)) roomL roomU R′ C′ L′ U′ over stop r at l total → PassLeaves p s A R C m roomL roomU R′ C′ L′ U′ over stop r at l total
-    one-passed roomL roomU R′ C′ L′ U′ over stop r at l total q =
+    pub one-columns : Completable s C (take m w₁)
+    one-columns =
         record {
-          stopped = rw (sym columns-part, R₁-long, same-pairs) at (q .stopped);
-          fitted = rw (sym columns-part, R₁-long, same-pairs) at (q .fitted);
-          state = rw (sym columns-part, R₁-long, same-pairs) at (q .state);
+          inside = h .columns-inside;
+          narrow = omega (arith, h .lists .m-narrow);
+          distinct = distinct-front s m (take s C) C refl C-distinct;
+          marks = ap (take m) first-again ∙ part-clear w (h .lists .clear) m (h .lists .m-fits);
         }
 
-    pub one-clear : (part : List ℕ) → part ≡ zeros (length (take m w₁)) → part ++ drop m w₁ ≡ zeros (length w)
-    one-clear part e =
-        ap (λ (x : List ℕ). part ++ drop m x) again
-        ∙ whole-again w (h .lists .clear) m (h .lists .m-fits) part (e ∙ ap zeros (sym columns-part))
-        ∙ h .lists .clear
+    module _ (C₁ marks₂ : List ℕ) (cc : ColumnsCompleted n s C C₁ marks₂) where
+      abbrev w₂ : List ℕ
+      w₂ = marks₂ ++ drop m w₁
+
+      again : w₂ ≡ w
+      again = ap (λ (x : List ℕ). marks₂ ++ drop m x) first-again ∙ whole-again w (h .lists .clear) m (h .lists .m-fits) marks₂ (cc .cleared)
+
+      pub C-kept : length C₁ ≡ m
+      C-kept = cc .long
+
+      pub last-fit : m ≤ length w₂
+      last-fit = omega (arith, ap length again, h .lists .m-fits)
+
+      pub last-part : m ≡ length (take m w₂)
+      last-part = sym (length-take-le m w₂ last-fit)
+
+      pub last-long : (part : List ℕ) → length part ≡ length (take m w₂) → length (part ++ drop m w₂) ≡ length w
+      last-long part e = omega (arith, last-part, length-append part (drop m w₂), length-drop m w₂, last-fit, ap length again)
+
+      same-pairs : pairsOf s R₁ C₁ ≡ pairsOf s R C
+      same-pairs = λ t. pairsIn (front-kept s R (h .rows-inside) R₁ marks₁ cr t) (cc .front t)
+
+      lent : Lent p A R₁ C₁ L U (take m w)
+      lent =
+          rw C-kept at
+          (lists-lent p A R₁ C₁ L U w (lists-same p A R C R₁ C₁ L U L U w w (h .lists) R-kept C-kept refl refl refl refl refl refl (h .lists .clear) refl))
+
+      pub one-pass : PassReady p s A R₁ C₁ L U (take m w₂)
+      one-pass =
+          rw again (record {
+            lent = lent;
+            rows-inside = omega (arith, R-kept, h .rows-inside);
+            columns-inside = omega (arith, C-kept, h .columns-inside);
+            pairs = rw (R-kept, length-take-le m w (h .lists .m-fits), same-pairs) (h .pairs);
+            order = order-completed s R (h .rows-inside) R₁ marks₁ cr R-distinct;
+            columns-order = λ a b. cc .order (omega (arith, R-kept)) (omega (arith, length-take-le m w (h .lists .m-fits)));
+            L-clear = h .L-clear;
+            U-clear = h .U-clear;
+          })
+
+      pub one-passed : (roomL roomU : ℕ) (R′ C′ : List ℕ) (L′ U′ : Compressed) (over : Bool) (stop r at l total : ℕ)
+          → PassLeaves p s A R₁ C₁ (length (take m w₂)) roomL roomU R′ C′ L′ U′ over stop r at l total → PassLeaves p s A R C m roomL roomU R′ C′ L′ U′ over stop r at l total
+      one-passed roomL roomU R′ C′ L′ U′ over stop r at l total q =
+          record {
+            stopped = rw (sym last-part, R-kept, same-pairs) at (q .stopped);
+            fitted = rw (sym last-part, R-kept, same-pairs) at (q .fitted);
+            state = rw (sym last-part, R-kept, same-pairs) at (q .state);
+          }
+
+      pub one-clear : (part : List ℕ) → part ≡ zeros (length (take m w₂)) → part ++ drop m w₂ ≡ zeros (length w)
+      one-clear part e =
+          ap (λ (x : List ℕ). part ++ drop m x) again
+          ∙ whole-again w (h .lists .clear) m (h .lists .m-fits) part (e ∙ ap zeros (sym last-part))
+          ∙ h .lists .clear

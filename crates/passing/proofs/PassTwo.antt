@@ -4,7 +4,7 @@ use mathlib.Core.List.{List, _++_}
 use Prim.Native.Nat.{ℕ, _≤_, _<_}
 use native.Mathlib.Omega.{arith}
 use lib.ListN.{length, getD, take, drop, length-append, length-map, List·getD-append}
-use lib.Seq.{length-take-le, getD-take, take-at}
+use lib.Seq.{length-take-le, take-at}
 use Rattle.lists.specs.Filled.{zeros}
 use Rattle.algebra.specs.Matrix.{Distinct, vector}
 use Rattle.sparse.specs.Matrix.{Compressed, matrix}
@@ -19,18 +19,8 @@ use Rattle.pivoting.specs.Turning.{Lent}
 use Rattle.pivoting.specs.Filling.{FillFrom, FillReady, FillDone}
 use Rattle.pivoting.proofs.Sizes.{columns-distinct, rank-most}
 use Rattle.passing.specs.Needs.{Lists, FoundFrom, CompleteReady, CompletedFor}
+use Rattle.passing.proofs.Orders.{distinct-front}
 use Rattle.passing.proofs.WorkingRow.{part-clear, whole-again, lists-lent, lists-same}
-
--- what holds of the first k numbers of a list, cut there or not
-distinct-front : (k n : ℕ) (xs l : List ℕ) → take k l ≡ xs → Distinct k n (vector xs) → Distinct k n (vector l)
-distinct-front k n xs l e d =
-    record {
-      below = λ a b. subst (λ (x : ℕ). x < n) (at a b) (d .below a b);
-      apart = λ a b x y q. d .apart a b x y (at a x ∙ q ∙ sym (at b y));
-    }
-  where
-    at : (a : ℕ) → a < k → getD xs a 0 ≡ getD l a 0
-    at a b = ap (λ (z : List ℕ). getD z a 0) (sym e) ∙ getD-take k l a 0 b
 
 pivot-rows-many : (f : Found) → length (pivotRows f) ≡ rankOf f
 unfolding pivotRows

@@ -1,6 +1,7 @@
 -- What is lent to the factoring, and what its two passes need and leave.
 --   Lists p A R C L U w          a stored matrix in its form, orders and factor lists of its sizes, and a working row that is all zero and as long as both sizes
 --   FromReady p s A R C L U w    the first s places of R and C hold pairs that can be pivots as they stand; the factors' lists are all zero
+--   ColumnsCompleted n s C₀ C w  C is C₀, with its first s numbers followed by the others rising where at most 32 rows and columns are left; the marks are cleared
 --   FoundFrom ..                 what the first pass found is held: the pivots of f, and R is to be completed by the other rows rising
 --   CompleteReady ..             so it is, for some f
 --   CompletedFor f ..            R, C and L are those of the factors of f
@@ -8,7 +9,7 @@ use Prim.Native.Nat.{ℕ, _+_, _*_, _^_, _≤_, _<_}
 use mathlib.Core.Path.{_≡_}
 use mathlib.Core.Bool.{true}
 use mathlib.Core.List.{List, _++_}
-use lib.ListN.{length}
+use lib.ListN.{length, take}
 use Rattle.lists.specs.Filled.{zeros}
 use Rattle.algebra.specs.Prime.{Prime}
 use Rattle.algebra.specs.Matrix.{Permutation, vector}
@@ -43,6 +44,12 @@ pub record FromReady (p s : ℕ) (A : Compressed) (R C : List ℕ) (L U : Compre
   pub pairs : Pairs (length R) (length C) (matrix A) (pairsOf s R C)
   pub L-clear : Cleared L
   pub U-clear : Cleared U
+
+pub record ColumnsCompleted (n s : ℕ) (C₀ C w : List ℕ) : Type 0 where
+  pub order : n ≤ s + 32 → length C₀ ≤ s + 32 → C ≡ take s C ++ rest (take s C) (length C)
+  pub front : take s C ≡ take s C₀
+  pub long : length C ≡ length C₀
+  pub cleared : w ≡ zeros (length C₀)
 
 pub record FoundFrom (p : ℕ) (A : Compressed) (R C : List ℕ) (L U : Compressed) (r at l total : ℕ) (f : Found) : Type 0 where
   pub holds : Invariant p (length R) (length C) (matrix A) f

@@ -1,19 +1,35 @@
-// The two passes, each with the orders completed that it needs. The working row marks the rows or the columns of an order
+// The two passes, each with the orders completed first: by the rows that the first pass takes after the pairs and the columns that
+// its block has, and by what the factors lack. The working row marks the rows or the columns of an order
 // while it is completed.
 ghost use mathlib.Core.Path.{_≡_};
 ghost use mathlib.Core.Bool.{false};
-ghost use Prim.Native.Nat.{ℕ};
+ghost use Prim.Native.Nat.{ℕ, _≤_};
 ghost use lib.ListN.{length};
 ghost use Rattle.lists.specs.Filled.{zeros};
 ghost use Rattle.sparse.specs.Matrix.{compressed};
 ghost use Rattle.elimination.specs.Pivots.{Found};
 ghost use Rattle.pivoting.specs.Passing.{PassLeaves};
-ghost use Rattle.passing.specs.Needs.{FromReady, FoundFrom, CompleteReady, CompletedFor};
+ghost use Rattle.ordering.specs.Needs.{Completable};
+ghost use Rattle.passing.specs.Needs.{FromReady, ColumnsCompleted, FoundFrom, CompleteReady, CompletedFor};
+use first_pass::dense::Pass;
+use first_pass::pass::find_pivots;
 use ordering::complete::complete;
 use pivoting::fill::fill_dependents;
-use pivoting::pass::Pass;
-use pivoting::pass::find_pivots;
 use residue::Modulus;
+
+// Completes `columns` where what is left of n rows after the first s fits the block: its columns are then those after the first s.
+fn complete_columns(n: usize, s: usize, columns: &mut [u32], marks: &mut [u64])
+    requires { ⌜ (s ≤ n) × Completable s (now columns) (now marks) ⌝ }
+    ensures { λ _. ⌜ ColumnsCompleted n s (now (columns .entry)) (now (columns .exit)) (now (marks .exit)) ⌝ }
+{
+    if 32 < n - s {
+        return;
+    }
+    if 32 < columns.len() - s {
+        return;
+    }
+    complete(s, columns, marks);
+}
 
 // Takes the s pairs that `rows` and `columns` hold, then the other rows, rising.
 pub fn pass_one(
@@ -38,6 +54,7 @@ pub fn pass_one(
     let n = rows.len();
     let m = columns.len();
     complete(s, rows, &mut work[..n]);
+    complete_columns(n, s, columns, &mut work[..m]);
     find_pivots(
         q,
         ss,

@@ -1,5 +1,6 @@
 pub mod Steps
 pub mod Finding
+pub mod Settling
 pub mod Sizes
 pub mod Readiness
 pub mod TurnedRows

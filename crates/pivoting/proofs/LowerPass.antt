@@ -204,7 +204,7 @@ module _ (p : ℕ) (A : Compressed) (R C : List ℕ) (L U : Compressed) (w : Lis
         pub filling-ready : LowerReady p (getD R k 0) r at next A C (U .starts) (U .cols) (U .vals) w′ (L′ .cols) (L′ .vals)
         filling-ready =
             rw same-row (record {
-              row = gather-ready p A R C L U w r at l (h .total) (h .lent) (h .f) (h .from .holds) (h .from .state) (omega (arith, t .low)) U-room (getD R k 0) next next (L′ .cols) (L′ .vals)
+              row = gather-ready p A R C L U w (h .lent) r at l (h .total) (h .f) (h .from .holds) (h .from .state) (omega (arith, t .low)) U-room (getD R k 0) next next (L′ .cols) (L′ .vals)
                   (row-inside (h .lent) (h .f) (h .total) (h .from) k b) (t .lc-long ∙ h .lent .L-paired ∙ sym (t .lv-long)) (omega arith) (omega (arith, room));
               room = room;
             })

@@ -1,5 +1,5 @@
 -- Where the lists hold what was found, the next row can be taken, by either way.
-use mathlib.Core.Path.{_≡_, refl, sym, ap, _∙_, subst, subst₂}
+use mathlib.Core.Path.{_≡_, refl, sym, ap, _∙_, subst₂}
 use mathlib.Core.Bool.{Bool, true, false}
 use mathlib.Core.List.{List}
 use Prim.Native.Nat.{ℕ, _*_, _≤_, _<_}
@@ -8,7 +8,6 @@ use native.Mathlib.Omega.{arith}
 use lib.ListN.{length, getD, take}
 use lib.Seq.{length-take-le, getD-take}
 use Rattle.lists.proofs.Filled.{zeros-at}
-use Rattle.algebra.specs.Matrix.{Matrix}
 use Rattle.sparse.specs.Row.{Below}
 use Rattle.sparse.specs.Matrix.{Compressed, matrix}
 use Rattle.sparse.specs.Dense.{compress}
@@ -18,7 +17,8 @@ use Rattle.sparse.proofs.Rows.{form-below}
 use Rattle.reduction.specs.InPlace.{UpperReady}
 use Rattle.elimination.specs.Pivots.{Found, columnsOf, uppersOf, rankOf, turn}
 use Rattle.elimination.specs.Factoring.{entries}
-use Rattle.elimination.proofs.Invariant.{columns-many, uppers-many, Invariant}
+use Rattle.elimination.proofs.Invariant.{uppers-many, Invariant}
+use Rattle.elimination.proofs.Echelon.{Echelon, echelon-distinct}
 use Rattle.elimination.proofs.Turns.{other-holds, pair-holds}
 use Rattle.turning.specs.Gathering.{cut, GatherReadyFrom}
 use Rattle.turning.specs.PivotRow.{ListsReady}
@@ -26,24 +26,24 @@ use Rattle.turning.proofs.Storage.{holds-cut}
 use Rattle.pivoting.specs.State.{State, turnOf}
 use Rattle.pivoting.specs.Turning.{FindReady, Lent, PairAt, TurnReady}
 use Rattle.pivoting.proofs.Steps.{entries-values, pivots-less}
-use Rattle.pivoting.proofs.Sizes.{columns-distinct, rank-most}
+use Rattle.pivoting.proofs.Sizes.{rank-most}
 
--- ---- the rows of U found so far can be taken away from the working row
+-- ---- rows of U can be taken away from the working row
 
-module _ (p n m : ℕ) (A : Matrix) (f : Found) (v : Invariant p n m A f) (two : 2 ≤ p) (w : List ℕ) (wide : length w ≡ m) (below : Below (p * p) w) where
-  pub upper-ready : UpperReady p (rankOf f) (columnsOf f) (compress (uppersOf f)) w
+module _ (p m : ℕ) (cs : List ℕ) (us : List (List ℕ)) (v : Echelon p m cs us) (two : 2 ≤ p) (w : List ℕ) (wide : length w ≡ m) (below : Below (p * p) w) where
+  upper-ready : UpperReady p (length cs) cs (compress us) w
   upper-ready =
       record {
         positive = omega arith;
-        formed = rw wide (compress-form p m (uppersOf f) (record {
-          narrow = λ k h. omega (arith, v .echelon .rows k h .wide);
-          residues = λ k j h. v .echelon .rows k h .residues j;
+        formed = rw wide (compress-form p m us (record {
+          narrow = λ k h. omega (arith, v .rows k h .wide);
+          residues = λ k j h. v .rows k h .residues j;
         }));
-        many = omega (arith, compress-lengths (uppersOf f) .starts-are, uppers-many f);
-        order = omega (arith, columns-many f);
-        columns = rw wide (columns-distinct p n m A f v);
-        unit = λ k h. compress-matrix (uppersOf f) k (getD (columnsOf f) k 0) ∙ v .echelon .rows k (omega (arith, uppers-many f)) .unit;
-        left = λ k j l h. compress-matrix (uppersOf f) k (getD (columnsOf f) j 0) ∙ v .echelon .rows k (omega (arith, uppers-many f)) .left j l;
+        many = omega (arith, compress-lengths us .starts-are, v .as-many);
+        order = omega arith;
+        columns = rw wide (echelon-distinct p m cs us v);
+        unit = λ k h. compress-matrix us k (getD cs k 0) ∙ v .rows k (omega (arith, v .as-many)) .unit;
+        left = λ k j l h. compress-matrix us k (getD cs j 0) ∙ v .rows k (omega (arith, v .as-many)) .left j l;
         below = below;
       }
 
@@ -53,44 +53,48 @@ cut-found f R C L U r at l total s = holds-cut (uppersOf f) at U (s .upper) r at
 
 -- ---- a row can be reduced by them
 
-module _ (p : ℕ) (A : Compressed) (R C : List ℕ) (L U : Compressed) (w : List ℕ) (r at l total : ℕ) (lent : Lent p A R C L U w) (f : Found)
-    (v : Invariant p (length R) (length w) (matrix A) f) (s : State f R C L U r at l total) where
+module _ (p : ℕ) (A : Compressed) (R C : List ℕ) (L U : Compressed) (w : List ℕ) (lent : Lent p A R C L U w) where
   cells-below : Below (p * p) w
   cells-below j b =
       omega (arith, ap (λ (l : List ℕ). getD l j 0) (lent .clear), zeros-at (length w) j, lent .prime .two, mul-le-mul-left {m = 1} {n = p} p (omega (arith, lent .prime .two)))
 
-  rank-fits : r ≤ length C
-  rank-fits = omega (arith, s .rank, rank-most p (length R) (length w) (matrix A) f v, lent .columns)
+  -- where the lists, cut to their lengths, are those of the rows us of U, and C begins with their pivot columns
+  module _ (cs : List ℕ) (us : List (List ℕ)) (v : Echelon p (length w) cs us) (r at : ℕ) (ec : take r C ≡ cs) (eu : cut r at (U .starts) (U .cols) (U .vals) ≡ compress us) (inside : r ≤ length C) where
+    cut-ready : UpperReady p (length (take r C)) (take r C) (cut r at (U .starts) (U .cols) (U .vals)) w
+    cut-ready = subst₂ (λ (c : List ℕ) (u : Compressed). UpperReady p (length c) c u w) (sym ec) (sym eu) (upper-ready p (length w) cs us v (lent .prime .two) w refl cells-below)
 
-  cut-ready : UpperReady p (length (take r C)) (take r C) (cut r at (U .starts) (U .cols) (U .vals)) w
-  cut-ready =
-      subst₂ (λ (c : List ℕ) (u : Compressed). UpperReady p (length c) c u w) (sym (s .columns)) (sym (cut-found f R C L U r at l total s))
-      (subst (λ (k : ℕ). UpperReady p k (columnsOf f) (compress (uppersOf f)) w) (sym (columns-many f))
-      (upper-ready p (length R) (length w) (matrix A) f v (lent .prime .two) w refl cells-below))
-
-  pub gather-ready : r < length R → at ≤ length (U .cols) → (i place limit : ℕ) (lc lv : List ℕ) → i < length R → length lc ≡ length lv → place ≤ limit → limit ≤ length lc
-      → GatherReadyFrom p i r at place limit A C (U .starts) (U .cols) (U .vals) w lc lv
-  gather-ready more U-room i place limit lc lv row paired low room =
-      record {
-        rank = rank-fits;
-        starts = omega (arith, lent .U-starts);
-        entries = (U-room, omega (arith, lent .U-paired));
-        row = record {
+    pub rows-ready : r < length R → at ≤ length (U .cols) → (i place limit : ℕ) (lc lv : List ℕ) → i < length R → length lc ≡ length lv → place ≤ limit → limit ≤ length lc
+        → GatherReadyFrom p i r at place limit A C (U .starts) (U .cols) (U .vals) w lc lv
+    rows-ready more U-room i place limit lc lv row paired low room =
+        record {
+          rank = inside;
+          starts = omega (arith, lent .U-starts);
+          entries = (U-room, omega (arith, lent .U-paired));
           row = record {
-            row = record { formed = lent .formed; inside = omega (arith, lent .rows); clear = lent .clear };
-            upper = cut-ready;
+            row = record {
+              row = record { formed = lent .formed; inside = omega (arith, lent .rows); clear = lent .clear };
+              upper = cut-ready;
+            };
+            narrow = omega (arith, length-take-le r C inside, lent .n-narrow);
+            paired = paired;
+            place = low;
+            room = room;
           };
-          narrow = omega (arith, length-take-le r C rank-fits, lent .n-narrow);
-          paired = paired;
-          place = low;
-          room = room;
-        };
-      }
+        }
+
+  -- by the rows found
+  module _ (r at l total : ℕ) (f : Found) (v : Invariant p (length R) (length w) (matrix A) f) (s : State f R C L U r at l total) where
+    pub rank-fits : r ≤ length C
+    rank-fits = omega (arith, s .rank, rank-most p (length R) (length w) (matrix A) f v, lent .columns)
+
+    pub gather-ready : r < length R → at ≤ length (U .cols) → (i place limit : ℕ) (lc lv : List ℕ) → i < length R → length lc ≡ length lv → place ≤ limit → limit ≤ length lc
+        → GatherReadyFrom p i r at place limit A C (U .starts) (U .cols) (U .vals) w lc lv
+    gather-ready = rows-ready (columnsOf f) (uppersOf f) (v .echelon) r at (s .columns) (cut-found f R C L U r at l total s) rank-fits
 
 -- ---- the turn
 
 module _ (p i : ℕ) (paired : Bool) (A : Compressed) (R C : List ℕ) (L U : Compressed) (w : List ℕ) (r at l total : ℕ) (h : TurnReady p i paired A R C L U w r at l total) where
-  lists-ready : ListsReady (length w) r at l total (L .cols) (L .vals) (U .cols) (U .vals)
+  pub lists-ready : ListsReady (length w) r at l total (L .cols) (L .vals) (U .cols) (U .vals)
   lists-ready =
       record {
         narrow = h .lent .m-narrow;
@@ -115,7 +119,7 @@ module _ (p i : ℕ) (paired : Bool) (A : Compressed) (R C : List ℕ) (L U : Co
         };
         other = λ e. record {
           prime = h .lent .prime;
-          row = gather-ready p A R C L U w r at l total (h .lent) (h .f) (h .holds) (h .state) (h .more) (h .U-room) i l total (L .cols) (L .vals) (h .row) (h .lent .L-paired) (lists-ready .L-place) (h .L-room);
+          row = gather-ready p A R C L U w (h .lent) r at l total (h .f) (h .holds) (h .state) (h .more) (h .U-room) i l total (L .cols) (L .vals) (h .row) (h .lent .L-paired) (lists-ready .L-place) (h .L-room);
           lists = lists-ready;
         };
       }

@@ -47,11 +47,11 @@ module _ (p m : ℕ) (f : Found) (i c : ℕ) (cs : List ℕ) (w : Vector) where
   unfolding withPivot pivotRows
   rows-more = map-append (λ q. q .row) (f .pivots) _
 
-  columns-more : columnsOf after ≡ columnsOf f ++ (c ∷ [])
+  pub columns-more : columnsOf after ≡ columnsOf f ++ (c ∷ [])
   unfolding withPivot columnsOf
   columns-more = map-append (λ q. q .column) (f .pivots) _
 
-  uppers-more : uppersOf after ≡ uppersOf f ++ (upperRow p m c w ∷ [])
+  pub uppers-more : uppersOf after ≡ uppersOf f ++ (upperRow p m c w ∷ [])
   unfolding withPivot uppersOf upperRow
   uppers-more = map-append (λ q. q .upper) (f .pivots) _
 

@@ -77,11 +77,11 @@ module _ (p m : ℕ) (A : Matrix) (i : ℕ) (paired : Bool) (f : Found) (R C : L
       go true h = omega (arith, h refl)
       go false h = first-most m (λ j. eqb (remainderBy p r C cutU (A i) j) 0)
 
-  dependent-is : m ≤ c → found ≡ withDependent f i cs
+  pub dependent-is : m ≤ c → found ≡ withDependent f i cs
   unfolding placed
   dependent-is h = turn-placed ∙ ap (λ (b : Bool). cond b (withDependent f i cs) (withPivot p m f i c cs w)) (le-leb m c h)
 
-  pivot-is : c < m → found ≡ withPivot p m f i c cs w
+  pub pivot-is : c < m → found ≡ withPivot p m f i c cs w
   unfolding placed
   pivot-is h = turn-placed ∙ ap (λ (b : Bool). cond b (withDependent f i cs) (withPivot p m f i c cs w)) (lt-leb m c h)
 

@@ -2,9 +2,10 @@
 --   pairsIn is cs                the pairs of the rows `is` and the columns `cs`, place by place
 --   pairsOf s R C                the pairs that the first s places of R and C hold
 --   Cleared h                    the lists of h are all zero
---   PassReady p s A R C L U w    the pairs can be pivots as they stand, R has their rows and then the other rows rising, and the factors' lists are all zero
+--   PassReady p s A R C L U w    the pairs can be pivots as they stand, R has their rows and then the other rows rising, C their columns and, where at most 32 rows and columns
+--                                are left, the others rising; the factors' lists are all zero
 --   PassLeaves p s A R₀ C₀ ..    the lists hold what the schedule finds, unless row `stop` is the first whose entries do not fit
-use Prim.Native.Nat.{ℕ, _≤_}
+use Prim.Native.Nat.{ℕ, _+_, _≤_}
 use mathlib.Core.Path.{_≡_}
 use mathlib.Core.Bool.{Bool, true, false}
 use mathlib.Core.List.{List, [], _∷_, _++_}
@@ -38,6 +39,7 @@ pub record PassReady (p s : ℕ) (A : Compressed) (R C : List ℕ) (L U : Compre
   pub columns-inside : s ≤ length C
   pub pairs : Pairs (length R) (length w) (matrix A) (pairsOf s R C)
   pub order : R ≡ take s R ++ rest (take s R) (length R)
+  pub columns-order : length R ≤ s + 32 → length w ≤ s + 32 → C ≡ take s C ++ rest (take s C) (length C)
   pub L-clear : Cleared L
   pub U-clear : Cleared U
 

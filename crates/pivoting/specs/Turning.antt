@@ -2,16 +2,19 @@
 --   lowerOf, remainderOf, columnOf    the multiples taken away from a row, what remains of it, and its pivot column (m where nothing remains):
 --                                     a paired row is taken as it stands, with its own column
 --   FindReady ..                      the row can be taken, as a pair or reduced
+--   Enterable c at l r ..             a pivot row can be entered as the next, and each number fits in its list
+--   SettleReady over c at l r m ..    so it is, unless the row's entries did not fit or c is no column of the m
+--   Settled over c at l total ..      the row is entered, or all is as it was
 --   Lent p A R C L U w                what is lent to the factoring: a stored matrix in its form, lists of its sizes, and a working row that is all zero
 --   PairAt m A i r C                  row i can be the pivot row of column C[r] as it stands
 --   TurnReady ..                      row i can be taken, where the lists hold what was found before it
 --   TurnLeaves ..                     it was taken, as the definition's turn says; the rows ahead in R are as they were, and C too where it was paired
 use Prim.Native.Nat.{ℕ, _+_, _*_, _^_, _≤_, _<_}
 use mathlib.Core.Path.{_≡_}
-use mathlib.Core.Bool.{Bool, true, false, cond}
+use mathlib.Core.Bool.{Bool, true, false, cond, _||_}
 use mathlib.Core.List.{List}
 use lib.Dec.{eqb}
-use lib.ListN.{length, getD, drop}
+use lib.ListN.{length, getD, drop, set}
 use Rattle.lists.specs.Filled.{zeros}
 use Rattle.lists.specs.Tests.{first}
 use Rattle.algebra.specs.Prime.{Prime}
@@ -36,6 +39,23 @@ pub record FindReady (p i : ℕ) (paired : Bool) (r at l total : ℕ) (A : Compr
   pub inside : paired ≡ true → r < length columns
   pub pair : paired ≡ true → PairReady p i (getD columns r 0) r at l total A w lc lv uc uv
   pub other : paired ≡ false → OtherReady p i r at l total A columns us w lc lv uc uv
+
+pub record Enterable (c at l r : ℕ) (R C ls us : List ℕ) : Type 0 where
+  pub column : c < 2 ^ 32
+  pub U-end : at < 2 ^ 32
+  pub L-end : l < 2 ^ 32
+  pub rows : r < length R
+  pub columns : r < length C
+  pub L-starts : r + 1 < length ls
+  pub U-starts : r + 1 < length us
+
+pub record SettleReady (over : Bool) (c at l r m : ℕ) (R C ls us : List ℕ) : Type 0 where
+  pub entered : (over || eqb c m) ≡ false → Enterable c at l r R C ls us
+
+pub record Settled (over : Bool) (c at l total i r m : ℕ) (R₀ C₀ ls₀ us₀ R C ls us : List ℕ) (over′ : Bool) (r′ at′ l′ total′ : ℕ) : Type 0 where
+  pub same : (over′ ≡ over) × (at′ ≡ at) × (l′ ≡ l) × (total′ ≡ total)
+  pub stays : (over || eqb c m) ≡ true → (r′ ≡ r) × (R ≡ R₀) × (C ≡ C₀) × (ls ≡ ls₀) × (us ≡ us₀)
+  pub enters : (over || eqb c m) ≡ false → (r′ ≡ r + 1) × (R ≡ set R₀ r i) × (C ≡ set C₀ r c) × (ls ≡ set ls₀ (r + 1) l) × (us ≡ set us₀ (r + 1) at)
 
 pub record Lent (p : ℕ) (A : Compressed) (R C : List ℕ) (L U : Compressed) (w : List ℕ) : Type 0 where
   pub prime : Prime p

@@ -1,4 +1,3 @@
-// The passes of the factoring over the rows of a stored matrix.
+// One turn of the factoring, and the second pass over the rows of a stored matrix.
 pub mod fill;
-pub mod pass;
 pub mod turn;

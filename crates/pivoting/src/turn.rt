@@ -7,7 +7,7 @@ ghost use lib.ListN.{length, set};
 ghost use Rattle.sparse.specs.Matrix.{compressed, matrix};
 ghost use Rattle.turning.specs.Gathering.{cut};
 ghost use Rattle.turning.specs.Taking.{RowFound};
-ghost use Rattle.pivoting.specs.Turning.{lowerOf, remainderOf, columnOf, FindReady, TurnReady, TurnLeaves};
+ghost use Rattle.pivoting.specs.Turning.{lowerOf, remainderOf, columnOf, FindReady, SettleReady, Settled, TurnReady, TurnLeaves};
 use lists::index;
 use residue::Modulus;
 use turning::pivot_row::Step;
@@ -118,6 +118,44 @@ fn enter(
     us[r + 1] = at;
 }
 
+// Enters row i, and says how far the factoring is, after a turn that came to `step`; m is the number of columns.
+pub fn settle(
+    step: Step,
+    i: u32,
+    r: usize,
+    m: usize,
+    rows: &mut [u32],
+    columns: &mut [u32],
+    ls: &mut [u32],
+    us: &mut [u32],
+) -> Progress
+    requires { ⌜ SettleReady (step .over) (step .column) (step .at) (step .l) r m (now rows) (now columns) (now ls) (now us) ⌝ }
+    ensures { λ to. ⌜ Settled (step .over) (step .column) (step .at) (step .l) (step .total) i r m (now (rows .entry)) (now (columns .entry)) (now (ls .entry)) (now (us .entry)) (now (rows .exit)) (now (columns .exit)) (now (ls .exit)) (now (us .exit)) (to .over) (to .r) (to .at) (to .l) (to .total) ⌝ }
+{
+    let over = step.over;
+    let c = step.column;
+    let at = step.at;
+    let l = step.l;
+    let total = step.total;
+    if stays(over, c, m) {
+        return Progress {
+            over: over,
+            r: r,
+            at: at,
+            l: l,
+            total: total,
+        };
+    }
+    enter(r, i, c as u32, l as u32, at as u32, rows, columns, ls, us);
+    Progress {
+        over: false,
+        r: r + 1,
+        at: at,
+        l: l,
+        total: total,
+    }
+}
+
 // Takes row i, and enters it where it is a pivot row.
 pub fn take_row(
     q: Modulus,
@@ -160,26 +198,6 @@ pub fn take_row(
         uv,
         work,
     );
-    let over = step.over;
-    let c = step.column;
-    let at = step.at;
-    let l = step.l;
-    let total = step.total;
-    if stays(over, c, work.len()) {
-        return Progress {
-            over: over,
-            r: r,
-            at: at,
-            l: l,
-            total: total,
-        };
-    }
-    enter(r, i, c as u32, l as u32, at as u32, rows, columns, ls, us);
-    Progress {
-        over: false,
-        r: r + 1,
-        at: at,
-        l: l,
-        total: total,
-    }
+    let m = work.len();
+    settle(step, i, r, m, rows, columns, ls, us)
 }

@@ -23,7 +23,7 @@ fn product(a: u32, b: u32) -> u64
 }
 
 // The cell x less c v: below p * p, so that it is never reduced here.
-fn minus(q: Modulus, x: u64, c: u32, v: u32) -> u64
+pub fn minus(q: Modulus, x: u64, c: u32, v: u32) -> u64
     requires { ⌜ (x < q .p * q .p) × Residues (q .p) c v ⌝ }
     ensures { λ r. ⌜ Lessened (q .p) (c * v) x r ⌝ }
 {

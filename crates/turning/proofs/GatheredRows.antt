@@ -20,7 +20,7 @@ use Rattle.turning.specs.Gathering.{cut, multiplesBy, remainderBy, Gathe
 use Rattle.turning.proofs.LoadedRows.{loaded-long, loaded-cell, upper-loaded}
 
 -- n entries fit from place l on, where those up to `total` are counted, exactly if all are no more than the lists hold
-same-room : (l total n room : ℕ) → total ≤ room → leb (l + n) (l + (room - total)) ≡ leb (total + n) room
+pub same-room : (l total n room : ℕ) → total ≤ room → leb (l + n) (l + (room - total)) ≡ leb (total + n) room
 same-room l total n room h = go (leb (total + n) room) refl
   where
     go : (t : Bool) → leb (total + n) room ≡ t → leb (l + n) (l + (room - total)) ≡ t
@@ -45,6 +45,7 @@ module _ (p i l total : ℕ) (A : Compressed) (C : List ℕ) (U : Compressed) (w
         fit = sym (ap (leb (l + count)) el ∙ same-room l total count (length lc) (h .room)) ∙ q .fit;
         stored = q .stored;
         remainder = λ o. record { long = q .remainder o .long ∙ long; cells = λ j b. q .remainder o .cells j (omega (arith, long)) };
+        below = λ o. q .remainder o .below;
       }
     where
       count : ℕ

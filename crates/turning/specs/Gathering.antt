@@ -3,8 +3,8 @@
 --   cut r at us uc uv                        the lists of r rows of U with `at` entries, cut to their lengths
 --   multiplesBy, remainderBy                 the multiples and the remainder of a row, by r rows of U and the first r of the pivot columns
 --   GatherReadyFrom ..                       the same as GatherRowReady, of lists that are not cut
---   RowGathered p m l total cs w ..          the multiples cs are stored at place l, and the working row stands for the remainder w, unless they do not fit
-use Prim.Native.Nat.{ℕ, _+_, _^_, _≤_}
+--   RowGathered p m l total cs w ..          the multiples cs are stored at place l, and the working row stands for the remainder w, with cells below p * p, unless they do not fit
+use Prim.Native.Nat.{ℕ, _+_, _*_, _^_, _≤_}
 use mathlib.Core.Path.{_≡_}
 use mathlib.Core.Bool.{Bool, false, not}
 use mathlib.Core.List.{List}
@@ -12,6 +12,7 @@ use lib.Dec.{leb}
 use lib.ListN.{length, take}
 use Rattle.algebra.specs.Matrix.{Vector, vector}
 use Rattle.algebra.specs.Reduction.{reduced}
+use Rattle.sparse.specs.Row.{Below}
 use Rattle.sparse.specs.Matrix.{Compressed, compressed, matrix}
 use Rattle.sparse.specs.Dense.{nonzeros}
 use Rattle.sparse.specs.Storing.{Stored}
@@ -43,3 +44,4 @@ pub record RowGathered (p m l total : ℕ) (cs : List ℕ) (w : Vector) (lc₀ l
   pub fit : leb (total + length (nonzeros cs)) (length lc₀) ≡ not over
   pub stored : over ≡ false → Stored 0 l cs lc₀ lv₀ lc lv next
   pub remainder : over ≡ false → StandsFor p m w work
+  pub below : over ≡ false → Below (p * p) work

@@ -1,18 +1,27 @@
 """Plans and texts at the limits of the scope.
 
     lower_edge, upper_edge   plans whose L or U has an exact number of entries
+    left_edges               plans that leave as much as the block holds, and more
+    left_lower_edge          a plan whose L has an exact number of entries, also past the chain
     text_of_length           a text with an exact number of bytes
     most_lines               a text of as many lines as any can have
     edge_texts               all of them around each limit
 """
 
-from model.limits import GREATEST_ENTRIES, GREATEST_SIZE, GREATEST_TEXT
+from itertools import product
+from random import Random
+
+from model.factors import factor
+from model.limits import GREATEST_ENTRIES, GREATEST_MODULUS, GREATEST_SIZE, GREATEST_TEXT
 from model.storage import Plan, store
 
+from .left import BLOCK, Left, leaving, rows_leaving
+from .plans import dense, empty, low_rank
 from .texts import plain_text, stated
 
 CHAIN = 120
 WIDE = 150
+AROUND_BLOCK = (BLOCK, BLOCK + 1)
 
 
 def _chain(length):
@@ -34,11 +43,12 @@ def _padded(p, rows, missing):
     return Plan(p, len(rows), width + missing, stored)
 
 
-def lower_edge(p, entries):
+def lower_edge(p, entries, chain=CHAIN):
     """A plan whose L has this many entries: dependent rows of three entries
-    each need the whole chain. p is odd and not 3."""
-    rows = _chain(CHAIN) + [{CHAIN: 1}]
-    total, each = CHAIN + 1, CHAIN + 1
+    each need the whole chain. p is odd and not 3. No column is left, and so many
+    rows as the chain's length leaves entries for."""
+    rows = _chain(chain) + [{chain: 1}]
+    total = each = chain + 1
     while total + each <= entries:
         rows.append(_runner())
         total += each
@@ -65,6 +75,54 @@ def upper_edge(p, entries):
     rows.append({to_wide: 1, **dict.fromkeys(wide, 1)})
     rows += [{**_runner(), column: 1} for column in own]
     return _padded(p, rows, entries - total)
+
+
+def _falling(rng, p, rows, width):
+    """Row after row has a pivot to the left of all before."""
+    return [
+        {j: rng.randrange(1, p) for j in range(max(0, width - 1 - t), width)} for t in range(rows)
+    ]
+
+
+def left_edges():
+    """What is to be left, and a plan that leaves it, modulo the least and the
+    greatest p: rows and columns up to the block's size and one more, with rows
+    that are independent or not, or all 0; no row, no column, and empty rows."""
+    for p in (2, GREATEST_MODULUS):
+        rng = Random(f"left {p}")
+        for rows, width in product(AROUND_BLOCK, repeat=2):
+            for content in (dense, _falling, low_rank, empty):
+                cells = content(rng, p, rows, width)
+                yield Left(rows, width), leaving(rng, p, cells, width, pads=5)
+        for width in range(BLOCK + 2):
+            yield Left(0, width), leaving(rng, p, [], width)
+        for rows in (1, 2, BLOCK - 1, *AROUND_BLOCK):
+            yield Left(rows, 0), leaving(rng, p, [{}] * rows, 0, chain=5)
+            yield Left(rows, 3), leaving(rng, p, [None] * rows, 3)
+
+
+def left_lower_edge(p, entries, rows, width):
+    """A plan that leaves so many rows and columns and whose L has this many
+    entries: each row needs the whole chain and then the rows before it. p is odd
+    and not 3."""
+    rng = Random(f"left {entries} {rows} {width}")
+    chain = entries // (rows + 1) - rows
+    content = dense(rng, p, rows, width)
+    built = rows_leaving(rng, p, content, width, chain)
+    found = factor(_padded(p, built, 0), 2 * entries, 2 * entries).factors
+    return _padded(p, built, entries - len(found.L.columns))
+
+
+def _left_lower_edges():
+    """7 at the last row that is left, or just not, or at an earlier one; within
+    the block, and past it by one row or one column."""
+    corners = ((BLOCK, BLOCK), (BLOCK + 1, BLOCK), (BLOCK, BLOCK + 1))
+    for entries in (GREATEST_ENTRIES, GREATEST_ENTRIES + 1):
+        for chain in (1_800, 490, 480):  # 8, 32 and 33 rows are left
+            yield lower_edge(GREATEST_MODULUS, entries, chain)
+        yield left_lower_edge(GREATEST_MODULUS, entries, 8, 8)
+        yield from (left_lower_edge(7, entries, *corner) for corner in corners)
+    yield from (left_lower_edge(7, 24_000, *corner) for corner in corners)
 
 
 def _stores_nothing(characters):
@@ -100,6 +158,8 @@ def edge_texts():
     for entries in range(GREATEST_ENTRIES - 1, GREATEST_ENTRIES + 3):
         yield plain_text(lower_edge(65_521, entries))
         yield plain_text(upper_edge(7, entries))
+    yield from (plain_text(plan) for _, plan in left_edges())
+    yield from map(plain_text, _left_lower_edges())
     for length in (GREATEST_TEXT - 1, GREATEST_TEXT, GREATEST_TEXT + 1):
         yield text_of_length(length)
         yield text_of_length(length, falls=True)

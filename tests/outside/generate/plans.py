@@ -47,6 +47,11 @@ def dense(rng, p, n, m):
     return [_cells(rng, p, [j for j in range(m) if rng.random() < density]) for _ in range(n)]
 
 
+def full(rng, p, n, m):
+    """All cells filled: one structural pivot."""
+    return [_cells(rng, p, range(m)) for _ in range(n)]
+
+
 def empty(rng, p, n, m):
     """No entries."""
     return [{} for _ in range(n)]

@@ -7,6 +7,7 @@
     factor       rules 1 to 3, within the lent rooms
 """
 
+from functools import lru_cache
 from typing import NamedTuple
 
 from . import structure
@@ -57,6 +58,7 @@ def reduce(cells, upper, pivots, p):
     return coefficients, remainder
 
 
+@lru_cache(maxsize=128)  # as with reading
 def factor(plan, lower_room, upper_room):
     """The engine's own set, or 7 at the first row in processing order after
     which L or U has more entries than its room."""

@@ -5,6 +5,7 @@ in any order, slip 2 of the change requests).
 """
 
 import re
+from functools import lru_cache
 
 from .limits import (
     GREATEST_SIZE,
@@ -33,6 +34,7 @@ TRIPLE_LINE = re.compile(NUMBER + rb" " + NUMBER + rb" " + SIGNED)
 LAST_LINE = b"0 0 0"
 
 
+@lru_cache(maxsize=128)  # many cases have the same text, and follow one another
 def read_plan(text, room):
     """The plan stated by `text`, with storage lent for `room` entries."""
     if len(text) > GREATEST_TEXT:

@@ -1,22 +1,34 @@
 // The first pass of the factoring: the pivots, U, and the rows of L of the pivot rows.
 ghost use mathlib.Core.Path.{_≡_};
 ghost use mathlib.Core.Bool.{false};
+ghost use Prim.Native.Nat.{_≤_};
 ghost use lib.ListN.{length};
 ghost use Rattle.lists.specs.Filled.{zeros};
 ghost use Rattle.sparse.specs.Matrix.{compressed};
 ghost use Rattle.pivoting.specs.Passing.{PassReady, PassLeaves};
-use crate::turn::Progress;
-use crate::turn::take_row;
+ghost use Rattle.first_pass.specs.Dense.{sparseEnd};
+use crate::dense::Pass;
+use crate::dense::find_dense;
+use pivoting::turn::Progress;
+use pivoting::turn::take_row;
 use residue::Modulus;
 
-// Where a pass ended: the row whose entries did not fit, if there is one, and how far it came.
-pub struct Pass {
-    pub stop: u32,
-    pub so: Progress,
+// The rows before this one are taken one by one: all n of them, or the first s where what is left fits the block.
+fn sparse_end(n: usize, m: usize, s: usize) -> usize
+    requires { ⌜ (s ≤ n) × (s ≤ m) ⌝ }
+    ensures { λ r. ⌜ r ≡ sparseEnd n m s ⌝ }
+{
+    if n - s <= 32 {
+        if m - s <= 32 {
+            return s;
+        }
+    }
+    n
 }
 
 // Takes the rows in the order of `rows`: the first s as they stand, with their columns in `columns`, then the others. The pivot
-// rows and columns are entered in place: row r of them is written when row k is taken, and r is at most k.
+// rows and columns are entered in place: row r of them is written when row k is taken, and r is at most k. Where at most 32 rows
+// and 32 columns are left after the first s, those rows are taken in the block.
 pub fn find_pivots(
     q: Modulus,
     ss: &[u32],
@@ -43,8 +55,9 @@ pub fn find_pivots(
         l: 0,
         total: 0,
     };
+    let end = sparse_end(rows.len(), work.len(), s);
     let mut k = 0;
-    while k < rows.len() {
+    while k < end {
         let i = rows[k];
         let paired = k < s;
         so = take_row(
@@ -71,18 +84,24 @@ pub fn find_pivots(
         }
         k += 1;
     }
-    let r = so.r;
-    let at = so.at;
-    let l = so.l;
-    let total = so.total;
-    Pass {
-        stop: 0,
-        so: Progress {
-            over: false,
-            r: r,
-            at: at,
-            l: l,
-            total: total,
-        },
+    if k < rows.len() {
+        return find_dense(
+            q,
+            ss,
+            cols,
+            vals,
+            s,
+            so,
+            rows,
+            columns,
+            ls,
+            lc,
+            lv,
+            us,
+            uc,
+            uv,
+            work,
+        );
     }
+    Pass { stop: 0, so: so }
 }

@@ -1,0 +1,13 @@
+pub mod Reduction
+pub mod Columns
+pub mod Growing
+pub mod TakingRows
+pub mod BlockSteps
+pub mod StoringSteps
+pub mod InBlock
+pub mod DenseRows
+pub mod LeftSteps
+pub mod LeftCellSteps
+pub mod Rest
+pub mod LeftRows
+pub mod UpperRows

@@ -1,0 +1,4 @@
+pub mod Block
+pub mod Taking
+pub mod Storing
+pub mod Turn
