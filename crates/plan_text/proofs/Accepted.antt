@@ -27,10 +27,10 @@ use Rattle.plan_lines.specs.declared.judge.Sizes.{Sizes}
 use Rattle.plan_lines.specs.declared.judge.Verdict.{Verdict}
 use Rattle.plan_lines.specs.declared.judge.Verdict.the-variants.{Refused, Last, Entry as AnEntry}
 use Rattle.call_tests.specs.Limits.{largestSize}
-use Rattle.plan_text.specs.Limits.{largestText}
+use Rattle.plan_opening.specs.Limits.{largestText}
 use Rattle.plan_lines.specs.Line.{fieldsOf, lineOf, lineIn, lineWith, headerOf, headerIn, headerWith, isM}
 use Rattle.plan_lines.specs.Judge.{mayStand}
-use Rattle.plan_text.specs.Reading.{Entry, refused, accepted, kept, fresh, verdictOn, ending, onward, triples, withSizes, fromSecond, withModulus, fromFirst, readBy, readOf}
+use Rattle.plan_opening.specs.Reading.{Entry, refused, accepted, kept, fresh, verdictOn, ending, onward, triples, withSizes, fromSecond, withModulus, fromFirst, readBy, readOf}
 use Rattle.plan_text.specs.Stating.{StatedEntry, tripleText, sizesText, tripleLines, planText, entryOf, Apart, States}
 use Rattle.plan_text.proofs.Storing.{kept-zero, kept-more}
 use Rattle.plan_lines.proofs.Verdicts.{judged-entry, judged-last}

@@ -12,8 +12,8 @@ use Rattle.plan_text.specs.declared.Reading.{Reading}
 use Rattle.plan_text.specs.declared.triples.TripleLines.{TripleLines}
 use Rattle.plan_text.specs.declared.triples.TripleLines.the-variants.{Refused, Read}
 use Rattle.call_tests.specs.Limits.{largestSize}
-use Rattle.plan_text.specs.Limits.{startsLength}
-use Rattle.plan_text.specs.Reading.{Entry, ReadResult, refused, accepted, fresh, placed, triples, readOf}
+use Rattle.plan_opening.specs.Limits.{startsLength}
+use Rattle.plan_opening.specs.Reading.{Entry, ReadResult, refused, accepted, fresh, placed, triples, readOf}
 use Rattle.plan_text.specs.Stored.{RowsWithin, startsOf}
 use Rattle.plan_text.specs.Call.{StoresAll, Settles, Gives, answerBy, answerOf, callOf, refusalOf}
 use Rattle.plan_text.proofs.StoredForm.{starts-length}

@@ -11,7 +11,7 @@ use Rattle.grouping.proofs.Every.{All, Pairwise, picked-all, picked-key, picked
 use Rattle.grouping.proofs.Groups.{picked-grouped, grouped-same}
 use Rattle.grouping.proofs.Stable.{all-member, member-left, member-right, member-split, member-picked, picked-member}
 use Rattle.plan_lines.specs.declared.judge.Sizes.{Sizes}
-use Rattle.plan_text.specs.Reading.{Entry, kept, placed, readOf}
+use Rattle.plan_opening.specs.Reading.{Entry, kept, placed, readOf}
 use Rattle.plan_text.specs.Stating.{StatedEntry, planText, entryOf, entriesOf, Plan}
 use Rattle.plan_text.specs.Call.{answerBy, answerOf}
 use Rattle.plan_text.proofs.Printed.{reads-stated}

@@ -22,13 +22,13 @@ use Rattle.sparse.proofs.DenseTable.{denseRows, dense-count, dense-cell, dense-
 use Rattle.grouping.proofs.Every.{All, all-map}
 use Rattle.grouping.proofs.Stable.{all-member, member-right}
 use Rattle.plan_lines.specs.declared.judge.Sizes.{Sizes}
-use Rattle.plan_text.specs.Limits.{startsLength}
-use Rattle.plan_text.specs.Reading.{Entry, accepted, kept, placed}
+use Rattle.plan_opening.specs.Limits.{startsLength}
+use Rattle.plan_opening.specs.Reading.{Entry, accepted, kept, placed}
 use Rattle.plan_text.specs.Stored.{countTo, startsOf, columnsOf, valuesOf}
 use Rattle.plan_text.specs.Stating.{StatedEntry, integerOf, Apart, Plan, entryOf, entriesOf, statedAt}
 use Rattle.plan_text.specs.Call.{answerBy, answerOf}
 use Rattle.plan_text.specs.Held.{planOf, HoldsPlan}
-use Rattle.plan_text.proofs.Moduli.{modulus-two}
+use Rattle.plan_opening.proofs.Moduli.{modulus-two}
 use Rattle.plan_lines.proofs.Verdicts.{within-bounds}
 use Rattle.plan_text.proofs.Kept.{nonzero, kept-stated, value-below}
 use Rattle.plan_text.proofs.Scattered.{Elsewhere, Differ, Scattered, plan-scattered, apart-differ, placed-length}

@@ -41,10 +41,10 @@ use Rattle.plan_lines.specs.declared.judge.Verdict.the-variants.{Refused, Last,
 use Rattle.plan_text.specs.declared.Reading.{Reading}
 use Rattle.call_tests.specs.Limits.{largestSize}
 use Rattle.call_tests.specs.Accepted.{GoodPlan}
-use Rattle.plan_text.specs.Limits.{largestText, startsLength}
+use Rattle.plan_opening.specs.Limits.{largestText, startsLength}
 use Rattle.plan_lines.specs.Line.{headerOf}
 use Rattle.plan_lines.specs.Judge.{judge, inRange, isLast, within, residueAt}
-use Rattle.plan_text.specs.Reading.{Entry, ReadResult, refused, accepted, fresh, ending, onward, triples, verdictOn, withSizes, fromSecond, withModulus, fromFirst, readBy, readOf}
+use Rattle.plan_opening.specs.Reading.{Entry, ReadResult, refused, accepted, fresh, ending, onward, triples, verdictOn, withSizes, fromSecond, withModulus, fromFirst, readBy, readOf}
 use Rattle.plan_text.specs.Rising.{readRisingOf}
 use Rattle.plan_text.specs.Stating.{States, StatedEntry, Plan, planText, entriesOf, integerOf}
 use Rattle.plan_text.specs.Call.{ReadAnswer, refuses, answerBy, answerOf, answerRisingOf, callOf, Gives}

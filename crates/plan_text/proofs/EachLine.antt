@@ -12,8 +12,8 @@ use Rattle.fields.proofs.Cuts.{piece-end, piece-last, piece-more}
 use Rattle.line_reader.specs.Line.{lineAt, lineEnd, Ends}
 use Rattle.line_reader.specs.declared.Place.{Place}
 use Rattle.plan_lines.specs.declared.judge.Sizes.{Sizes}
-use Rattle.plan_text.specs.Reading.{Entry, refused, accepted, ending}
-use Rattle.plan_text.specs.Call.{Limits}
+use Rattle.plan_opening.specs.Reading.{Entry, refused, accepted, ending}
+use Rattle.plan_opening.specs.Opening.{Limits}
 
 -- nothing follows the last line
 pub ending-none : (s : Sizes) (k : ℕ) (seen : List Entry) (text : List ℕ) (at : ℕ) → at ≡ length text → ending s k seen (pieces 10 (drop at text)) ≡ accepted s seen

@@ -11,7 +11,7 @@ use Rattle.fields.specs.Decimal.{decimalIn, decimal, signedText, Proper}
 use Rattle.fields.specs.declared.numbers.Signed.{Signed}
 use Rattle.fields.specs.declared.numbers.Signed.the-variants.{Plus, Minus, NotSigned}
 use Rattle.plan_lines.specs.declared.judge.Sizes.{Sizes}
-use Rattle.plan_text.specs.Reading.{Entry, accepted, kept, readOf}
+use Rattle.plan_opening.specs.Reading.{Entry, accepted, kept, readOf}
 use Rattle.plan_text.specs.Stating.{StatedEntry, tripleText, sizesText, tripleLines, planText, entryOf, Apart}
 use Rattle.plan_text.proofs.Accepted.{accepted-states}
 use Rattle.plan_text.proofs.Kept.{nonzero, kept-stated}

@@ -18,8 +18,8 @@ use Rattle.plan_lines.specs.declared.sight.Sight.{Sight}
 use Rattle.plan_lines.specs.declared.sight.Sight.the-variants.{Stops, Finishes, Stands, Fails}
 use Rattle.plan_lines.specs.Line.{lineOf}
 use Rattle.plan_lines.specs.Sight.{sight}
-use Rattle.plan_text.specs.Reading.{Entry, ReadResult, refused, kept, ending}
-use Rattle.plan_text.specs.Call.{Limits}
+use Rattle.plan_opening.specs.Reading.{Entry, ReadResult, refused, kept, ending}
+use Rattle.plan_opening.specs.Opening.{Limits}
 use Rattle.plan_text.specs.Collect.{Collected, tripleOf, gather, collect, outcomeOf, tripleIn, Held}
 use Rattle.plan_text.specs.Needs.{mostLines, Keepable, Collectable, Collects}
 use Rattle.plan_lines.proofs.Verdicts.{within-bounds}

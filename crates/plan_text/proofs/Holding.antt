@@ -5,7 +5,7 @@ use Prim.Native.Nat.{ℕ, _<_}
 use native.Mathlib.Omega.{arith}
 use lib.ListN.{length, set}
 use lib.Seq.{getD-set-same, getD-set-other}
-use Rattle.plan_text.specs.Reading.{Entry}
+use Rattle.plan_opening.specs.Reading.{Entry}
 use Rattle.plan_text.specs.Collect.{tripleOf, tripleIn, Held}
 
 held-same : (E F : ℕ → Entry) (ts : List Entry) → ((x : ℕ) → x < length ts → F x ≡ E x) → Held E ts → Held F ts

@@ -11,7 +11,7 @@ use Rattle.fields.specs.Number.{isNegative, magnitude}
 use Rattle.residue.specs.Signed.{signedResidue}
 use Rattle.residue.proofs.Signed.{residue-value}
 use Rattle.grouping.proofs.Every.{All, Pairwise, all-append, all-map, pairwise-append}
-use Rattle.plan_text.specs.Reading.{Entry, kept}
+use Rattle.plan_opening.specs.Reading.{Entry, kept}
 use Rattle.plan_text.specs.Stating.{StatedEntry, entryOf}
 use Rattle.plan_text.proofs.Storing.{kept-zero, kept-more}
 

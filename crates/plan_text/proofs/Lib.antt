@@ -1,5 +1,3 @@
-pub mod Moduli
-pub mod FirstLines
 pub mod StoredForm
 pub mod Storing
 pub mod Kept

@@ -24,7 +24,7 @@ use Rattle.grouping.specs.Grouping.{picked, grouped}
 use Rattle.grouping.proofs.Every.{All, Pairwise, all-map, picked-all, picked-key, grouped-all, grouped-below}
 use Rattle.grouping.proofs.Groups.{picked-none, picked-grouped}
 use Rattle.plan_lines.specs.declared.judge.Sizes.{Sizes}
-use Rattle.plan_text.specs.Reading.{Entry, kept, placed}
+use Rattle.plan_opening.specs.Reading.{Entry, kept, placed}
 use Rattle.plan_text.specs.Stored.{countTo}
 use Rattle.plan_text.proofs.Kept.{kept-some}
 use Rattle.plan_text.proofs.Scattered.{rowOf, columnOf, Sits, Elsewhere, Differ, Scattered, kept-differ, kept-sits}

@@ -23,10 +23,10 @@ use Rattle.plan_lines.specs.declared.header.Header.the-variants.{Given}
 use Rattle.plan_lines.specs.declared.judge.Sizes.{Sizes}
 use Rattle.plan_lines.specs.declared.judge.Verdict.the-variants.{Last, Entry as AnEntry}
 use Rattle.call_tests.specs.Limits.{largestSize}
-use Rattle.plan_text.specs.Limits.{largestText}
+use Rattle.plan_opening.specs.Limits.{largestText}
 use Rattle.plan_lines.specs.Line.{fieldsOf, lineOf, withSigned, headerOf}
 use Rattle.plan_lines.specs.Judge.{judge, inRange, isLast, residueAt}
-use Rattle.plan_text.specs.Reading.{Entry, accepted, kept, fresh, verdictOn, triples, readBy, readOf}
+use Rattle.plan_opening.specs.Reading.{Entry, accepted, kept, fresh, verdictOn, triples, readBy, readOf}
 use Rattle.plan_text.specs.Stating.{StatedEntry, tripleText, sizesText, lastLine, tripleLines, planText, entryOf, entriesOf, Stands, Apart, Plan}
 use Rattle.plan_text.proofs.Storing.{kept-zero, kept-more}
 use Rattle.plan_lines.proofs.Verdicts.{within-bounds}

@@ -14,13 +14,14 @@ use Rattle.plan_lines.specs.declared.judge.Sizes.{Sizes}
 use Rattle.plan_lines.specs.declared.judge.Verdict.{Verdict}
 use Rattle.plan_lines.specs.declared.judge.Verdict.the-variants.{Refused, Last, Entry as AnEntry}
 use Rattle.plan_text.specs.declared.triples.TripleLines.the-variants.{Read}
-use Rattle.plan_text.specs.Limits.{startsLength}
+use Rattle.plan_opening.specs.Limits.{startsLength}
 use Rattle.plan_lines.specs.Line.{lineOf}
 use Rattle.plan_lines.specs.Judge.{judge, mayStand, before}
-use Rattle.plan_text.specs.Reading.{Entry, ReadResult, refused, accepted, kept, onward, triples, verdictOn}
+use Rattle.plan_opening.specs.Reading.{Entry, ReadResult, refused, accepted, kept, onward, triples, verdictOn}
 use Rattle.plan_text.specs.Rising.{lastRow, lastColumn, rises}
 use Rattle.plan_text.specs.Stored.{startsOf, RowsWithin, EntriesStored, Storable}
-use Rattle.plan_text.specs.Call.{Begins, Limits, Shows}
+use Rattle.plan_text.specs.Call.{Begins, Shows}
+use Rattle.plan_opening.specs.Opening.{Limits}
 use Rattle.plan_text.proofs.EachLine.{ending-none, ending-some, no-lines, last-line, next-place, line-more, next-limits}
 use Rattle.plan_text.proofs.StoredForm.{starts-length, columns-length, values-length}
 use Rattle.plan_text.proofs.Storing.{cleared-stores-none, kept-zero, kept-more}

@@ -16,10 +16,10 @@ use Rattle.fields.specs.declared.numbers.Number.{Number}
 use Rattle.fields.specs.declared.numbers.Number.the-variants.{Value, NotNumber}
 use Rattle.residue.specs.Range.{isModulus}
 use Rattle.call_tests.specs.Limits.{largestSize}
-use Rattle.plan_text.specs.Limits.{largestText}
+use Rattle.plan_opening.specs.Limits.{largestText}
 use Rattle.plan_lines.specs.Line.{lineOf, headerOf}
 use Rattle.plan_lines.specs.Judge.{mayStand, before}
-use Rattle.plan_text.specs.Reading.{Entry, ReadResult, refused, accepted, kept, fresh, placed, ending, onward, triples, withSizes, fromSecond, withModulus, fromFirst, readBy, readOf}
+use Rattle.plan_opening.specs.Reading.{Entry, ReadResult, refused, accepted, kept, fresh, placed, ending, onward, triples, withSizes, fromSecond, withModulus, fromFirst, readBy, readOf}
 use Rattle.plan_text.specs.Rising.{lastRow, lastColumn, rises, readRisingOf}
 use Rattle.plan_text.specs.Call.{answerBy, answerOf, answerRisingOf}
 use Rattle.plan_lines.specs.declared.header.Header.{Header}

@@ -10,7 +10,7 @@ use Rattle.fields.specs.Pieces.{Pieces}
 use Rattle.plan_lines.specs.declared.judge.Sizes.{Sizes}
 use Rattle.plan_text.specs.declared.triples.TripleLines.{TripleLines}
 use Rattle.plan_text.specs.declared.triples.TripleLines.the-variants.{Refused, Read}
-use Rattle.plan_text.specs.Reading.{Entry, ReadResult, refused, accepted, kept, fresh, placed, triples}
+use Rattle.plan_opening.specs.Reading.{Entry, ReadResult, refused, accepted, kept, fresh, placed, triples}
 use Rattle.plan_text.specs.Rising.{lastRow, rises}
 use Rattle.plan_text.specs.Stored.{EntriesStored}
 use Rattle.plan_text.specs.Call.{Shows, StoresAll, Settles}

@@ -14,8 +14,8 @@ use Rattle.lists.specs.Filled.{zeros, filled}
 use Rattle.lists.specs.Tabulate.{tabulate}
 use Rattle.lists.proofs.Filled.{filled-none, length-filled}
 use Rattle.lists.proofs.Tabulate.{length-tabulate, tabulate-more, tabulate-ext}
-use Rattle.plan_text.specs.Limits.{startsLength}
-use Rattle.plan_text.specs.Reading.{Entry}
+use Rattle.plan_opening.specs.Limits.{startsLength}
+use Rattle.plan_opening.specs.Reading.{Entry}
 use Rattle.plan_text.specs.Stored.{countTo, startsOf, columnsOf, valuesOf, RowsWithin}
 
 -- ---- a list that is filled, one element more or another last element

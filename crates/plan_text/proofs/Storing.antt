@@ -5,7 +5,7 @@ use Prim.Native.Nat.{ℕ, _+_, _-_, _≤_, _<_}
 use native.Mathlib.Omega.{arith}
 use lib.ListN.{length, set, length-append}
 use borrow.Author.Tests.{eq-eqb, ne-eqb}
-use Rattle.plan_text.specs.Reading.{Entry, kept}
+use Rattle.plan_opening.specs.Reading.{Entry, kept}
 use Rattle.plan_text.specs.Stored.{startsOf, RowsWithin, EntriesStored}
 use Rattle.plan_text.specs.Call.{Cleared}
 use Rattle.plan_text.proofs.StoredForm.{starts-none, columns-none, values-none, rows-wider, rows-more, starts-more, columns-more, values-more}

@@ -7,31 +7,24 @@
 --   callOf text a b c   the answer for lists of the lengths a, b and c: 9 where one is wrong
 --   Gives x r ..        the result and the lists are what the answer x says
 --   Cleared             the lists have their lengths and are all zero
---   Limits              the place and number of a line of a text that is not too long, and sizes within their limits
 --   Begins, Shows       what reading triples that rise starts from, and what it returns and leaves
 --   StoresAll, Settles  the entries that the lists hold in the end, and what reading triples in any order returns and leaves
---   Second              what reading the second line starts from
---   afterOpen, Bounded  what the first two lines lead to, and the limits that sizes which were read keep
-use Prim.Native.Nat.{ℕ, _+_, _≤_}
+use Prim.Native.Nat.{ℕ, _≤_}
 use mathlib.Core.Path.{_≡_}
-use mathlib.Core.List.{List, []}
-use mathlib.Core.Bool.{Bool, true, cond, _&&_}
+use mathlib.Core.List.{List}
+use mathlib.Core.Bool.{cond, _&&_}
 use lib.Dec.{eqb}
-use lib.ListN.{length, drop}
+use lib.ListN.{length}
 use Rattle.lists.specs.Table.{wrongLength}
 use Rattle.lists.specs.Filled.{zeros}
-use Rattle.residue.specs.Range.{isModulus}
-use Rattle.fields.specs.Pieces.{pieces}
 use Rattle.line_reader.specs.declared.Place.{Place}
-use Rattle.call_tests.specs.Limits.{largestSize}
-use Rattle.plan_text.specs.Limits.{largestText, startsLength}
-use Rattle.plan_text.specs.Reading.{Entry, kept, placed, ReadResult, refused, accepted, triples, readOf}
+use Rattle.plan_opening.specs.Limits.{startsLength}
+use Rattle.plan_opening.specs.Reading.{Entry, kept, placed, ReadResult, refused, accepted, readOf}
+use Rattle.plan_opening.specs.Opening.{Limits}
 use Rattle.plan_text.specs.Rising.{lastRow}
 use Rattle.plan_text.specs.Stored.{startsOf, columnsOf, valuesOf, EntriesStored}
 use Rattle.plan_text.specs.declared.Reading.{Reading}
 use Rattle.plan_lines.specs.declared.judge.Sizes.{Sizes}
-use Rattle.plan_text.specs.declared.opening.Opening.{Opening}
-use Rattle.plan_text.specs.declared.opening.Opening.the-variants.{Refused as NotOpened, Opened}
 use Rattle.plan_text.specs.declared.triples.TripleLines.{TripleLines}
 use Rattle.plan_text.specs.declared.triples.TripleLines.the-variants.{Refused, Read}
 
@@ -81,15 +74,6 @@ pub record Cleared (starts columns values : List ℕ) : Type 0 where
   pub values-zero : values ≡ zeros (length columns)
 
 -- ---- the triples
--- sizes that were read, and the line to read next. Each line before it has at least its line feed, so its number fits in 32 bits
-pub record Limits (text : List ℕ) (s : Sizes) (next : Place) : Type 0 where
-  pub place : next .at ≤ length text
-  pub numbered : next .line ≤ next .at + 1
-  pub short : length text ≤ largestText
-  pub modulus : isModulus (s .modulus .p) ≡ true
-  pub n-limit : s .n ≤ largestSize
-  pub m-limit : s .m ≤ largestSize
-
 pub record Begins (text : List ℕ) (from : Place) (s : Sizes) (starts columns values : List ℕ) : Type 0 where
   pub limits : Limits text s from
   pub cleared : Cleared starts columns values
@@ -107,19 +91,3 @@ StoresAll n room es (Read count row) starts columns values = EntriesStored row r
 abbrev pub Settles : ℕ → ReadResult → TripleLines → List ℕ → List ℕ → List ℕ → Type 0
 Settles room (refused c k) r starts columns values = r ≡ Refused c k
 Settles room (accepted s seen) r starts columns values = StoresAll (s .n) room (placed s seen) r starts columns values
-
--- ---- the first two lines
-pub record Second (text : List ℕ) (second : Place) (p : ℕ) : Type 0 where
-  pub place : second .at ≤ length text
-  pub numbered : second .line ≤ second .at + 1
-  pub number-is : second .line ≡ 2
-  pub short : length text ≤ largestText
-  pub modulus : isModulus p ≡ true
-
-abbrev pub afterOpen : (List Entry → ℕ → ℕ → Bool) → ℕ → List ℕ → Opening → ReadResult
-afterOpen rule room text (NotOpened c d) = refused c d
-afterOpen rule room text (Opened s third) = triples rule s room (third .line) [] (pieces 10 (drop (third .at) text))
-
-abbrev pub Bounded : List ℕ → Opening → Type 0
-Bounded text (NotOpened c d) = Unit {0}
-Bounded text (Opened s third) = Limits text s third

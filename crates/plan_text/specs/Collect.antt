@@ -21,7 +21,7 @@ use Rattle.grouping.specs.Grouping.{keyOf, grouped}
 use Rattle.fields.specs.Pieces.{Pieces, last, more}
 use Rattle.plan_lines.specs.Line.{lineOf}
 use Rattle.plan_lines.specs.Sight.{sight}
-use Rattle.plan_text.specs.Reading.{Entry, ReadResult, refused, accepted, kept, fresh, ending}
+use Rattle.plan_opening.specs.Reading.{Entry, ReadResult, refused, accepted, kept, fresh, ending}
 use Rattle.plan_lines.specs.declared.judge.Sizes.{Sizes}
 use Rattle.plan_lines.specs.declared.sight.Sight.{Sight}
 use Rattle.plan_lines.specs.declared.sight.Sight.the-variants.{Stops, Finishes, Stands, Fails}

@@ -15,7 +15,7 @@ use Rattle.lists.specs.Filled.{zeros}
 use Rattle.sparse.specs.Matrix.{Compressed, compressed, matrix, form}
 use Rattle.plan_lines.specs.declared.judge.Sizes.{Sizes}
 use Rattle.plan_text.specs.declared.Reading.{Reading}
-use Rattle.plan_text.specs.Reading.{kept}
+use Rattle.plan_opening.specs.Reading.{kept}
 use Rattle.plan_text.specs.Stating.{StatedEntry, Plan, planText, entriesOf, statedAt}
 use Rattle.plan_text.specs.Call.{ReadAnswer, refusalOf}
 

@@ -1,5 +1,3 @@
-pub mod Limits
-pub mod Reading
 pub mod Rising
 pub mod Stored
 pub mod Call

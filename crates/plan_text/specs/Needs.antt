@@ -13,8 +13,9 @@ use lib.ListN.{length, getD}
 use Rattle.line_reader.specs.declared.Place.{Place}
 use Rattle.grouping.specs.Grouping.{keyOf}
 use Rattle.call_tests.specs.Limits.{largestSize}
-use Rattle.plan_text.specs.Reading.{kept}
-use Rattle.plan_text.specs.Call.{Limits, Cleared}
+use Rattle.plan_opening.specs.Reading.{kept}
+use Rattle.plan_text.specs.Call.{Cleared}
+use Rattle.plan_opening.specs.Opening.{Limits}
 use Rattle.plan_text.specs.Collect.{Collected, outcomeOf, tripleIn, Held}
 use Rattle.plan_lines.specs.declared.judge.Sizes.{Sizes}
 use Rattle.plan_text.specs.declared.collecting.Gathered.{Gathered}

@@ -6,7 +6,7 @@ use Prim.Native.Nat.{ℕ}
 use mathlib.Core.List.{List, [], _∷_}
 use mathlib.Core.Bool.{Bool}
 use Rattle.plan_lines.specs.Judge.{before}
-use Rattle.plan_text.specs.Reading.{Entry, ReadResult, readBy}
+use Rattle.plan_opening.specs.Reading.{Entry, ReadResult, readBy}
 
 abbrev pub lastRow : List Entry → ℕ
 lastRow [] = 0

@@ -29,9 +29,9 @@ use Rattle.fields.specs.declared.numbers.Signed.{Signed}
 use Rattle.fields.specs.declared.numbers.Signed.the-variants.{Plus}
 use Rattle.plan_lines.specs.declared.judge.Sizes.{Sizes}
 use Rattle.call_tests.specs.Limits.{largestSize}
-use Rattle.plan_text.specs.Limits.{largestText}
+use Rattle.plan_opening.specs.Limits.{largestText}
 use Rattle.plan_lines.specs.Judge.{inRange, within}
-use Rattle.plan_text.specs.Reading.{Entry, kept, fresh}
+use Rattle.plan_opening.specs.Reading.{Entry, kept, fresh}
 
 pub record StatedEntry : Type 0 where
   pub row : ℕ

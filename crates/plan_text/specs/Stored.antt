@@ -13,8 +13,8 @@ use lib.Dec.{leb}
 use lib.ListN.{length}
 use Rattle.lists.specs.Filled.{filled}
 use Rattle.lists.specs.Tabulate.{tabulate}
-use Rattle.plan_text.specs.Limits.{startsLength}
-use Rattle.plan_text.specs.Reading.{Entry}
+use Rattle.plan_opening.specs.Limits.{startsLength}
+use Rattle.plan_opening.specs.Reading.{Entry}
 
 unfoldable pub countTo : ℕ → List Entry → ℕ
 countTo k [] = 0

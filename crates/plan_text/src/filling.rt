@@ -3,8 +3,8 @@ ghost use mathlib.Core.Path.{_≡_};
 ghost use mathlib.Core.List.{List, _∷_};
 ghost use Prim.Native.Nat.{_≤_, _<_};
 ghost use lib.ListN.{length};
-ghost use Rattle.plan_text.specs.Limits.{startsLength};
-ghost use Rattle.plan_text.specs.Reading.{Entry, kept};
+ghost use Rattle.plan_opening.specs.Limits.{startsLength};
+ghost use Rattle.plan_opening.specs.Reading.{Entry, kept};
 ghost use Rattle.plan_text.specs.Stored.{RowsWithin, startsOf, EntriesStored, Storable};
 
 // The starts after the rows `from` + 1 to `to`, which have no entry: all entries stand before them.

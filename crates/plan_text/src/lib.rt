@@ -3,16 +3,15 @@ ghost use mathlib.Core.Path.{_≡_};
 ghost use mathlib.Core.List.{[]};
 ghost use lib.ListN.{length, drop};
 ghost use Rattle.fields.specs.Pieces.{pieces};
-ghost use Rattle.plan_text.specs.Reading.{fresh, triples, readOf};
+ghost use Rattle.plan_opening.specs.Reading.{fresh, triples, readOf};
 ghost use Rattle.plan_text.specs.Call.{answerOf, callOf, refusalOf, Gives, Cleared, Begins, Settles};
 use line_reader::Place;
-use opening::Opening;
 use plan_lines::judge::Sizes;
+use plan_opening::opening::Opening;
 use triples::TripleLines;
 
 pub mod collecting;
 pub mod filling;
-pub mod opening;
 pub mod sorting;
 pub mod triples;
 
@@ -74,7 +73,7 @@ fn fill(text: &[u8], starts: &mut [u32], columns: &mut [u32], values: &mut [u32]
     requires { ⌜ Cleared (now starts) (now columns) (now values) ⌝ }
     ensures { λ r. ⌜ Gives (answerOf (length (now (columns .entry))) (readOf (length (now (columns .entry))) (now (text .entry)))) r (now (starts .exit)) (now (columns .exit)) (now (values .exit)) ⌝ }
 {
-    match opening::open(text) {
+    match plan_opening::opening::open(text) {
         Opening::Refused { number, detail } => refusal(number, detail),
         Opening::Opened { s, third } => match read_lines(text, third, s, starts, columns, values) {
             TripleLines::Refused { number, line } => {

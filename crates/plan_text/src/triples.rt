@@ -2,7 +2,7 @@
 ghost use mathlib.Core.List.{[]};
 ghost use lib.ListN.{length, drop};
 ghost use Rattle.fields.specs.Pieces.{pieces};
-ghost use Rattle.plan_text.specs.Reading.{triples};
+ghost use Rattle.plan_opening.specs.Reading.{triples};
 ghost use Rattle.plan_text.specs.Rising.{rises};
 ghost use Rattle.plan_text.specs.Call.{Begins, Shows};
 use line_reader::Place;

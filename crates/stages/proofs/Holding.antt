@@ -4,7 +4,7 @@ use mathlib.Core.List.{List}
 use Prim.Native.Nat.{ℕ, _≤_}
 use native.Mathlib.Omega.{arith}
 use lib.ListN.{length}
-use Rattle.plan_text.specs.Reading.{Entry, ReadResult, refused, accepted, placed, readOf}
+use Rattle.plan_opening.specs.Reading.{Entry, ReadResult, refused, accepted, placed, readOf}
 use Rattle.plan_text.specs.Call.{ReadAnswer, answerBy, answerOf, callOf, Gives}
 use Rattle.plan_text.specs.Stating.{entriesOf}
 use Rattle.plan_text.specs.declared.Reading.{Reading}

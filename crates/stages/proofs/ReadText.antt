@@ -24,7 +24,7 @@ use Rattle.elimination.specs.Selection.{structural}
 use Rattle.elimination.proofs.Room.{some-overflows}
 use Rattle.call_tests.specs.Limits.{largestEntries}
 use Rattle.call_tests.specs.Accepted.{GoodPlan}
-use Rattle.plan_text.specs.Limits.{startsLength}
+use Rattle.plan_opening.specs.Limits.{startsLength}
 use Rattle.plan_text.specs.Call.{callOf, Gives}
 use Rattle.plan_text.specs.Held.{planOf, StatesPlan, HoldsPlan}
 use Rattle.plan_text.proofs.Done.{done-exactly, holds-stated, read-good, read-by}

@@ -9,7 +9,7 @@ use mathlib.Core.Path.{_≡_}
 use mathlib.Core.List.{List}
 use lib.ListN.{length}
 use Rattle.sparse.specs.Matrix.{Compressed}
-use Rattle.plan_text.specs.Limits.{startsLength}
+use Rattle.plan_opening.specs.Limits.{startsLength}
 use Rattle.plan_text.specs.declared.Reading.{Reading}
 use Rattle.call_tests.specs.Limits.{largestSize, largestEntries, workLength}
 

@@ -11,7 +11,7 @@ use lib.Dec.{eqb}
 use Rattle.lists.specs.Refusals.{unless}
 use Rattle.lists.specs.declared.Outcome as tests
 use Rattle.sparse.specs.Set.{Set, setOf}
-use Rattle.plan_text.specs.Limits.{startsLength}
+use Rattle.plan_opening.specs.Limits.{startsLength}
 use Rattle.plan_text.specs.Call.{ReadAnswer, callOf}
 use Rattle.plan_text.specs.Held.{planOf}
 use Rattle.plan_text.specs.declared.Reading.{Reading}

@@ -45,8 +45,8 @@ use Rattle.elimination.specs.Factoring.{schedule, nothing}
 use Rattle.elimination.specs.Overflow.{Overflows}
 use Rattle.plan_text.specs.declared.Reading.{Reading}
 use Rattle.plan_lines.specs.declared.judge.Sizes.{Sizes}
-use Rattle.plan_text.specs.Limits.{startsLength}
-use Rattle.plan_text.specs.Reading.{Entry, accepted, kept, readOf}
+use Rattle.plan_opening.specs.Limits.{startsLength}
+use Rattle.plan_opening.specs.Reading.{Entry, accepted, kept, readOf}
 use Rattle.plan_text.specs.Rising.{readRisingOf}
 use Rattle.plan_text.specs.Stating.{States, StatedEntry, Plan, planText, integerOf}
 use Rattle.plan_text.specs.Call.{answerRisingOf, callOf, Gives}

@@ -10,10 +10,11 @@ use Rattle.lists.proofs.Filled.{length-zeros}
 use Rattle.fields.specs.Pieces.{Pieces, pieces}
 use Rattle.line_reader.specs.declared.Place.{Place}
 use Rattle.plan_lines.specs.declared.judge.Sizes.{Sizes}
-use Rattle.plan_text.specs.declared.opening.Opening.{Opening}
-use Rattle.plan_text.specs.Limits.{startsLength}
-use Rattle.plan_text.specs.Reading.{ReadResult, fresh, readOf, triples}
-use Rattle.plan_text.specs.Call.{Limits, Bounded, Settles, afterOpen}
+use Rattle.plan_opening.specs.declared.opening.Opening.{Opening}
+use Rattle.plan_opening.specs.Limits.{startsLength}
+use Rattle.plan_opening.specs.Reading.{ReadResult, fresh, readOf, triples}
+use Rattle.plan_text.specs.Call.{Settles}
+use Rattle.plan_opening.specs.Opening.{Limits, Bounded, afterOpen}
 use Rattle.plan_text.proofs.Answers.{gives-refusal, settles-refused, extendable, gives-read}
 use Rattle.plan_text.proofs.fill.Statement.{statement}
 use Rattle.plan_text.proofs.fill.Tie as tie

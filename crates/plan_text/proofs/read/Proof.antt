@@ -5,7 +5,7 @@ use lib.ListN.{length}
 use denote.Ref.{now}
 use borrow.Author.Needs.{needs}
 use Rattle.lists.specs.Filled.{zeros}
-use Rattle.plan_text.specs.Reading.{readOf}
+use Rattle.plan_opening.specs.Reading.{readOf}
 use Rattle.plan_text.specs.Call.{answerOf, Gives}
 use Rattle.plan_text.proofs.Answers.{call-reads, call-starts, call-lists}
 use Rattle.plan_text.proofs.read.Statement.{statement}

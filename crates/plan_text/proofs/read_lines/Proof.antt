@@ -8,8 +8,8 @@ use borrow.Author.Needs.{needs}
 use Rattle.lists.specs.Filled.{zeros}
 use Rattle.lists.proofs.Filled.{length-zeros}
 use Rattle.fields.specs.Pieces.{pieces}
-use Rattle.plan_text.specs.Limits.{startsLength}
-use Rattle.plan_text.specs.Reading.{fresh, triples}
+use Rattle.plan_opening.specs.Limits.{startsLength}
+use Rattle.plan_opening.specs.Reading.{fresh, triples}
 use Rattle.plan_text.specs.Call.{Settles}
 use Rattle.plan_text.proofs.Settling.{refused-settles, read-settles}
 use Rattle.plan_text.proofs.read_lines.Statement.{statement}

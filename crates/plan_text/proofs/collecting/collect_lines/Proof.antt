@@ -8,7 +8,7 @@ use denote.Ref.{now}
 use borrow.Author.Needs.{needs}
 use Rattle.plan_lines.specs.Line.{lineOf}
 use Rattle.plan_lines.specs.Sight.{sight}
-use Rattle.plan_text.proofs.Moduli.{modulus-two}
+use Rattle.plan_opening.proofs.Moduli.{modulus-two}
 use Rattle.plan_lines.proofs.Sights.{Placed}
 use Rattle.plan_text.proofs.EachLine.{line-end, has-feed}
 use Rattle.plan_text.proofs.Gathering.{Gathering, Looked, gathering-starts, takes-one, no-line, no-feed, goes-on, is-stopped, is-finished, placed-stands, placed-fails, cell-free, keepable, rows-next, columns-next, values-next, gathering-turn, is-failed}

@@ -5,7 +5,7 @@ use Prim.Native.Nat.{ℕ, _+_, _-_, _≤_}
 use native.Mathlib.Nat.{le-refl}
 use native.Mathlib.Omega.{arith}
 use lib.ListN.{length, set, length-set}
-use Rattle.plan_text.specs.Reading.{Entry}
+use Rattle.plan_opening.specs.Reading.{Entry}
 use Rattle.plan_text.specs.Stored.{RowsWithin, startsOf}
 use Rattle.plan_text.proofs.StoredForm.{starts-extend}
 use Rattle.plan_text.proofs.filling.extend_starts.Statement.{statement}

@@ -3,7 +3,7 @@ use native.Mathlib.Omega.{arith}
 use denote.Ref.{now}
 use Prim.Native.Nat.{_<_}
 use lib.ListN.{length}
-use Rattle.plan_text.specs.Reading.{kept}
+use Rattle.plan_opening.specs.Reading.{kept}
 use Rattle.plan_text.proofs.Storing.{stored-zero, stored-more}
 use borrow.Author.Needs.{needs}
 use Rattle.plan_text.proofs.filling.store.Statement.{statement}

@@ -7,8 +7,8 @@ use denote.Ref.{now}
 use borrow.Author.Needs.{needs}
 use Rattle.lists.proofs.Filled.{length-zeros}
 use Rattle.line_reader.specs.Line.{Ends}
-use Rattle.plan_text.specs.Limits.{startsLength}
-use Rattle.plan_text.proofs.Moduli.{modulus-two}
+use Rattle.plan_opening.specs.Limits.{startsLength}
+use Rattle.plan_opening.proofs.Moduli.{modulus-two}
 use Rattle.plan_text.proofs.EachLine.{line-end, has-feed, next-place}
 use Rattle.plan_text.proofs.Progress.{Progress, progress-starts, starts-long, columns-long, values-long, shows-read, no-line, no-feed, is-refused, is-finished, not-finished, storable, goes-on}
 use Rattle.plan_text.proofs.triples.read_triples.Statement.{statement}

@@ -18,10 +18,10 @@ use Rattle.plan_lines.specs.declared.judge.Sizes.{Sizes}
 use Rattle.plan_lines.specs.declared.header.Header.{Header}
 use Rattle.plan_lines.specs.declared.header.Header.the-variants.{Given, NotHeader}
 use Rattle.call_tests.specs.Limits.{largestSize}
-use Rattle.plan_text.specs.Limits.{largestText}
+use Rattle.plan_opening.specs.Limits.{largestText}
 use Rattle.plan_lines.specs.Line.{headerOf}
-use Rattle.plan_text.specs.Reading.{Entry, refused, triples, withSizes, fromSecond, withModulus, fromFirst, readBy}
-use Rattle.plan_text.specs.Call.{Limits, Second}
+use Rattle.plan_opening.specs.Reading.{Entry, refused, triples, withSizes, fromSecond, withModulus, fromFirst, readBy}
+use Rattle.plan_opening.specs.Opening.{Limits, Second}
 
 -- ---- the second line l
 module _ (text : List ℕ) {l : List ℕ} (second : Place) (p : ℕ) (h : Second text second p) (e : l ≡ lineAt text (second .at)) where

@@ -2,10 +2,10 @@
 use lib.ListN.{length}
 use denote.Ref.{now}
 use Rattle.line_reader.specs.Line.{Ends}
-use Rattle.plan_text.proofs.FirstLines.{second-none, second-ends, second-bad, second-n, second-m, second-ready, second-limits}
+use Rattle.plan_opening.proofs.FirstLines.{second-none, second-ends, second-bad, second-n, second-m, second-ready, second-limits}
 use borrow.Author.Needs.{needs}
-use Rattle.plan_text.proofs.opening.open_second.Statement.{statement}
-use Rattle.plan_text.proofs.opening.open_second.Tie as tie
+use Rattle.plan_opening.proofs.opening.open_second.Statement.{statement}
+use Rattle.plan_opening.proofs.opening.open_second.Tie as tie
 
 -- the line has a line feed
 ends : (c : tie.Else1) → Ends (now (c .before .before .before .before .args .text)) (c .before .before .before .before .args .second .at) (c .before .before .before .before .args .second .line) (length (now (c .before .before .line-from .result)))

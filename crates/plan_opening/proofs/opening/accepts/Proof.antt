@@ -1,9 +1,9 @@
 -- `accepts` meets its contract: a number past 32 bits is no modulus. Assumes nothing.
 use mathlib.Core.Path.{sym}
-use Rattle.plan_text.proofs.Moduli.{not-modulus}
+use Rattle.plan_opening.proofs.Moduli.{not-modulus}
 use borrow.Author.Needs.{needs}
-use Rattle.plan_text.proofs.opening.accepts.Statement.{statement}
-use Rattle.plan_text.proofs.opening.accepts.Tie as tie
+use Rattle.plan_opening.proofs.opening.accepts.Statement.{statement}
+use Rattle.plan_opening.proofs.opening.accepts.Tie as tie
 
 returns : tie.Need-returns
 returns c = sym (not-modulus _ (c .if1 .taken))

@@ -24,7 +24,7 @@ use Rattle.fields.specs.declared.numbers.Number.{Number}
 use Rattle.fields.specs.declared.numbers.Number.the-variants.{Value, NotNumber}
 use Rattle.residue.specs.Range.{isModulus}
 use Rattle.call_tests.specs.Limits.{largestSize}
-use Rattle.plan_text.specs.Limits.{largestText}
+use Rattle.plan_opening.specs.Limits.{largestText}
 use Rattle.plan_lines.specs.Line.{lineOf, headerOf}
 use Rattle.plan_lines.specs.Judge.{judge, mayStand}
 use Rattle.plan_lines.specs.declared.header.Header.{Header}

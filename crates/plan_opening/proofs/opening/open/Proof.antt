@@ -5,11 +5,11 @@ use lib.ListN.{length}
 use denote.Ref.{now}
 use Rattle.line_reader.specs.Line.{Ends}
 use Rattle.residue.specs.Range.{isModulus}
-use Rattle.plan_text.proofs.Moduli.{modulus-fits}
-use Rattle.plan_text.proofs.FirstLines.{too-long, first-none, first-ends, first-bad, first-composite, first-ready, first-second}
+use Rattle.plan_opening.proofs.Moduli.{modulus-fits}
+use Rattle.plan_opening.proofs.FirstLines.{too-long, first-none, first-ends, first-bad, first-composite, first-ready, first-second}
 use borrow.Author.Needs.{needs}
-use Rattle.plan_text.proofs.opening.open.Statement.{statement}
-use Rattle.plan_text.proofs.opening.open.Tie as tie
+use Rattle.plan_opening.proofs.opening.open.Statement.{statement}
+use Rattle.plan_opening.proofs.opening.open.Tie as tie
 
 returns : tie.Need-returns
 returns c = (too-long (now (c .before .before .args .text)) (c .if1 .taken), tt)

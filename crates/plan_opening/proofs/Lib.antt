@@ -1,0 +1,2 @@
+pub mod Moduli
+pub mod FirstLines
