@@ -8,7 +8,7 @@ use native.Mathlib.Nat.{zero-mod, zero-add}
 use native.Mathlib.Omega.{arith}
 use borrow.Author.Tests.{eq-eqb}
 use lib.Dec.{eqb}
-use lib.ListN.{length, getD, take}
+use lib.ListN.{length, getD, take, List·getD-eq-default}
 use Rattle.lists.specs.Tabulate.{tabulate}
 use Rattle.lists.specs.Tests.{first}
 use Rattle.lists.proofs.Tests.{first-all, first-fails, first-before, first-here, first-ext}
@@ -29,11 +29,6 @@ use Rattle.dense_block.proofs.Columns.{row-columns, row-values, first-c
 -- the first failure below a smaller bound
 narrower : (n k : ℕ) (f : ℕ → Bool) → k ≤ n → first n f < k → first k f ≡ first n f
 narrower n k f h lt = first-fails k f (first n f) lt (first-before n f) (first-here n f (omega arith))
-
-past-end : (xs : List ℕ) (i : ℕ) → length xs ≤ i → getD xs i 0 ≡ 0
-past-end [] i h = refl
-past-end (x ∷ xs) zero h = absurd (omega arith)
-past-end (x ∷ xs) (suc i) h = past-end xs i (omega arith)
 
 -- the block row that the cells begin with: what the first s rows left at the columns js, and 0 past them
 pub record Begun (p s width : ℕ) (js C : Vector) (U : Matrix) (y : Vector) (row : List ℕ) : Type 0 where
@@ -129,7 +124,7 @@ module _ (p m s b width : ℕ) (js C : Vector) (ks : List ℕ) (U : Matrix) (blo
         go (yes g) =
             scaled .cells l g
             ∙ ap (λ (z : ℕ). z % p) {x = c * residuesOf p row l} {y = 0} (omega (arith, ap (λ (z : ℕ). c * z) (block-past l h g))) ∙ zero-mod p
-        go (no g) = past-end r l (omega (arith, scaled .long))
+        go (no g) = List·getD-eq-default r 0 (omega (arith, scaled .long))
 
     same-cells : tabulate width (λ l. c * w (js l) % p) ≡ tabulate width (λ l. getD r l 0)
     same-cells = tabulate-ext width (λ l. c * w (js l) % p) (λ l. getD r l 0) (λ l h. sym (scaled-cell l h))

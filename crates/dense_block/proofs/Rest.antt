@@ -2,11 +2,11 @@
 use mathlib.Core.Path.{_≡_, refl, sym, ap, _∙_}
 use mathlib.Core.Bool.{Bool, true, false, cond}
 use mathlib.Core.Logic.{_⊎_, inl, inr, ⊎-elim}
-use mathlib.Core.List.{List, [], _∷_, _++_}
+use mathlib.Core.List.{List, [], _∷_, _++_, append-nil}
 use Prim.Native.Nat.{ℕ, zero, suc, _+_, _≤_, _<_}
 use native.Mathlib.Decide.{decLt}
 use native.Mathlib.Omega.{arith}
-use lib.ListN.{length, getD, length-append}
+use lib.ListN.{length, getD, length-append, List·getD-append}
 use lib.Seq.{getD-at}
 use Rattle.lists.proofs.Bools.{or-cases}
 use Rattle.algebra.specs.Matrix.{vector}
@@ -16,15 +16,6 @@ use Rattle.elimination.proofs.Completion.{completed-isIn, rest-each}
 use Rattle.elimination.proofs.Listed.{isIn-append, isIn-place}
 use Rattle.dense_block.specs.Block.{LeftColumns}
 
-append-none : (xs : List ℕ) → xs ++ [] ≡ xs
-append-none [] = refl
-append-none (x ∷ xs) = ap (λ (l : List ℕ). x ∷ l) (append-none xs)
-
-getD-append-left : (xs ys : List ℕ) (i d : ℕ) → i < length xs → getD (xs ++ ys) i d ≡ getD xs i d
-getD-append-left [] ys i d h = absurd (omega arith)
-getD-append-left (x ∷ xs) ys zero d h = refl
-getD-append-left (x ∷ xs) ys (suc i) d h = getD-append-left xs ys i d (omega arith)
-
 rest-rising : (xs : List ℕ) (n a b : ℕ) → a < b → b < length (rest xs n) → getD (rest xs n) a 0 < getD (rest xs n) b 0
 unfolding rest
 rest-rising xs zero a b lt h = absurd (omega arith)
@@ -32,14 +23,14 @@ rest-rising xs (suc n) a b lt h = go (isIn xs n) h (rest-rising xs n a b lt)
   where
     go : (t : Bool) → b < length (rest xs n ++ cond t [] (n ∷ [])) → (b < length (rest xs n) → getD (rest xs n) a 0 < getD (rest xs n) b 0)
         → getD (rest xs n ++ cond t [] (n ∷ [])) a 0 < getD (rest xs n ++ cond t [] (n ∷ [])) b 0
-    go true g ih = let e : rest xs n ++ [] ≡ rest xs n = append-none (rest xs n) in rw e (ih (rw e at g))
+    go true g ih = let e : rest xs n ++ [] ≡ rest xs n = append-nil (rest xs n) in rw e (ih (rw e at g))
     go false g ih = at (decLt b (length (rest xs n)))
       where
         at : Dec (b < length (rest xs n)) → getD (rest xs n ++ (n ∷ [])) a 0 < getD (rest xs n ++ (n ∷ [])) b 0
-        at (yes l) = rw (getD-append-left (rest xs n) (n ∷ []) a 0 (omega arith), getD-append-left (rest xs n) (n ∷ []) b 0 l) (ih l)
+        at (yes l) = rw (List·getD-append (rest xs n) (n ∷ []) 0 a (omega arith), List·getD-append (rest xs n) (n ∷ []) 0 b l) (ih l)
         at (no l) =
             let last : b ≡ length (rest xs n) = omega (arith, length-append (rest xs n) (n ∷ [])) in
-            omega (arith, getD-append-left (rest xs n) (n ∷ []) a 0 (omega arith), getD-at (rest xs n) n [] 0 b (sym last), rest-each xs n a (omega arith))
+            omega (arith, List·getD-append (rest xs n) (n ∷ []) 0 a (omega arith), getD-at (rest xs n) n [] 0 b (sym last), rest-each xs n a (omega arith))
 
 pub rest-left : (C : List ℕ) (m : ℕ) → LeftColumns m (length C) (vector C) (length (rest C m)) (vector (rest C m))
 rest-left C m =

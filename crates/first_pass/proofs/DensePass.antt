@@ -7,54 +7,31 @@ use mathlib.Core.Option.{some}
 use Prim.Native.Nat.{ℕ, zero, suc, _+_, _-_, _≤_, _<_}
 use native.Mathlib.Nat.{add-zero}
 use native.Mathlib.Omega.{arith}
-use lib.Dec.{leb}
 use lib.ListN.{length, getD, take, drop, set, length-set, length-drop}
 use lib.Seq.{length-take-le, take-all, getD-take, getD-drop, drop-drop, drop-at}
-use borrow.Author.Tests.{leb-true}
 use Rattle.lists.specs.Filled.{zeros}
-use Rattle.lists.proofs.Bools.{and-left, and-right}
-use Rattle.algebra.specs.Matrix.{Vector, Matrix, vector}
+use Rattle.algebra.specs.Matrix.{Vector, vector}
 use Rattle.sparse.specs.Matrix.{Compressed, matrix}
-use Rattle.elimination.specs.Pivots.{Found, Turn, columnsOf, uppersOf, upper, rankOf, withDependent, other, turn, reducedBy, coefficients}
-use Rattle.elimination.specs.Factoring.{rest, entries, lowersOf, fits, firstOver}
+use Rattle.elimination.specs.Pivots.{Found, Turn, columnsOf, uppersOf, upper, rankOf, other, turn}
+use Rattle.elimination.specs.Factoring.{rest, entries, lowersOf, firstOver}
 use Rattle.elimination.proofs.Invariant.{Invariant, uppers-many}
-use Rattle.elimination.proofs.Turns.{other-either}
 use Rattle.dense_block.specs.Block.{LeftColumns}
 use Rattle.dense_block.proofs.Growing.{holds-none}
 use Rattle.dense_block.proofs.Rest.{rest-left}
 use Rattle.pivoting.specs.State.{State, AfterTurn}
 use Rattle.pivoting.specs.Turning.{TurnReady}
-use Rattle.pivoting.proofs.Steps.{rank-more}
 use Rattle.pivoting.proofs.Readiness.{turn-holds}
-use Rattle.pivoting.proofs.Schedules.{Remaining, remaining-starts, remaining-turn, remaining-over, remaining-none}
-use Rattle.pivoting.proofs.PivotPass.{SameLengths, same-lent}
+use Rattle.pivoting.proofs.Schedules.{Remaining, remaining-starts, remaining-turn, remaining-over, remaining-none, others-drop}
+use Rattle.pivoting.proofs.PivotPass.{rank-turn, room, SameLengths, same-lent}
 use Rattle.first_pass.specs.Dense.{TailCopied, DenseState, DenseTurnReady, DenseTurned, DenseFrom, RowsReady, TurnsLeave}
 
 -- ---- the turns of other rows
-
-others-next : (os : List ℕ) (k : ℕ) → k < length os → drop k (map other os) ≡ other (getD os k 0) ∷ drop (suc k) (map other os)
-others-next [] k h = absurd (omega arith)
-others-next (x ∷ os) zero h = refl
-others-next (x ∷ os) (suc k) h = others-next os k (omega arith)
 
 others-end : (os : List ℕ) (k : ℕ) → length os ≤ k → drop k (map other os) ≡ []
 others-end [] zero h = refl
 others-end [] (suc k) h = refl
 others-end (x ∷ os) zero h = absurd (omega arith)
 others-end (x ∷ os) (suc k) h = others-end os k (omega arith)
-
-others-rank : (p m : ℕ) (A : Matrix) (f : Found) (i : ℕ) → rankOf (turn p m A f (other i)) ≤ suc (rankOf f)
-unfolding turn withDependent
-others-rank p m A f i =
-    other-either p m A f i (λ g. rankOf g ≤ suc (rankOf f)) (omega arith) (λ c. omega (arith, rank-more p m f i c (coefficients p f (A i)) (reducedBy p f (rankOf f) (A i))))
-
--- the entries that a Found has fit
-room : (roomL roomU : ℕ) (f : Found) → fits roomL roomU f ≡ true → (entries (lowersOf f) ≤ roomL) × (entries (uppersOf f) ≤ roomU)
-unfolding fits
-room roomL roomU f e = (
-  leb-true (entries (lowersOf f)) roomL (and-left (leb (entries (lowersOf f)) roomL) (leb (entries (uppersOf f)) roomU) e),
-  leb-true (entries (uppersOf f)) roomU (and-right (leb (entries (lowersOf f)) roomL) (leb (entries (uppersOf f)) roomU) e),
-)
 
 -- ---- the columns left
 
@@ -231,7 +208,7 @@ module _ (p s : ℕ) (A : Compressed) (R₀ C₀ : List ℕ) (L₀ U₀ : Compre
         -- it is the next turn
         next-turn : drop (k - s) all ≡ other (getD R k 0) ∷ drop (k + 1 - s) all
         next-turn =
-            others-next (drop s R₀) (k - s) (omega (arith, length-drop s R₀, t .low))
+            others-drop (drop s R₀) (k - s) (omega (arith, length-drop s R₀, t .low))
             ∙ (λ j. other (here j) ∷ drop (more j) all)
           where
             here : getD (drop s R₀) (k - s) 0 ≡ getD R k 0
@@ -307,7 +284,7 @@ module _ (p s : ℕ) (A : Compressed) (R₀ C₀ : List ℕ) (L₀ U₀ : Compre
                   clear = then .clear e ∙ ap zeros (sym (same′ .w-long));
                   going = e;
                   rank-low = omega (arith, now .dense .low, then .state e .rank);
-                  rank = omega (arith, then .state e .rank, t .rank, before (h .f) (h .from) .state .rank, others-rank p m (matrix A) (before (h .f) (h .from) .f) (getD R k 0));
+                  rank = omega (arith, then .state e .rank, t .rank, before (h .f) (h .from) .state .rank, rank-turn p m (matrix A) (before (h .f) (h .from) .f) false (getD R k 0) 0);
                   L-room = omega (arith, then .state e .L-entries, fitting .0);
                   U-room = omega (arith, then .state e .U-entries, fitting .1);
                   ahead = later;

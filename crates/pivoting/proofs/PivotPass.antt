@@ -46,7 +46,7 @@ nothing-state R C L U someL someU cL cU =
 
 -- ---- the rank after a turn
 
-rank-turn : (p m : ℕ) (A : Matrix) (f : Found) (paired : Bool) (i c : ℕ) → rankOf (turn p m A f (turnOf paired i c)) ≤ suc (rankOf f)
+pub rank-turn : (p m : ℕ) (A : Matrix) (f : Found) (paired : Bool) (i c : ℕ) → rankOf (turn p m A f (turnOf paired i c)) ≤ suc (rankOf f)
 unfolding turn withDependent
 rank-turn p m A f true i c = omega (arith, rank-more p m f i c (zeros (rankOf f)) (A i))
 rank-turn p m A f false i c =
@@ -62,7 +62,7 @@ row-of-turn true i c = refl
 row-of-turn false i c = refl
 
 -- the rows and entries that a Found has fit
-room : (roomL roomU : ℕ) (f : Found) → fits roomL roomU f ≡ true → (entries (lowersOf f) ≤ roomL) × (entries (uppersOf f) ≤ roomU)
+pub room : (roomL roomU : ℕ) (f : Found) → fits roomL roomU f ≡ true → (entries (lowersOf f) ≤ roomL) × (entries (uppersOf f) ≤ roomU)
 unfolding fits
 room roomL roomU f e = (
   leb-true (entries (lowersOf f)) roomL (and-left (leb (entries (lowersOf f)) roomL) (leb (entries (uppersOf f)) roomU) e),

@@ -49,7 +49,7 @@ module _ (p m : ℕ) (A : Matrix) (roomL roomU : ℕ) where
 
 -- ---- turn k
 
-others-drop : (os : List ℕ) (k : ℕ) → k < length os → drop k (map other os) ≡ other (getD os k 0) ∷ drop (suc k) (map other os)
+pub others-drop : (os : List ℕ) (k : ℕ) → k < length os → drop k (map other os) ≡ other (getD os k 0) ∷ drop (suc k) (map other os)
 others-drop [] k h = absurd (omega arith)
 others-drop (x ∷ os) zero h = refl
 others-drop (x ∷ os) (suc k) h = others-drop os k (omega arith)
