@@ -1,6 +1,6 @@
 /* What the benchmark times within one process: two calls that serve measuring alone.
  *
- * Link with target/staticlib/libtiming.a, which `rt staticlib timing` writes, and not with libplq.a too: both hold the same functions.
+ * Link with target/staticlib/libbench_calls.a, which `rt staticlib bench_calls` writes, and not with libplq.a too: both hold the same functions.
  *
  * A call needs about 680 KiB of stack, whatever the plan, and no other memory; the library keeps nothing between calls.
  */

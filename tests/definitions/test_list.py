@@ -16,10 +16,10 @@ CRATES = """# Layers.
 base:
 calls: base
 plq: calls base
-reporting:
-asking:
-report: reporting io
-ask: asking io
+report_lib:
+ask_lib:
+report: report_lib io
+ask: ask_lib io
 theorems: base
 """
 LAWS = """
@@ -87,8 +87,8 @@ FILES = {
     "base/src/lib.rt": "pub enum Kind {\n    One,\n    Two(u32),\n}\n",
     "calls/src/lib.rt": CALLS,
     "plq/src/lib.rt": "pub use calls::call as first_call;\n",
-    "reporting/src/lib.rt": "pub fn report() {\n}\n",
-    "asking/src/lib.rt": "pub fn ask() {\n}\n",
+    "report_lib/src/lib.rt": "pub fn report() {\n}\n",
+    "ask_lib/src/lib.rt": "pub fn ask() {\n}\n",
     "report/src/main.rt": "fn main() {\n}\n",
     "ask/src/main.rt": "fn main() {\n}\n",
     "theorems/proofs/Demand.antt": "",
@@ -142,9 +142,9 @@ class ReachedTest(ListTest):
         self.reaches({"plq/src/lib.rt": source}, "twice")
 
     def test_call_passed_on_twice(self):
-        passing = FILES["reporting/src/lib.rt"] + "pub use calls::call;\n"
-        library = "pub use reporting::call;\n"
-        self.reaches({"plq/src/lib.rt": library, "reporting/src/lib.rt": passing}, "twice")
+        passing = FILES["report_lib/src/lib.rt"] + "pub use calls::call;\n"
+        library = "pub use report_lib::call;\n"
+        self.reaches({"plq/src/lib.rt": library, "report_lib/src/lib.rt": passing}, "twice")
 
     def test_program(self):
         source = "fn f()\n    requires { ⌜ alone ⌝ }\n{\n}\n"
@@ -250,7 +250,7 @@ class MissingTest(ListTest):
         self.refuses({"plq/src/lib.rt": "pub use calls::gone;\n"}, "calls/src/lib.rt has no gone")
 
     def test_program_call(self):
-        self.refuses({"asking/src/lib.rt": ""}, "asking/src/lib.rt has no ask")
+        self.refuses({"ask_lib/src/lib.rt": ""}, "ask_lib/src/lib.rt has no ask")
 
     def test_definition(self):
         said = "base/specs/Laws has no definition gone"

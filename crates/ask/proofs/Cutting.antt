@@ -10,8 +10,8 @@ use lib.ListN.{length, getD, take, drop}
 use lib.Seq.{slice, slice-empty, length-take-le, take-suc, drop-append-le, drop-cons, drop-length}
 use borrow.Author.Tests.{eq-eqb, ne-eqb, lt-ltb, le-ltb}
 use Rattle.lists.proofs.Steps.{drop-take}
-use Rattle.fields.specs.Number.{numberOf}
-use Rattle.fields.specs.declared.numbers.Number.the-variants.{Value}
+use Rattle.text_fields.specs.Number.{numberOf}
+use Rattle.text_fields.specs.declared.numbers.Number.the-variants.{Value}
 use Rattle.ask.specs.Values.{noResidue, valueOf, isSeparator, valuesFrom, endedAt, nextStart, valuesEnd, questionIn, Added}
 use Rattle.ask.proofs.Kept.{none-added, added-then}
 

@@ -9,8 +9,8 @@ use lib.ListN.{length, getD, drop}
 use lib.Seq.{drop-length}
 use borrow.Author.Tests.{eq-eqb, ne-eqb}
 use Rattle.lists.proofs.Bools.{chain-false, chain-true}
-use Rattle.fields.specs.Pieces.{Pieces, last, more, pieces, firstPiece}
-use Rattle.fields.proofs.Cuts.{piece-end, piece-last, piece-more}
+use Rattle.text_fields.specs.Pieces.{Pieces, last, more, pieces, firstPiece}
+use Rattle.text_fields.proofs.Cuts.{piece-end, piece-last, piece-more}
 use Rattle.ask.specs.Ending.{isLast, endIn, PlanEnds}
 
 -- ---- the line

@@ -8,7 +8,7 @@ use mathlib.Core.Bool.{Bool, cond, _&&_}
 use mathlib.Core.List.{List}
 use lib.Dec.{eqb}
 use lib.ListN.{length, getD}
-use Rattle.fields.specs.Pieces.{Pieces, last, more, pieces}
+use Rattle.text_fields.specs.Pieces.{Pieces, last, more, pieces}
 
 unfoldable pub isLast : List ℕ → Bool
 isLast l = eqb (length l) 5 && (eqb (getD l 0 0) 48 && (eqb (getD l 1 0) 32 && (eqb (getD l 2 0) 48 && (eqb (getD l 3 0) 32 && eqb (getD l 4 0) 48))))

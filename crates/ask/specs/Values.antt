@@ -16,9 +16,9 @@ use mathlib.Core.List.{List, [], _∷_, _++_}
 use lib.Dec.{eqb, ltb}
 use lib.ListN.{length, getD, take}
 use lib.Seq.{slice}
-use Rattle.fields.specs.Number.{numberOf}
-use Rattle.fields.specs.declared.numbers.Number.{Number}
-use Rattle.fields.specs.declared.numbers.Number.the-variants.{Value, NotNumber}
+use Rattle.text_fields.specs.Number.{numberOf}
+use Rattle.text_fields.specs.declared.numbers.Number.{Number}
+use Rattle.text_fields.specs.declared.numbers.Number.the-variants.{Value, NotNumber}
 
 abbrev pub noResidue : ℕ
 noResidue = 4294967295

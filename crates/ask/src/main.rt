@@ -13,7 +13,7 @@ fn print_answer(plan: &[u8], y: &[u32])
 {
     let mut out = [0u8; 65536];
     let mut work = [0u64; 2048];
-    let size = asking::ask(plan, y, &mut out, &mut work);
+    let size = ask_lib::ask(plan, y, &mut out, &mut work);
     io::write_all(1, &out[..size]);
 }
 

@@ -3,10 +3,10 @@ ghost use mathlib.Core.List.{[], _∷_};
 ghost use mathlib.Core.Path.{_≡_};
 ghost use Prim.Native.Nat.{_^_, _≤_, _<_};
 ghost use lib.ListN.{length};
-ghost use Rattle.fields.specs.Number.{numberOf};
+ghost use Rattle.text_fields.specs.Number.{numberOf};
 ghost use Rattle.ask.specs.Values.{valueOf, isSeparator, valuesFrom, endedAt, nextStart, FieldReady, valuesEnd, questionIn, Added};
-use fields::numbers::Number;
-use fields::numbers::number_of;
+use text_fields::numbers::Number;
+use text_fields::numbers::number_of;
 
 const SPACE: u8 = 32;
 

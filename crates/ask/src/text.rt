@@ -1,7 +1,7 @@
 // A plan's text that a question may follow.
 ghost use mathlib.Core.Path.{_≡_};
 ghost use Rattle.ask.specs.Ending.{isLast, PlanEnds};
-use fields::pieces::piece;
+use text_fields::pieces::piece;
 
 const ZERO: u8 = 48;
 

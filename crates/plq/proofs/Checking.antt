@@ -10,12 +10,12 @@ use Rattle.lists.specs.Refusals.{_▷_, unless}
 use Rattle.lists.specs.declared.Outcome.{Outcome}
 use Rattle.lists.specs.declared.Outcome.the-variants.{Refused}
 use Rattle.sparse.specs.Matrix.{Compressed}
-use Rattle.plan_text.specs.Call.{ReadAnswer, callOf, Gives}
-use Rattle.plan_text.specs.declared.Reading.{Reading}
-use Rattle.call_tests.specs.Limits.{workLength}
-use Rattle.check_calls.specs.Calls.{checkCertificateOf}
+use Rattle.text_plan.specs.Call.{ReadAnswer, callOf, Gives}
+use Rattle.text_plan.specs.declared.Reading.{Reading}
+use Rattle.call_plan.specs.Limits.{workLength}
+use Rattle.call_check.specs.Calls.{checkCertificateOf}
 use Rattle.stages.specs.Stages.{reading}
-use Rattle.plan_text.specs.Held.{heldPlan}
+use Rattle.text_plan.specs.Held.{heldPlan}
 use Rattle.stages.specs.Lists.{Held}
 use Rattle.stages.proofs.Holding.{as-reading, held, answer-is}
 use Rattle.plq.specs.Calls.{checkReadOf, checkTextOf}

@@ -12,15 +12,15 @@ use Rattle.lists.specs.declared.Outcome.{Outcome}
 use Rattle.lists.specs.declared.Outcome.the-variants.{Refused}
 use Rattle.lists.proofs.Filled.{filled-none}
 use Rattle.sparse.specs.Matrix.{Compressed}
-use Rattle.plan_text.specs.Call.{ReadAnswer}
-use Rattle.plan_text.specs.declared.Reading.{Reading}
-use Rattle.call_tests.specs.Limits.{workLength}
+use Rattle.text_plan.specs.Call.{ReadAnswer}
+use Rattle.text_plan.specs.declared.Reading.{Reading}
+use Rattle.call_plan.specs.Limits.{workLength}
 use Rattle.certificate.specs.Layout.{certificateOf}
-use Rattle.write_calls.specs.Call.{writeOutcome, kept}
-use Rattle.factoring.specs.Outcome as factoring
+use Rattle.call_write.specs.Call.{writeOutcome, kept}
+use Rattle.factor_all.specs.Outcome as factoring
 use Rattle.stages.specs.declared.Stages.{Stages}
 use Rattle.stages.specs.Stages.{reading, readOutcome, factoredOf, factorOutcome, setIn}
-use Rattle.plan_text.specs.Held.{planOf}
+use Rattle.text_plan.specs.Held.{planOf}
 use Rattle.stages.specs.Staged.{FactorsHeld, Staged}
 use Rattle.plq.specs.Calls.{packed, makeReadOf, makeTextOf, certificateFor, Makes}
 use Rattle.plq.specs.Held.{heldCertificate, writtenOf, stagedOutcome, Puts, StagedFits}

@@ -12,18 +12,18 @@ use Rattle.lists.specs.declared.Outcome.{Outcome}
 use Rattle.sparse.specs.Matrix.{Compressed}
 use Rattle.sparse.specs.Set.{Set}
 use Rattle.certificate.specs.Layout.{certificateOf, Sized}
-use Rattle.call_tests.specs.Limits.{workLength}
-use Rattle.check_calls.specs.Calls.{checkFactorsOf, checkCertificateOf, Checks}
-use Rattle.check_calls.specs.Passing.{StoredPasses}
-use Rattle.check_calls.proofs.Theorems.{certificate-exactly, stored-certificate, stored-passes, bytes-pass}
-use Rattle.write_calls.specs.Call.{writeOutcome, WritesCertificate}
-use Rattle.write_calls.specs.declared.Written.{Written}
-use Rattle.write_calls.proofs.Theorems.{written-exactly}
-use Rattle.factoring.specs.Outcome.{Leaves}
-use Rattle.factoring.specs.OwnSet.{ownSet}
-use Rattle.factor_calls.specs.Calls.{factorCallOf}
-use Rattle.factor_calls.specs.declared.Lent.{Lent}
-use Rattle.factor_calls.proofs.Theorems.{factored-exactly, factored-set, factored-passes}
+use Rattle.call_plan.specs.Limits.{workLength}
+use Rattle.call_check.specs.Calls.{checkFactorsOf, checkCertificateOf, Checks}
+use Rattle.call_check.specs.Passing.{StoredPasses}
+use Rattle.call_check.proofs.Theorems.{certificate-exactly, stored-certificate, stored-passes, bytes-pass}
+use Rattle.call_write.specs.Call.{writeOutcome, WritesCertificate}
+use Rattle.call_write.specs.declared.Written.{Written}
+use Rattle.call_write.proofs.Theorems.{written-exactly}
+use Rattle.factor_all.specs.Outcome.{Leaves}
+use Rattle.factor_all.specs.OwnSet.{ownSet}
+use Rattle.call_factor.specs.Calls.{factorCallOf}
+use Rattle.call_factor.specs.declared.Lent.{Lent}
+use Rattle.call_factor.proofs.Theorems.{factored-exactly, factored-set, factored-passes}
 use Rattle.stages.proofs.Passing.{factors-sized}
 
 module _ (p n m : ℕ) (A : Compressed) (l : Lent) (number detail rank structural : ℕ) (R C : List ℕ) (L U : Compressed) (w : List ℕ)

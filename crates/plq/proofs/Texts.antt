@@ -42,14 +42,14 @@ use Rattle.sparse.specs.Set.{Set}
 use Rattle.certificate.specs.Layout.{certificateOf}
 use Rattle.certificate.specs.Reading.{setOfCertificate}
 use Rattle.certificate.specs.Writing.{roomFor}
-use Rattle.call_tests.specs.Limits.{workLength, largestEntries}
-use Rattle.call_tests.proofs.Plans.{good-prime}
-use Rattle.plan_text.specs.Held.{planOf, StatesPlan}
-use Rattle.check_calls.specs.Calls.{checkCertificateOf}
-use Rattle.check_calls.proofs.Theorems.{factors-exactly, certificate-exactly, stored-certificate, rest, rest-numbers, after-plan}
-use Rattle.write_calls.specs.Call.{writeOutcome, kept}
-use Rattle.write_calls.proofs.Theorems.{write-room}
-use Rattle.factoring.specs.Outcome as Outcomes
+use Rattle.call_plan.specs.Limits.{workLength, largestEntries}
+use Rattle.call_plan.proofs.Plans.{good-prime}
+use Rattle.text_plan.specs.Held.{planOf, StatesPlan}
+use Rattle.call_check.specs.Calls.{checkCertificateOf}
+use Rattle.call_check.proofs.Theorems.{factors-exactly, certificate-exactly, stored-certificate, rest, rest-numbers, after-plan}
+use Rattle.call_write.specs.Call.{writeOutcome, kept}
+use Rattle.call_write.proofs.Theorems.{write-room}
+use Rattle.factor_all.specs.Outcome as Outcomes
 use Rattle.stages.specs.Stages.{reading, readOutcome, factoredOf, factorOutcome, setIn}
 use Rattle.stages.specs.Meaning.{factorsOf, FitsAll, OverflowsAt}
 use Rattle.stages.proofs.ReadText.{reading-good, outcome-passed, reading-numbers, firstRow, wholeSet, fits-all, row-overflows, factored-is, factored-whole}

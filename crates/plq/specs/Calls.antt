@@ -13,13 +13,13 @@ use lib.ListN.{length}
 use Rattle.lists.specs.Filled.{filled}
 use Rattle.lists.specs.Refusals.{_▷_, numberOf, detailOf}
 use Rattle.lists.specs.declared.Outcome.{Outcome}
-use Rattle.plan_text.specs.Call.{ReadAnswer}
-use Rattle.call_tests.specs.Limits.{workLength}
+use Rattle.text_plan.specs.Call.{ReadAnswer}
+use Rattle.call_plan.specs.Limits.{workLength}
 use Rattle.certificate.specs.Layout.{certificateOf}
-use Rattle.check_calls.specs.Calls.{checkCertificateOf}
-use Rattle.write_calls.specs.Call.{writeOutcome, kept}
+use Rattle.call_check.specs.Calls.{checkCertificateOf}
+use Rattle.call_write.specs.Call.{writeOutcome, kept}
 use Rattle.stages.specs.Stages.{reading, readOutcome, factoredOf, factorOutcome, setIn}
-use Rattle.plan_text.specs.Held.{planOf}
+use Rattle.text_plan.specs.Held.{planOf}
 
 -- ---- checking
 

@@ -14,10 +14,10 @@ use Rattle.lists.specs.Refusals.{_▷_, unless}
 use Rattle.lists.specs.declared.Outcome.{Outcome}
 use Rattle.sparse.specs.Matrix.{Compressed}
 use Rattle.certificate.specs.Layout.{certificateOf}
-use Rattle.write_calls.specs.Call.{writeOutcome, kept}
+use Rattle.call_write.specs.Call.{writeOutcome, kept}
 use Rattle.stages.specs.declared.Stages.{Stages}
 use Rattle.stages.specs.Stages.{readOutcome}
-use Rattle.plan_text.specs.Held.{heldPlan}
+use Rattle.text_plan.specs.Held.{heldPlan}
 use Rattle.stages.specs.Staged.{Fits, heldSet}
 
 abbrev pub heldCertificate : Stages → (R C : List ℕ) (L U : Compressed) → List ℕ

@@ -2,14 +2,14 @@
 ghost use mathlib.Core.Path.{_≡_};
 ghost use lib.ListN.{length};
 ghost use Rattle.sparse.specs.Matrix.{compressed};
-ghost use Rattle.check_calls.specs.Calls.{checkCertificateOf, Checks};
-ghost use Rattle.plan_text.specs.Held.{heldPlan};
+ghost use Rattle.call_check.specs.Calls.{checkCertificateOf, Checks};
+ghost use Rattle.text_plan.specs.Held.{heldPlan};
 ghost use Rattle.stages.specs.Lists.{Held};
 ghost use Rattle.plq.specs.Calls.{checkTextOf};
 ghost use Rattle.plq.specs.Lists.{CheckLists};
-use check_calls::check_certificate;
+use call_check::check_certificate;
 use lists::Outcome;
-use plan_text::Reading;
+use text_plan::Reading;
 
 // Checks a certificate against the plan that a reading left in lists.
 fn check_held(
@@ -49,7 +49,7 @@ pub fn check_text(
     requires { ⌜ CheckLists (compressed (now starts) (now columns) (now values)) (now work) ⌝ }
     ensures { λ o. ⌜ o ≡ checkTextOf (now (text .entry)) (now (certificate .entry)) ⌝ }
 {
-    let r = plan_text::read(text, starts, columns, values);
+    let r = text_plan::read(text, starts, columns, values);
     if r.number != 0 {
         return Outcome::Refused(r.number, r.detail);
     }

@@ -1,14 +1,14 @@
 // The library. For programs in Rattle: the calls on stored plans, each proved in a crate of its own. For planning programs in C
 // (include/plq.h): two calls that take a plan as its text and need no storage of the caller's.
-pub use answer_calls::from_certificate::answer_from_certificate;
-pub use answer_calls::from_factors::answer_from_factors;
-pub use check_calls::check_certificate;
-pub use check_calls::check_factors;
-pub use column_calls::from_certificate::open_columns_from_certificate;
-pub use column_calls::from_factors::open_columns_from_factors;
-pub use factor_calls::factor;
-pub use plan_text::read as read_plan;
-pub use write_calls::write_certificate;
+pub use call_answer::from_certificate::answer_from_certificate;
+pub use call_answer::from_factors::answer_from_factors;
+pub use call_check::check_certificate;
+pub use call_check::check_factors;
+pub use call_open::from_certificate::open_columns_from_certificate;
+pub use call_open::from_factors::open_columns_from_factors;
+pub use call_factor::factor;
+pub use text_plan::read as read_plan;
+pub use call_write::write_certificate;
 ghost use mathlib.Core.Path.{_≡_};
 ghost use Rattle.plq.specs.Calls.{checkTextOf, packed, Makes};
 use check::check_text;

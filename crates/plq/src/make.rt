@@ -6,7 +6,7 @@ ghost use Rattle.plq.specs.Held.{heldCertificate, writtenOf, stagedOutco
 use lists::Outcome;
 use lists::clear_bytes;
 use stages::Stages;
-use write_calls::write_certificate;
+use call_write::write_certificate;
 
 // Writes the certificate of the set that the stages left in lists.
 fn write_held(

@@ -18,13 +18,13 @@ use Rattle.elimination.specs.Pivots.{Found, uppersOf, turns}
 use Rattle.elimination.specs.Factoring.{schedule, nothing, firstOver, factored, factorFrom, factor, lowersOf}
 use Rattle.elimination.proofs.Selected.{structural-pairs}
 use Rattle.elimination.proofs.Theorem.{StoredFactors, factor-stored}
-use Rattle.call_tests.specs.Tests.{planLengths, limitsOk, planOutcome}
-use Rattle.call_tests.specs.Accepted.{GoodPlan}
-use Rattle.factoring.specs.Outcome.{Outcome, done, unlessOver, factoringFrom, factoring}
-use Rattle.factor_calls.specs.Lengths.{lentLengths, lentOutcome}
-use Rattle.factor_calls.specs.Calls.{refusal, unlessRefused, factorCallOf}
-use Rattle.factor_calls.specs.declared.Lent.{Lent}
-use Rattle.factor_calls.proofs.Theorems.{lent-good}
+use Rattle.call_plan.specs.Tests.{planLengths, limitsOk, planOutcome}
+use Rattle.call_plan.specs.Accepted.{GoodPlan}
+use Rattle.factor_all.specs.Outcome.{Outcome, done, unlessOver, factoringFrom, factoring}
+use Rattle.call_factor.specs.Lengths.{lentLengths, lentOutcome}
+use Rattle.call_factor.specs.Calls.{refusal, unlessRefused, factorCallOf}
+use Rattle.call_factor.specs.declared.Lent.{Lent}
+use Rattle.call_factor.proofs.Theorems.{lent-good}
 use Rattle.stages.proofs.Rows.{row-inside}
 
 pub record Counted (n : ℕ) (o : Outcome) : Type 0 where

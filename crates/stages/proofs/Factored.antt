@@ -8,26 +8,26 @@ use Rattle.lists.specs.Filled.{zeros}
 use Rattle.residue.proofs.Primes.{modulus-prime}
 use Rattle.sparse.specs.Matrix.{Compressed, compressed}
 use Rattle.sparse.specs.Set.{setOf}
-use Rattle.plan_text.specs.Call.{ReadAnswer, callOf, Gives}
-use Rattle.plan_text.specs.declared.Reading.{Reading}
-use Rattle.call_tests.specs.Limits.{largestEntries}
-use Rattle.call_tests.specs.Accepted.{GoodPlan}
-use Rattle.factoring.specs.Outcome.{Outcome, factoring, Leaves}
-use Rattle.factoring.specs.OwnSet.{ownSet}
-use Rattle.factoring.specs.declared.factor.Factored.{Factored}
-use Rattle.factoring.proofs.OwnSet.{own-set, own-outcome}
-use Rattle.factor_calls.specs.Lengths.{lentOf, lentOutcome}
-use Rattle.factor_calls.proofs.Ready.{Kept}
+use Rattle.text_plan.specs.Call.{ReadAnswer, callOf, Gives}
+use Rattle.text_plan.specs.declared.Reading.{Reading}
+use Rattle.call_plan.specs.Limits.{largestEntries}
+use Rattle.call_plan.specs.Accepted.{GoodPlan}
+use Rattle.factor_all.specs.Outcome.{Outcome, factoring, Leaves}
+use Rattle.factor_all.specs.OwnSet.{ownSet}
+use Rattle.factor_all.specs.declared.factor.Factored.{Factored}
+use Rattle.factor_all.proofs.OwnSet.{own-set, own-outcome}
+use Rattle.call_factor.specs.Lengths.{lentOf, lentOutcome}
+use Rattle.call_factor.proofs.Ready.{Kept}
 use Rattle.lists.specs.declared.Outcome.the-variants.{Passed}
-use Rattle.factor_calls.specs.Calls.{factorCallOf}
+use Rattle.call_factor.specs.Calls.{factorCallOf}
 use Rattle.stages.specs.declared.Stages.{Stages}
 use Rattle.stages.specs.Stages.{reading, lentFor, factoredOf, setIn}
-use Rattle.plan_text.specs.Held.{heldPlan}
+use Rattle.text_plan.specs.Held.{heldPlan}
 use Rattle.stages.specs.Lists.{SetLists, StageLists, Held, Lendable}
 use Rattle.stages.specs.Staged.{Fits, heldSet, FactorsHeld, Staged}
 use Rattle.stages.proofs.Lists.{filled-fits, filled-cell, cut-cell, cut-cut}
 use Rattle.stages.proofs.Holding.{Small, as-reading, small, held, answer-is}
-use Rattle.factor_calls.proofs.Theorems.{lent-good, call-passed, call-factoring}
+use Rattle.call_factor.proofs.Theorems.{lent-good, call-passed, call-factoring}
 use Rattle.stages.proofs.Counts.{Counted, counted}
 
 module _ (r : Reading) (A : Compressed) (f : Factored) (R C : List ℕ) (L U : Compressed) (w : List ℕ) (plan : Held r A) (few : Small r) (lists : SetLists R C L U)

@@ -4,16 +4,16 @@ use mathlib.Core.List.{List}
 use Prim.Native.Nat.{ℕ, _≤_}
 use native.Mathlib.Omega.{arith}
 use lib.ListN.{length}
-use Rattle.plan_opening.specs.Reading.{Entry, ReadResult, refused, accepted, placed, readOf}
-use Rattle.plan_text.specs.Call.{ReadAnswer, answerBy, answerOf, callOf, Gives}
-use Rattle.plan_text.specs.Stating.{entriesOf}
-use Rattle.plan_text.specs.declared.Reading.{Reading}
-use Rattle.plan_text.proofs.Accepted.{accepted-states}
-use Rattle.plan_text.proofs.Scattered.{plan-scattered, placed-length}
+use Rattle.text_opening.specs.Reading.{Entry, ReadResult, refused, accepted, placed, readOf}
+use Rattle.text_plan.specs.Call.{ReadAnswer, answerBy, answerOf, callOf, Gives}
+use Rattle.text_plan.specs.Stating.{entriesOf}
+use Rattle.text_plan.specs.declared.Reading.{Reading}
+use Rattle.text_plan.proofs.Accepted.{accepted-states}
+use Rattle.text_plan.proofs.Scattered.{plan-scattered, placed-length}
 use Rattle.sparse.specs.Matrix.{Compressed}
-use Rattle.call_tests.specs.Limits.{largestSize, largestEntries}
+use Rattle.call_plan.specs.Limits.{largestSize, largestEntries}
 use Rattle.stages.specs.Stages.{reading}
-use Rattle.plan_text.specs.Held.{heldPlan, planOf}
+use Rattle.text_plan.specs.Held.{heldPlan, planOf}
 use Rattle.stages.specs.Lists.{Largest, Held}
 
 -- ---- the numbers of a reading keep the limits

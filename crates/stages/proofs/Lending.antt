@@ -6,13 +6,13 @@ use native.Mathlib.Omega.{arith}
 use lib.ListN.{length, take, drop, length-append, take-append-drop}
 use lib.Seq.{length-take-le, take-at}
 use Rattle.sparse.specs.Matrix.{Compressed, compressed}
-use Rattle.plan_text.specs.declared.Reading.{Reading}
-use Rattle.factoring.specs.Outcome.{Leaves}
-use Rattle.factor_calls.specs.Lengths.{lentOf}
-use Rattle.factor_calls.specs.Calls.{factorCallOf}
-use Rattle.factor_calls.specs.declared.Lent.{Lent}
+use Rattle.text_plan.specs.declared.Reading.{Reading}
+use Rattle.factor_all.specs.Outcome.{Leaves}
+use Rattle.call_factor.specs.Lengths.{lentOf}
+use Rattle.call_factor.specs.Calls.{factorCallOf}
+use Rattle.call_factor.specs.declared.Lent.{Lent}
 use Rattle.stages.specs.Stages.{lentFor}
-use Rattle.plan_text.specs.Held.{heldPlan}
+use Rattle.text_plan.specs.Held.{heldPlan}
 use Rattle.stages.specs.Lists.{Lendable}
 
 -- a list has its length again when a beginning that was lent comes back

@@ -8,10 +8,10 @@ use Rattle.sparse.proofs.Rows.{form-paired}
 use Rattle.elimination.specs.Factoring.{factor}
 use Rattle.elimination.proofs.Theorem.{StoredFactors, factor-stored}
 use Rattle.certificate.specs.Layout.{Sized}
-use Rattle.call_tests.specs.Limits.{workLength}
-use Rattle.call_tests.specs.Accepted.{GoodPlan}
-use Rattle.call_tests.proofs.Plans.{good-prime}
-use Rattle.check_calls.specs.Passing.{StoredPasses}
+use Rattle.call_plan.specs.Limits.{workLength}
+use Rattle.call_plan.specs.Accepted.{GoodPlan}
+use Rattle.call_plan.proofs.Plans.{good-prime}
+use Rattle.call_check.specs.Passing.{StoredPasses}
 
 module _ (p n m : ℕ) (A : Compressed) (g : GoodPlan p n m A) where
   stored : StoredFactors p n m (matrix A) (factor p n m A)

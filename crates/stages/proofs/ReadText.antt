@@ -22,15 +22,15 @@ use Rattle.lists.proofs.Refusals.{RefusedBy, number-passed}
 use Rattle.sparse.specs.Matrix.{Compressed, matrix}
 use Rattle.elimination.specs.Selection.{structural}
 use Rattle.elimination.proofs.Room.{some-overflows}
-use Rattle.call_tests.specs.Limits.{largestEntries}
-use Rattle.call_tests.specs.Accepted.{GoodPlan}
-use Rattle.plan_opening.specs.Limits.{startsLength}
-use Rattle.plan_text.specs.Call.{callOf, Gives}
-use Rattle.plan_text.specs.Held.{planOf, StatesPlan, HoldsPlan}
-use Rattle.plan_text.proofs.Done.{done-exactly, holds-stated, read-good, read-by}
-use Rattle.factoring.specs.Outcome.{Outcome, unlessOver}
-use Rattle.factor_calls.specs.Accepted.{LentRight}
-use Rattle.factor_calls.proofs.Theorems.{over, whole, call-is, lent-passes, fits-exactly}
+use Rattle.call_plan.specs.Limits.{largestEntries}
+use Rattle.call_plan.specs.Accepted.{GoodPlan}
+use Rattle.text_opening.specs.Limits.{startsLength}
+use Rattle.text_plan.specs.Call.{callOf, Gives}
+use Rattle.text_plan.specs.Held.{planOf, StatesPlan, HoldsPlan}
+use Rattle.text_plan.proofs.Done.{done-exactly, holds-stated, read-good, read-by}
+use Rattle.factor_all.specs.Outcome.{Outcome, unlessOver}
+use Rattle.call_factor.specs.Accepted.{LentRight}
+use Rattle.call_factor.proofs.Theorems.{over, whole, call-is, lent-passes, fits-exactly}
 use Rattle.stages.specs.Stages.{reading, readOutcome, lentFor, factoredOf, factorOutcome}
 use Rattle.stages.specs.Meaning.{FitsAll, OverflowsAt}
 

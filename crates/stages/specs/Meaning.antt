@@ -5,13 +5,13 @@
 use Prim.Native.Nat.{ℕ}
 use Rattle.sparse.specs.Matrix.{matrix}
 use Rattle.sparse.specs.Set.{Set}
-use Rattle.plan_text.specs.Call.{ReadAnswer}
-use Rattle.plan_text.specs.Held.{planOf}
+use Rattle.text_plan.specs.Call.{ReadAnswer}
+use Rattle.text_plan.specs.Held.{planOf}
 use Rattle.elimination.specs.Selection.{structural}
 use Rattle.elimination.specs.Factoring.{schedule, nothing, factor}
 use Rattle.elimination.specs.Overflow.{Overflows}
-use Rattle.call_tests.specs.Limits.{largestEntries}
-use Rattle.factor_calls.specs.Accepted.{FactorsFit}
+use Rattle.call_plan.specs.Limits.{largestEntries}
+use Rattle.call_factor.specs.Accepted.{FactorsFit}
 use Rattle.stages.specs.Stages.{lentFor}
 
 abbrev pub factorsOf : ReadAnswer → Set

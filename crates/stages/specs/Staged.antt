@@ -10,11 +10,11 @@ use lib.ListN.{length, take}
 use Rattle.lists.specs.Filled.{zeros}
 use Rattle.sparse.specs.Matrix.{Compressed, compressed}
 use Rattle.sparse.specs.Set.{Set, setOf}
-use Rattle.plan_text.specs.Call.{ReadAnswer}
-use Rattle.call_tests.specs.Limits.{largestSize}
+use Rattle.text_plan.specs.Call.{ReadAnswer}
+use Rattle.call_plan.specs.Limits.{largestSize}
 use Rattle.stages.specs.declared.Stages.{Stages}
 use Rattle.stages.specs.Stages.{reading, factoredOf, setIn}
-use Rattle.plan_text.specs.Held.{heldPlan, planOf}
+use Rattle.text_plan.specs.Held.{heldPlan, planOf}
 use Rattle.stages.specs.Lists.{Held}
 
 pub record Fits (s : Stages) (A : Compressed) (R C : List ℕ) (L U : Compressed) : Type 0 where

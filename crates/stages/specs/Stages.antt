@@ -11,14 +11,14 @@ use lib.Dec.{eqb}
 use Rattle.lists.specs.Refusals.{unless}
 use Rattle.lists.specs.declared.Outcome as tests
 use Rattle.sparse.specs.Set.{Set, setOf}
-use Rattle.plan_opening.specs.Limits.{startsLength}
-use Rattle.plan_text.specs.Call.{ReadAnswer, callOf}
-use Rattle.plan_text.specs.Held.{planOf}
-use Rattle.plan_text.specs.declared.Reading.{Reading}
-use Rattle.call_tests.specs.Limits.{largestEntries, workLength}
-use Rattle.factoring.specs.Outcome.{Outcome}
-use Rattle.factor_calls.specs.Calls.{factorCallOf}
-use Rattle.factor_calls.specs.declared.Lent.{Lent}
+use Rattle.text_opening.specs.Limits.{startsLength}
+use Rattle.text_plan.specs.Call.{ReadAnswer, callOf}
+use Rattle.text_plan.specs.Held.{planOf}
+use Rattle.text_plan.specs.declared.Reading.{Reading}
+use Rattle.call_plan.specs.Limits.{largestEntries, workLength}
+use Rattle.factor_all.specs.Outcome.{Outcome}
+use Rattle.call_factor.specs.Calls.{factorCallOf}
+use Rattle.call_factor.specs.declared.Lent.{Lent}
 
 -- ---- reading
 

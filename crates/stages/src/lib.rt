@@ -1,17 +1,17 @@
 // A plan's text, read and then factored: the stages that the calls on a text begin with. They work in lists of the largest lengths.
 ghost use Rattle.sparse.specs.Matrix.{compressed};
-ghost use Rattle.factoring.specs.Outcome.{Leaves};
-ghost use Rattle.factor_calls.specs.Calls.{factorCallOf};
+ghost use Rattle.factor_all.specs.Outcome.{Leaves};
+ghost use Rattle.call_factor.specs.Calls.{factorCallOf};
 ghost use Prim.Native.Nat.{_+_};
 ghost use lib.ListN.{take};
 ghost use Rattle.stages.specs.Stages.{lentFor};
-ghost use Rattle.plan_text.specs.Held.{heldPlan};
+ghost use Rattle.text_plan.specs.Held.{heldPlan};
 ghost use Rattle.stages.specs.Lists.{StageLists, Lendable};
 ghost use Rattle.stages.specs.Staged.{Staged};
-use factor_calls::factor;
-use factoring::factor::Factored;
+use call_factor::factor;
+use factor_all::factor::Factored;
 use lists::clear_row;
-use plan_text::Reading;
+use text_plan::Reading;
 
 // What the stages return: what reading returned, what factoring returned after it, and the entry counts of L and U.
 pub struct Stages {
@@ -81,7 +81,7 @@ pub fn factor_text(
     requires { ⌜ StageLists (compressed (now starts) (now columns) (now values)) (now rows) (now cols) (compressed (now ls) (now lc) (now lv)) (compressed (now us) (now uc) (now uv)) (now work) ⌝ }
     ensures { λ s. ⌜ Staged (now (text .entry)) s (compressed (now (starts .exit)) (now (columns .exit)) (now (values .exit))) (now (rows .exit)) (now (cols .exit)) (compressed (now (ls .exit)) (now (lc .exit)) (now (lv .exit))) (compressed (now (us .exit)) (now (uc .exit)) (now (uv .exit))) (now (work .entry)) (now (work .exit)) ⌝ }
 {
-    let reading = plan_text::read(text, starts, columns, values);
+    let reading = text_plan::read(text, starts, columns, values);
     if reading.number != 0 {
         clear_row(work);
         let factored = Factored {

@@ -43,51 +43,51 @@ use Rattle.grouping.specs.Members.{Member}
 use Rattle.elimination.specs.Selection.{structural}
 use Rattle.elimination.specs.Factoring.{schedule, nothing}
 use Rattle.elimination.specs.Overflow.{Overflows}
-use Rattle.plan_text.specs.declared.Reading.{Reading}
-use Rattle.plan_lines.specs.declared.judge.Sizes.{Sizes}
-use Rattle.plan_opening.specs.Limits.{startsLength}
-use Rattle.plan_opening.specs.Reading.{Entry, accepted, kept, readOf}
-use Rattle.plan_text.specs.Rising.{readRisingOf}
-use Rattle.plan_text.specs.Stating.{States, StatedEntry, Plan, planText, integerOf}
-use Rattle.plan_text.specs.Call.{answerRisingOf, callOf, Gives}
-use Rattle.plan_text.specs.Held.{heldPlan, StatesPlan, HoldsPlan, ReadCleared}
-use Rattle.plan_text.proofs.EntryLimit.{few-entries}
-use Rattle.plan_text.proofs.Done as reads
-use Rattle.call_tests.specs.Limits.{largestEntries}
-use Rattle.call_tests.specs.Tests.{callOutcome}
-use Rattle.call_tests.specs.Accepted.{GoodPlan}
-use Rattle.call_tests.proofs.Plans.{plan-exactly}
-use Rattle.check_calls.specs.Calls.{checkFactorsOf, checkCertificateOf, Checks}
-use Rattle.check_calls.specs.Passing.{StoredPasses, CertificatePasses}
-use Rattle.check_calls.proofs.Theorems as checks
+use Rattle.text_plan.specs.declared.Reading.{Reading}
+use Rattle.text_judge.specs.declared.judge.Sizes.{Sizes}
+use Rattle.text_opening.specs.Limits.{startsLength}
+use Rattle.text_opening.specs.Reading.{Entry, accepted, kept, readOf}
+use Rattle.text_plan.specs.Rising.{readRisingOf}
+use Rattle.text_plan.specs.Stating.{States, StatedEntry, Plan, planText, integerOf}
+use Rattle.text_plan.specs.Call.{answerRisingOf, callOf, Gives}
+use Rattle.text_plan.specs.Held.{heldPlan, StatesPlan, HoldsPlan, ReadCleared}
+use Rattle.text_plan.proofs.EntryLimit.{few-entries}
+use Rattle.text_plan.proofs.Done as reads
+use Rattle.call_plan.specs.Limits.{largestEntries}
+use Rattle.call_plan.specs.Tests.{callOutcome}
+use Rattle.call_plan.specs.Accepted.{GoodPlan}
+use Rattle.call_plan.proofs.Plans.{plan-exactly}
+use Rattle.call_check.specs.Calls.{checkFactorsOf, checkCertificateOf, Checks}
+use Rattle.call_check.specs.Passing.{StoredPasses, CertificatePasses}
+use Rattle.call_check.proofs.Theorems as checks
 use Rattle.certificate.specs.Layout.{certificateOf}
-use Rattle.write_calls.specs.Call.{writeOutcome, WritesCertificate}
-use Rattle.write_calls.specs.Accepted.{CanWrite}
-use Rattle.write_calls.specs.declared.Written.{Written}
-use Rattle.write_calls.proofs.Theorems as writes
-use Rattle.factoring.specs.Outcome.{Leaves}
-use Rattle.factor_calls.specs.Calls.{factorCallOf}
-use Rattle.factor_calls.specs.Accepted.{LentRight, FactorsFit, Factorable, FactorCleared}
-use Rattle.factor_calls.specs.declared.Lent.{Lent}
-use Rattle.factor_calls.proofs.Theorems as factors
-use Rattle.answer_calls.specs.Calls.{answerNumber, answerFactorsOf, answerCertificateOf, Answers}
-use Rattle.answer_calls.specs.Meaning.{Askable}
-use Rattle.answer_calls.specs.declared.Answer.{Answer}
-use Rattle.answer_calls.proofs.Theorems as answers
-use Rattle.column_calls.specs.Calls.{openFactorsOf, openCertificateOf, Lists}
-use Rattle.column_calls.proofs.Theorems as columns
+use Rattle.call_write.specs.Call.{writeOutcome, WritesCertificate}
+use Rattle.call_write.specs.Accepted.{CanWrite}
+use Rattle.call_write.specs.declared.Written.{Written}
+use Rattle.call_write.proofs.Theorems as writes
+use Rattle.factor_all.specs.Outcome.{Leaves}
+use Rattle.call_factor.specs.Calls.{factorCallOf}
+use Rattle.call_factor.specs.Accepted.{LentRight, FactorsFit, Factorable, FactorCleared}
+use Rattle.call_factor.specs.declared.Lent.{Lent}
+use Rattle.call_factor.proofs.Theorems as factors
+use Rattle.call_answer.specs.Calls.{answerNumber, answerFactorsOf, answerCertificateOf, Answers}
+use Rattle.call_answer.specs.Meaning.{Askable}
+use Rattle.call_answer.specs.declared.Answer.{Answer}
+use Rattle.call_answer.proofs.Theorems as answers
+use Rattle.call_open.specs.Calls.{openFactorsOf, openCertificateOf, Lists}
+use Rattle.call_open.proofs.Theorems as columns
 use Rattle.stages.specs.Stages.{reading}
 use Rattle.stages.specs.Meaning.{FitsAll, OverflowsAt}
 use Rattle.plq.specs.Calls.{checkTextOf, packed, Makes}
 use Rattle.plq.specs.Meaning.{ownCertificate, Made, TextPasses, PackedFrom}
 use Rattle.plq.proofs.Texts as texts
-use Rattle.report_text.specs.Report.{refusalText}
-use Rattle.report_text.specs.Printed.{PrintsRefusal}
-use Rattle.reporting.specs.Reporting.{Reports}
-use Rattle.reporting.proofs.Theorems as reports
-use Rattle.asking.specs.Asking.{Asks}
-use Rattle.asking.specs.Meaning.{FirstTooLarge}
-use Rattle.asking.proofs.Theorems as asks
+use Rattle.print_text.specs.Report.{refusalText}
+use Rattle.print_text.specs.Printed.{PrintsRefusal}
+use Rattle.report_lib.specs.Reporting.{Reports}
+use Rattle.report_lib.proofs.Theorems as reports
+use Rattle.ask_lib.specs.Asking.{Asks}
+use Rattle.ask_lib.specs.Meaning.{FirstTooLarge}
+use Rattle.ask_lib.proofs.Theorems as asks
 
 -- ---- reading: a, b and c are the lengths of the lent starts, columns and values; r is the result
 

@@ -37,34 +37,34 @@ use Rattle.elimination.specs.Selection.{structural}
 use Rattle.elimination.specs.Rules.{FollowsRules}
 use Rattle.elimination.specs.Factoring.{factor}
 use Rattle.certificate.specs.Reading.{setOfCertificate}
-use Rattle.plan_text.specs.Held.{StatesPlan}
-use Rattle.call_tests.specs.Limits.{largestEntries, workLength}
-use Rattle.call_tests.specs.Accepted.{GoodPlan}
-use Rattle.check_calls.specs.Passing.{StoredPasses}
-use Rattle.factoring.specs.Outcome.{Leaves}
-use Rattle.factoring.specs.OwnSet.{ownSet}
-use Rattle.factor_calls.specs.Calls.{factorCallOf}
-use Rattle.factor_calls.specs.declared.Lent.{Lent}
-use Rattle.factor_calls.proofs.Theorems as factors
-use Rattle.answer_calls.specs.Calls.{answerNumber, answerFactorsOf, answerCertificateOf, Answers}
-use Rattle.answer_calls.specs.Meaning.{LeftOpen, LeftClosed}
-use Rattle.answer_calls.specs.declared.Answer.{Answer}
-use Rattle.answer_calls.proofs.Theorems as answers
-use Rattle.column_calls.specs.Calls.{openFactorsOf, openCertificateOf, Lists}
-use Rattle.column_calls.specs.Meaning.{MarksOpen}
-use Rattle.column_calls.proofs.Theorems as columns
+use Rattle.text_plan.specs.Held.{StatesPlan}
+use Rattle.call_plan.specs.Limits.{largestEntries, workLength}
+use Rattle.call_plan.specs.Accepted.{GoodPlan}
+use Rattle.call_check.specs.Passing.{StoredPasses}
+use Rattle.factor_all.specs.Outcome.{Leaves}
+use Rattle.factor_all.specs.OwnSet.{ownSet}
+use Rattle.call_factor.specs.Calls.{factorCallOf}
+use Rattle.call_factor.specs.declared.Lent.{Lent}
+use Rattle.call_factor.proofs.Theorems as factors
+use Rattle.call_answer.specs.Calls.{answerNumber, answerFactorsOf, answerCertificateOf, Answers}
+use Rattle.call_answer.specs.Meaning.{LeftOpen, LeftClosed}
+use Rattle.call_answer.specs.declared.Answer.{Answer}
+use Rattle.call_answer.proofs.Theorems as answers
+use Rattle.call_open.specs.Calls.{openFactorsOf, openCertificateOf, Lists}
+use Rattle.call_open.specs.Meaning.{MarksOpen}
+use Rattle.call_open.proofs.Theorems as columns
 use Rattle.stages.specs.Stages.{reading}
 use Rattle.stages.specs.Meaning.{FitsAll}
 use Rattle.stages.proofs.Passing.{factors-pass}
 use Rattle.plq.specs.Calls.{Makes}
 use Rattle.plq.specs.Meaning.{ownCertificate}
 use Rattle.plq.proofs.Texts as texts
-use Rattle.reporting.specs.Reporting.{Reports}
-use Rattle.reporting.specs.Meaning.{ReportsRight}
-use Rattle.reporting.proofs.Theorems as reports
-use Rattle.asking.specs.Asking.{Asks}
-use Rattle.asking.specs.Meaning.{AskRight}
-use Rattle.asking.proofs.Theorems as asks
+use Rattle.report_lib.specs.Reporting.{Reports}
+use Rattle.report_lib.specs.Meaning.{ReportsRight}
+use Rattle.report_lib.proofs.Theorems as reports
+use Rattle.ask_lib.specs.Asking.{Asks}
+use Rattle.ask_lib.specs.Meaning.{AskRight}
+use Rattle.ask_lib.proofs.Theorems as asks
 
 -- ---- factoring
 

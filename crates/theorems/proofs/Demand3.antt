@@ -34,24 +34,24 @@ use Rattle.sparse.specs.Set.{Set}
 use Rattle.pluq.specs.Judge.{Passes}
 use Rattle.certificate.specs.Layout.{certificateOf, Sized}
 use Rattle.certificate.specs.Reading.{headerOk, setOfCertificate}
-use Rattle.plan_text.specs.Held.{planOf}
-use Rattle.call_tests.specs.Limits.{workLength}
-use Rattle.call_tests.specs.Accepted.{GoodPlan}
-use Rattle.check_calls.specs.Calls.{checkFactorsOf, checkCertificateOf, Checks}
-use Rattle.check_calls.proofs.Theorems as checks
-use Rattle.write_calls.specs.Call.{writeOutcome, WritesCertificate}
-use Rattle.write_calls.specs.declared.Written.{Written}
-use Rattle.write_calls.proofs.Theorems as writes
-use Rattle.factoring.specs.Outcome.{Leaves}
-use Rattle.factoring.specs.OwnSet.{ownSet}
-use Rattle.factor_calls.specs.Calls.{factorCallOf}
-use Rattle.factor_calls.specs.declared.Lent.{Lent}
-use Rattle.answer_calls.specs.Calls.{answerNumber, answerFactorsOf, answerCertificateOf, Answers}
-use Rattle.answer_calls.specs.Meaning.{Askable, AnswersRight, AnswerOf}
-use Rattle.answer_calls.specs.declared.Answer.{Answer}
-use Rattle.answer_calls.proofs.Theorems as answers
-use Rattle.column_calls.specs.Calls.{openFactorsOf, openCertificateOf, Lists}
-use Rattle.column_calls.proofs.Theorems as columns
+use Rattle.text_plan.specs.Held.{planOf}
+use Rattle.call_plan.specs.Limits.{workLength}
+use Rattle.call_plan.specs.Accepted.{GoodPlan}
+use Rattle.call_check.specs.Calls.{checkFactorsOf, checkCertificateOf, Checks}
+use Rattle.call_check.proofs.Theorems as checks
+use Rattle.call_write.specs.Call.{writeOutcome, WritesCertificate}
+use Rattle.call_write.specs.declared.Written.{Written}
+use Rattle.call_write.proofs.Theorems as writes
+use Rattle.factor_all.specs.Outcome.{Leaves}
+use Rattle.factor_all.specs.OwnSet.{ownSet}
+use Rattle.call_factor.specs.Calls.{factorCallOf}
+use Rattle.call_factor.specs.declared.Lent.{Lent}
+use Rattle.call_answer.specs.Calls.{answerNumber, answerFactorsOf, answerCertificateOf, Answers}
+use Rattle.call_answer.specs.Meaning.{Askable, AnswersRight, AnswerOf}
+use Rattle.call_answer.specs.declared.Answer.{Answer}
+use Rattle.call_answer.proofs.Theorems as answers
+use Rattle.call_open.specs.Calls.{openFactorsOf, openCertificateOf, Lists}
+use Rattle.call_open.proofs.Theorems as columns
 use Rattle.stages.specs.Stages.{reading}
 use Rattle.plq.specs.Calls.{checkTextOf, packed, Makes}
 use Rattle.plq.specs.Meaning.{ownCertificate}

@@ -1,0 +1,106 @@
+// All open columns, from the last row of U up.
+ghost use lib.ListN.{length, getD};
+ghost use Rattle.lists.specs.Tabulate.{tabulate};
+ghost use Rattle.algebra.specs.Matrix.{vector};
+ghost use Rattle.sparse.specs.Words.{view};
+ghost use Rattle.sparse.specs.Matrix.{viewed, matrix};
+ghost use Rattle.answer_open.specs.Opening.{openCell, PivotReady, PivotCell, PivotsReady, Columns, ColumnsReady, AllColumns};
+use crate::count::row_closed;
+use crate::unit::unit_open;
+use lists::clear;
+use lists::index;
+use residue::Modulus;
+use sparse::words::word;
+
+// 1 where row k's pivot column is open, else 0. It is open where all other columns of the row are, closed where one is not;
+// only where more are not open its unit question is reduced.
+fn pivot_open(
+    q: Modulus,
+    us: &[u32],
+    usb: &[u8],
+    uc: &[u32],
+    ucb: &[u8],
+    uv: &[u32],
+    uvb: &[u8],
+    co: &[u32],
+    cob: &[u8],
+    marks: &[u32],
+    k: usize,
+    r: usize,
+    work: &mut [u64],
+) -> u32
+    requires { ⌜ PivotReady (q .p) k r (viewed (now us) (now usb) (now uc) (now ucb) (now uv) (now uvb)) (view (now co) (now cob)) (now marks) (now work) ⌝ }
+    ensures { λ v. ⌜ PivotCell (openCell (q .p) (length (now (work .entry))) (vector (view (now (co .entry)) (now (cob .entry)))) (matrix (viewed (now (us .entry)) (now (usb .entry)) (now (uc .entry)) (now (ucb .entry)) (now (uv .entry)) (now (uvb .entry)))) r (getD (view (now (co .entry)) (now (cob .entry))) k 0)) v (now (work .exit)) ⌝ }
+{
+    let d = word(co, cob, k);
+    let closed = row_closed(us, usb, uc, ucb, uv, uvb, marks, q.p, k, d);
+    if closed == 0 {
+        return 1;
+    }
+    if closed == 1 {
+        return 0;
+    }
+    unit_open(q, us, usb, uc, ucb, uv, uvb, co, cob, k, r, work)
+}
+
+// The open columns, where the working row has a cell for each column.
+fn open_pivots(
+    q: Modulus,
+    us: &[u32],
+    usb: &[u8],
+    uc: &[u32],
+    ucb: &[u8],
+    uv: &[u32],
+    uvb: &[u8],
+    co: &[u32],
+    cob: &[u8],
+    r: usize,
+    marks: &mut [u32],
+    work: &mut [u64],
+)
+    requires { ⌜ PivotsReady (q .p) r (viewed (now us) (now usb) (now uc) (now ucb) (now uv) (now uvb)) (view (now co) (now cob)) (now marks) (now work) ⌝ }
+    ensures { λ _. ⌜ Columns (tabulate (length (now (marks .entry))) (openCell (q .p) (length (now (marks .entry))) (vector (view (now (co .entry)) (now (cob .entry)))) (matrix (viewed (now (us .entry)) (now (usb .entry)) (now (uc .entry)) (now (ucb .entry)) (now (uv .entry)) (now (uvb .entry)))) r)) (now (marks .exit)) (now (work .exit)) ⌝ }
+{
+    clear(marks);
+    let mut k = r;
+    while 0 < k {
+        k -= 1;
+        let j = index(word(co, cob, k));
+        marks[j] = pivot_open(q, us, usb, uc, ucb, uv, uvb, co, cob, marks, k, r, work);
+    }
+}
+
+// Fills the list `marks` with 1 for each open column and 0 for each closed one.
+pub fn open_columns(
+    q: Modulus,
+    co: &[u32],
+    cob: &[u8],
+    us: &[u32],
+    usb: &[u8],
+    uc: &[u32],
+    ucb: &[u8],
+    uv: &[u32],
+    uvb: &[u8],
+    r: usize,
+    marks: &mut [u32],
+    work: &mut [u64],
+)
+    requires { ⌜ ColumnsReady (q .p) r (viewed (now us) (now usb) (now uc) (now ucb) (now uv) (now uvb)) (view (now co) (now cob)) (now marks) (now work) ⌝ }
+    ensures { λ _. ⌜ AllColumns (q .p) r (view (now (co .entry)) (now (cob .entry))) (viewed (now (us .entry)) (now (usb .entry)) (now (uc .entry)) (now (ucb .entry)) (now (uv .entry)) (now (uvb .entry))) (now (marks .exit)) (now (work .exit)) ⌝ }
+{
+    let m = marks.len();
+    open_pivots(
+        q,
+        us,
+        usb,
+        uc,
+        ucb,
+        uv,
+        uvb,
+        co,
+        cob,
+        r,
+        marks,
+        &mut work[..m],
+    );
+}

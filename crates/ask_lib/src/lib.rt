@@ -1,0 +1,200 @@
+// The answer to a question about a plan's text.
+ghost use mathlib.Core.Path.{_≡_};
+ghost use lib.ListN.{take};
+ghost use Rattle.byte_buffer.specs.Stored.{Fills};
+ghost use Rattle.sparse.specs.Matrix.{compressed};
+ghost use Rattle.ask_lib.specs.Asking.{AskLists, Asks};
+ghost use Rattle.print_text.specs.Printed.{Prints};
+ghost use Rattle.ask_lib.specs.Held.{lineOf, LineReady, heldAnswer, Answerable, AnswerHeld, Countable, stagesRefusal, stagedLine, StagedReady};
+use call_answer::Answer;
+use call_answer::from_factors::answer_from_factors;
+use lists::Outcome;
+use print_text::answer::write_answer;
+use print_text::report::from_one;
+use print_text::report::write_refusal;
+use stages::Stages;
+use stages::factor_text;
+
+// Writes the line of an answer: of a refusal, whose index counts from 1 in print, or the verdict with the n values of x or the m of z.
+fn write_line(answer: Answer, n: u32, m: u32, xs: &[u32], zs: &[u32], out: &mut [u8]) -> usize
+    requires { ⌜ LineReady answer n m (now xs) (now zs) (now out) ⌝ }
+    ensures { λ size. ⌜ Fills (now (out .entry)) (now (out .exit)) size (lineOf answer (take n (now (xs .entry))) (take m (now (zs .entry)))) ⌝ }
+{
+    let x = &xs[..n as usize];
+    let z = &zs[..m as usize];
+    match answer {
+        Answer::Refused(number, detail) => {
+            let counted = from_one(15, number, detail);
+            write_refusal(number, counted, out)
+        }
+        Answer::Open => write_answer(true, x, out),
+        Answer::Closed => write_answer(false, z, out),
+    }
+}
+
+// The refusal that the stages ended with, if any, as it is printed: a row counts from 1.
+fn refusal(s: Stages) -> Outcome
+    requires { ⌜ Countable s ⌝ }
+    ensures { λ o. ⌜ o ≡ stagesRefusal s ⌝ }
+{
+    if s.reading.number != 0 {
+        return Outcome::Refused(s.reading.number, s.reading.detail);
+    }
+    if s.factored.number != 0 {
+        let counted = from_one(7, s.factored.number, s.factored.detail);
+        return Outcome::Refused(s.factored.number, counted);
+    }
+    Outcome::Passed
+}
+
+// Answers from the plan and the set that the stages left in lists.
+fn answer_held(
+    s: Stages,
+    starts: &[u32],
+    columns: &[u32],
+    values: &[u32],
+    rows: &[u32],
+    cols: &[u32],
+    ls: &[u32],
+    lc: &[u32],
+    lv: &[u32],
+    us: &[u32],
+    uc: &[u32],
+    uv: &[u32],
+    y: &[u32],
+    x: &mut [u32],
+    z: &mut [u32],
+    work: &mut [u64],
+) -> Answer
+    requires { ⌜ Answerable s (compressed (now starts) (now columns) (now values)) (now rows) (now cols) (compressed (now ls) (now lc) (now lv)) (compressed (now us) (now uc) (now uv)) (now y) (now x) (now z) (now work) ⌝ }
+    ensures { λ a. ⌜ AnswerHeld (heldAnswer s (compressed (now (starts .entry)) (now (columns .entry)) (now (values .entry))) (now (rows .entry)) (now (cols .entry)) (compressed (now (ls .entry)) (now (lc .entry)) (now (lv .entry))) (compressed (now (us .entry)) (now (uc .entry)) (now (uv .entry))) (now (y .entry))) a (s .reading .n) (s .reading .m) (now (x .exit)) (now (z .exit)) (now (work .entry)) (now (work .exit)) ⌝ }
+{
+    let n = s.reading.n as usize;
+    let m = s.reading.m as usize;
+    let count = s.reading.count as usize;
+    let rank = s.factored.rank as usize;
+    let lower = s.lower as usize;
+    let upper = s.upper as usize;
+    answer_from_factors(
+        s.reading.p,
+        s.reading.n,
+        s.reading.m,
+        &starts[..n + 1],
+        &columns[..count],
+        &values[..count],
+        s.factored.rank,
+        &rows[..n],
+        &cols[..m],
+        &ls[..n + 1],
+        &lc[..lower],
+        &lv[..lower],
+        &us[..rank + 1],
+        &uc[..upper],
+        &uv[..upper],
+        y,
+        &mut x[..n],
+        &mut z[..m],
+        work,
+    )
+}
+
+// Writes the line of what the stages came to: of the refusal that they ended with, or of the answer.
+fn ask_staged(
+    s: Stages,
+    starts: &[u32],
+    columns: &[u32],
+    values: &[u32],
+    rows: &[u32],
+    cols: &[u32],
+    ls: &[u32],
+    lc: &[u32],
+    lv: &[u32],
+    us: &[u32],
+    uc: &[u32],
+    uv: &[u32],
+    y: &[u32],
+    out: &mut [u8],
+    work: &mut [u64],
+) -> usize
+    requires { ⌜ StagedReady s (compressed (now starts) (now columns) (now values)) (now rows) (now cols) (compressed (now ls) (now lc) (now lv)) (compressed (now us) (now uc) (now uv)) (now y) (now out) (now work) ⌝ }
+    ensures { λ size. ⌜ Prints (stagedLine s (compressed (now (starts .entry)) (now (columns .entry)) (now (values .entry))) (now (rows .entry)) (now (cols .entry)) (compressed (now (ls .entry)) (now (lc .entry)) (now (lv .entry))) (compressed (now (us .entry)) (now (uc .entry)) (now (uv .entry))) (now (y .entry))) size (now (out .entry)) (now (out .exit)) (now (work .entry)) (now (work .exit)) ⌝ }
+{
+    let refused = refusal(s);
+    if let Outcome::Refused(number, detail) = refused {
+        return write_refusal(number, detail, out);
+    }
+    let mut x = [0u32; 2048];
+    let mut z = [0u32; 2048];
+    let answer = answer_held(
+        s,
+        starts,
+        columns,
+        values,
+        rows,
+        cols,
+        ls,
+        lc,
+        lv,
+        us,
+        uc,
+        uv,
+        y,
+        &mut x,
+        &mut z,
+        work,
+    );
+    write_line(answer, s.reading.n, s.reading.m, &x, &z, out)
+}
+
+// Reads a plan's text, factors the plan, answers a question, and writes what the question program prints.
+//   takes    a text, a question of at most 2,049 values, a buffer of at least 65,536 bytes, which hold any line, and a working row
+//   gives    the length of the line, which stands in the buffer
+//   leaves   the buffer zero past the line, and the working row all zero
+pub fn ask(text: &[u8], y: &[u32], out: &mut [u8], work: &mut [u64]) -> usize
+    requires { ⌜ AskLists (now y) (now out) (now work) ⌝ }
+    ensures { λ size. ⌜ Asks (now (text .entry)) (now (y .entry)) size (now (out .entry)) (now (out .exit)) (now (work .entry)) (now (work .exit)) ⌝ }
+{
+    let mut starts = [0u32; 2049];
+    let mut columns = [0u32; 16384];
+    let mut values = [0u32; 16384];
+    let mut rows = [0u32; 2048];
+    let mut cols = [0u32; 2048];
+    let mut ls = [0u32; 2049];
+    let mut lc = [0u32; 16384];
+    let mut lv = [0u32; 16384];
+    let mut us = [0u32; 2049];
+    let mut uc = [0u32; 16384];
+    let mut uv = [0u32; 16384];
+    let s = factor_text(
+        text,
+        &mut starts,
+        &mut columns,
+        &mut values,
+        &mut rows,
+        &mut cols,
+        &mut ls,
+        &mut lc,
+        &mut lv,
+        &mut us,
+        &mut uc,
+        &mut uv,
+        work,
+    );
+    ask_staged(
+        s,
+        &starts,
+        &columns,
+        &values,
+        &rows,
+        &cols,
+        &ls,
+        &lc,
+        &lv,
+        &us,
+        &uc,
+        &uv,
+        y,
+        out,
+        work,
+    )
+}

@@ -1,0 +1,41 @@
+-- What the timed calls give.
+--   ifPassed o k         k where the outcome is passed, else 0
+--   heldRank s           the rank that stages found, 0 where one of them refused
+--   timedRank text       the rank of a text's plan by reading and factoring, 0 where one of them refuses
+--   reportRoom           the bytes that hold any report
+--   timedReport text b   the report of a text, for a buffer of b bytes; nothing where these are too few
+use Prim.Native.Nat.{ℕ}
+use mathlib.Core.Bool.{cond}
+use mathlib.Core.List.{List, []}
+use lib.Dec.{eqb, ltb}
+use Rattle.lists.specs.Refusals.{_▷_, unless}
+use Rattle.lists.specs.declared.Outcome.{Outcome}
+use Rattle.lists.specs.declared.Outcome.the-variants.{Passed, Refused}
+use Rattle.stages.specs.declared.Stages.{Stages}
+use Rattle.stages.specs.Stages.{reading, readOutcome, factoredOf, factorOutcome}
+use Rattle.report_lib.specs.Reporting.{reportOf}
+
+-- ---- reading and factoring
+
+abbrev pub ifPassed : Outcome → ℕ → ℕ
+ifPassed Passed k = k
+ifPassed (Refused number detail) k = 0
+
+unfoldable pub heldRank : Stages → ℕ
+heldRank s =
+    let f = s .factored in
+    ifPassed (readOutcome (s .reading) ▷ unless (eqb (f .number) 0) (f .number) (f .detail)) (f .rank)
+
+unfoldable pub timedRank : List ℕ → ℕ
+timedRank text =
+    let x = reading text in
+    let f = factoredOf x in
+    ifPassed (readOutcome (x .result) ▷ factorOutcome f) (f .rank)
+
+-- ---- the report
+
+abbrev pub reportRoom : ℕ
+reportRoom = 65536
+
+unfoldable pub timedReport : List ℕ → ℕ → List ℕ
+timedReport text b = cond (ltb b reportRoom) [] (reportOf text)

@@ -1,0 +1,82 @@
+// What the benchmark times within one process (include/plq_timing.h): the stages alone, and the whole report. Both need no storage of
+// the caller's but the report's buffer, so that a time is that of the work and of clearing the lists, and of nothing else.
+ghost use mathlib.Core.Path.{_≡_};
+ghost use lib.ListN.{length};
+ghost use Rattle.byte_buffer.specs.Stored.{Fills};
+ghost use Rattle.bench_calls.specs.Timed.{heldRank, timedRank, timedReport};
+use lists::clear_bytes;
+use report_lib::report;
+use stages::Stages;
+use stages::factor_text;
+
+// The bytes that hold any report.
+const REPORT_ROOM: usize = 65536;
+
+// The rank that the stages found, 0 where one of them refused.
+fn rank_staged(s: Stages) -> u64
+    ensures { λ z. ⌜ z ≡ heldRank s ⌝ }
+{
+    let r = s.reading;
+    let f = s.factored;
+    if r.number != 0 {
+        return 0;
+    }
+    if f.number != 0 {
+        return 0;
+    }
+    f.rank as u64
+}
+
+// Reads a plan's text and factors the plan.
+//   takes    a plan text
+//   gives    the plan's rank, so that it can be compared with the peers'; 0 where reading or factoring refuses
+//   leaves   nothing: the text is only read
+#[no_mangle]
+pub extern "C" fn plq_time_factoring(text: &[u8]) -> u64
+    ensures { λ z. ⌜ z ≡ timedRank (now (text .entry)) ⌝ }
+{
+    let mut starts = [0u32; 2049];
+    let mut columns = [0u32; 16384];
+    let mut values = [0u32; 16384];
+    let mut rows = [0u32; 2048];
+    let mut cols = [0u32; 2048];
+    let mut ls = [0u32; 2049];
+    let mut lc = [0u32; 16384];
+    let mut lv = [0u32; 16384];
+    let mut us = [0u32; 2049];
+    let mut uc = [0u32; 16384];
+    let mut uv = [0u32; 16384];
+    let mut work = [0u64; 2048];
+    let s = factor_text(
+        text,
+        &mut starts,
+        &mut columns,
+        &mut values,
+        &mut rows,
+        &mut cols,
+        &mut ls,
+        &mut lc,
+        &mut lv,
+        &mut us,
+        &mut uc,
+        &mut uv,
+        &mut work,
+    );
+    rank_staged(s)
+}
+
+// Writes the report of a text: what the report program prints for it, refusals too.
+//   takes    a text, and a buffer of any length and content
+//   gives    the length of the report, which stands in the buffer; 0 for a buffer of fewer than 65,536 bytes
+//   leaves   the buffer zero past the report; the text is only read
+#[no_mangle]
+pub extern "C" fn plq_time_report(text: &[u8], out: &mut [u8]) -> u64
+    ensures { λ size. ⌜ Fills (now (out .entry)) (now (out .exit)) size (timedReport (now (text .entry)) (length (now (out .entry)))) ⌝ }
+{
+    if out.len() < REPORT_ROOM {
+        clear_bytes(out);
+        return 0;
+    }
+    let mut work = [0u64; 2048];
+    report(text, out, &mut work) as u64
+}

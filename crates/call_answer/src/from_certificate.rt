@@ -1,0 +1,132 @@
+// The public call that answers a question from a certificate. Any content of x, z and the working row is accepted.
+ghost use lib.ListN.{length};
+ghost use Rattle.algebra.specs.Matrix.{vector};
+ghost use Rattle.sparse.specs.Matrix.{compressed};
+ghost use Rattle.row_space.specs.Solve.{solve};
+ghost use Rattle.answer_question.specs.Answering.{Answered};
+ghost use Rattle.certificate.specs.Reading.{setOfCertificate};
+ghost use Rattle.call_check.specs.Calls.{checkCertificateOf, Checks};
+ghost use Rattle.call_answer.specs.Calls.{questionAfter, answerCertificateOf, PartsReady, Answers};
+use crate::Answer;
+use crate::answer_of;
+use crate::question::question_lengths;
+use answer_question::answer::answer;
+use answer_question::question::question_ok;
+use certificate::parts::number;
+use certificate::parts::places_in;
+use call_check::from_certificate::check_bytes;
+use lists::Outcome;
+use lists::clear;
+use lists::clear_row;
+use residue::Modulus;
+use row_space::Verdict;
+
+// The tests of a call with a certificate: 9, 1, 2, 8, 10, 11 to 14, 15. The working row is left all zero.
+fn asked_of_certificate(
+    q: Modulus,
+    n: u32,
+    m: u32,
+    ss: &[u32],
+    cols: &[u32],
+    vals: &[u32],
+    cert: &[u8],
+    y: &[u32],
+    xlen: usize,
+    zlen: usize,
+    work: &mut [u64],
+) -> Outcome
+    ensures { λ o. ⌜ Checks (questionAfter (checkCertificateOf (q .p) n m (compressed (now (ss .entry)) (now (cols .entry)) (now (vals .entry))) (now (cert .entry)) (length (now (work .entry)))) (q .p) n m (now (y .entry)) xlen zlen) o (now (work .entry)) (now (work .exit)) ⌝ }
+{
+    if !question_lengths(n, m, y, xlen, zlen) {
+        clear_row(work);
+        return Outcome::Refused(9, 0);
+    }
+    let checked = check_bytes(q, n, m, ss, cols, vals, cert, work);
+    let Outcome::Passed = checked else {
+        return checked;
+    };
+    question_ok(y, q.p)
+}
+
+// The answer from a certificate that passed: its parts are read where they stand.
+fn answer_parts(
+    q: Modulus,
+    n: u32,
+    m: u32,
+    cert: &[u8],
+    y: &[u32],
+    x: &mut [u32],
+    z: &mut [u32],
+    work: &mut [u64],
+) -> Verdict
+    requires { ⌜ PartsReady (q .p) n m (now cert) (now y) (now x) (now z) (now work) ⌝ }
+    ensures { λ v. ⌜ Answered (solve (q .p) (length (now (x .entry))) (length (now (z .entry))) (setOfCertificate n m (now (cert .entry))) (vector (now (y .entry)))) v (now (x .exit)) (now (z .exit)) (now (work .exit)) ⌝ }
+{
+    let places = places_in(cert, n, m);
+    let r = number(cert, 3);
+    let a = places.rows;
+    let b = places.cols;
+    let c = places.lstarts;
+    let d = places.lcols;
+    let e = places.lvals;
+    let f = places.ustarts;
+    let g = places.ucols;
+    let h = places.uvals;
+    let i = places.end;
+    let none: &[u32] = &[];
+    answer(
+        q,
+        none,
+        &cert[a..b],
+        none,
+        &cert[b..c],
+        none,
+        &cert[c..d],
+        none,
+        &cert[d..e],
+        none,
+        &cert[e..f],
+        none,
+        &cert[f..g],
+        none,
+        &cert[g..h],
+        none,
+        &cert[h..i],
+        r as usize,
+        y,
+        x,
+        z,
+        work,
+    )
+}
+
+// Answers a question from a certificate, which is read from its own bytes.
+//   takes    a stored plan, the bytes of a certificate, a question y of m values, n cells for x, m cells for z and a working row
+//   gives    open, with x such that x A = y; or closed, with z such that A z = 0 and y z is not 0; or the number and detail of the first fault
+//   refuses  9, 1, 2, 8, 10, 11, 12, 13, 14 at the first position, 15 at the first index
+//   leaves   the one of x and z that is not the answer all zero, after a refusal both; the working row all zero
+pub fn answer_from_certificate(
+    p: u32,
+    n: u32,
+    m: u32,
+    ss: &[u32],
+    cols: &[u32],
+    vals: &[u32],
+    cert: &[u8],
+    y: &[u32],
+    x: &mut [u32],
+    z: &mut [u32],
+    work: &mut [u64],
+) -> Answer
+    ensures { λ a. ⌜ Answers (answerCertificateOf p n m (compressed (now (ss .entry)) (now (cols .entry)) (now (vals .entry))) (now (cert .entry)) (now (y .entry)) (length (now (x .entry))) (length (now (z .entry))) (length (now (work .entry)))) a (now (x .entry)) (now (x .exit)) (now (z .entry)) (now (z .exit)) (now (work .entry)) (now (work .exit)) ⌝ }
+{
+    let q = Modulus { p };
+    let asked = asked_of_certificate(q, n, m, ss, cols, vals, cert, y, x.len(), z.len(), work);
+    if let Outcome::Refused(number, detail) = asked {
+        clear(x);
+        clear(z);
+        return Answer::Refused(number, detail);
+    }
+    let verdict = answer_parts(q, n, m, cert, y, x, z, work);
+    answer_of(verdict)
+}

@@ -1,0 +1,167 @@
+// The public call that checks stored factors against a stored plan. Any content of the working row is accepted.
+ghost use mathlib.Core.Path.{_≡_};
+ghost use lib.ListN.{length};
+ghost use Rattle.sparse.specs.Matrix.{compressed};
+ghost use Rattle.sparse.specs.Set.{setOf};
+ghost use Rattle.call_check.specs.Calls.{factorsOutcome, checkFactorsOf, Checks};
+use call_plan::plan_lengths;
+use call_plan::plan_outcome;
+use call_plan::set_lengths;
+use check_set::check;
+use lists::Outcome;
+use lists::clear_row;
+use residue::Modulus;
+
+// The lengths and the plan of a call with stored factors: 9, 1, 2, 8.
+fn factors_outcome(
+    p: u32,
+    n: u32,
+    m: u32,
+    ss: &[u32],
+    cols: &[u32],
+    vals: &[u32],
+    r: u32,
+    ro: &[u32],
+    co: &[u32],
+    ls: &[u32],
+    lc: &[u32],
+    lv: &[u32],
+    us: &[u32],
+    uc: &[u32],
+    uv: &[u32],
+    width: usize,
+) -> Outcome
+    ensures { λ o. ⌜ o ≡ factorsOutcome p n m (compressed (now (ss .entry)) (now (cols .entry)) (now (vals .entry))) (setOf r (now (ro .entry)) (now (co .entry)) (compressed (now (ls .entry)) (now (lc .entry)) (now (lv .entry))) (compressed (now (us .entry)) (now (uc .entry)) (now (uv .entry)))) width ⌝ }
+{
+    if !plan_lengths(n, ss, cols, vals) {
+        return Outcome::Refused(9, 0);
+    }
+    if !set_lengths(n, m, r, ro, co, ls, lc, lv, us, uc, uv) {
+        return Outcome::Refused(9, 0);
+    }
+    if width != 2048 {
+        return Outcome::Refused(9, 0);
+    }
+    plan_outcome(p, n, m, ss, cols, vals)
+}
+
+// The check of stored factors for a call that has made its modulus: the other calls on a stored set begin with it.
+pub fn check_stored(
+    q: Modulus,
+    n: u32,
+    m: u32,
+    ss: &[u32],
+    cols: &[u32],
+    vals: &[u32],
+    r: u32,
+    ro: &[u32],
+    co: &[u32],
+    ls: &[u32],
+    lc: &[u32],
+    lv: &[u32],
+    us: &[u32],
+    uc: &[u32],
+    uv: &[u32],
+    work: &mut [u64],
+) -> Outcome
+    ensures { λ o. ⌜ Checks (checkFactorsOf (q .p) n m (compressed (now (ss .entry)) (now (cols .entry)) (now (vals .entry))) (setOf r (now (ro .entry)) (now (co .entry)) (compressed (now (ls .entry)) (now (lc .entry)) (now (lv .entry))) (compressed (now (us .entry)) (now (uc .entry)) (now (uv .entry)))) (length (now (work .entry)))) o (now (work .entry)) (now (work .exit)) ⌝ }
+{
+    clear_row(work);
+    let tested = factors_outcome(
+        q.p,
+        n,
+        m,
+        ss,
+        cols,
+        vals,
+        r,
+        ro,
+        co,
+        ls,
+        lc,
+        lv,
+        us,
+        uc,
+        uv,
+        work.len(),
+    );
+    let Outcome::Passed = tested else {
+        return tested;
+    };
+    let none: &[u8] = b"";
+    check(
+        q,
+        ss,
+        none,
+        cols,
+        none,
+        vals,
+        none,
+        ro,
+        none,
+        co,
+        none,
+        ls,
+        none,
+        lc,
+        none,
+        lv,
+        none,
+        us,
+        none,
+        uc,
+        none,
+        uv,
+        none,
+        n,
+        m,
+        r,
+        work,
+    )
+}
+
+// Checks stored factors.
+//   takes    a stored plan (p, n, m, row starts, columns, values), a stored set (r, row order, column order, L, U) and a working row
+//   gives    passed, or the number and detail of the first fault
+//   refuses  9, 1, 2, 8, 11, 12, 13, 14 at the first position
+//   leaves   the working row all zero
+pub fn check_factors(
+    p: u32,
+    n: u32,
+    m: u32,
+    ss: &[u32],
+    cols: &[u32],
+    vals: &[u32],
+    r: u32,
+    ro: &[u32],
+    co: &[u32],
+    ls: &[u32],
+    lc: &[u32],
+    lv: &[u32],
+    us: &[u32],
+    uc: &[u32],
+    uv: &[u32],
+    work: &mut [u64],
+) -> Outcome
+    ensures { λ o. ⌜ Checks (checkFactorsOf p n m (compressed (now (ss .entry)) (now (cols .entry)) (now (vals .entry))) (setOf r (now (ro .entry)) (now (co .entry)) (compressed (now (ls .entry)) (now (lc .entry)) (now (lv .entry))) (compressed (now (us .entry)) (now (uc .entry)) (now (uv .entry)))) (length (now (work .entry)))) o (now (work .entry)) (now (work .exit)) ⌝ }
+{
+    let q = Modulus { p };
+    check_stored(
+        q,
+        n,
+        m,
+        ss,
+        cols,
+        vals,
+        r,
+        ro,
+        co,
+        ls,
+        lc,
+        lv,
+        us,
+        uc,
+        uv,
+        work,
+    )
+}

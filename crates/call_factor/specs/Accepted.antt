@@ -1,0 +1,45 @@
+-- What factoring accepts exactly, and what it leaves when it refuses, without an order of tests.
+--   LentRight n m l         the lent lists have the lengths that factoring takes
+--   FactorsFit p n m A l    L and U have no more entries than their lists hold
+--   Factorable p n m A l    a good plan, lent lists of their lengths, and room for the factors
+--   FactorCleared ..        a refusal: rank and structural pivots 0, and every list that was lent is all zero
+use Prim.Native.Nat.{ℕ, _+_, _≤_}
+use mathlib.Core.Path.{_≡_}
+use mathlib.Core.List.{List}
+use lib.ListN.{length}
+use Rattle.lists.specs.Filled.{zeros}
+use Rattle.sparse.specs.Matrix.{Compressed}
+use Rattle.elimination.specs.Factoring.{factor}
+use Rattle.call_plan.specs.Limits.{workLength}
+use Rattle.call_plan.specs.Accepted.{GoodPlan}
+use Rattle.call_factor.specs.declared.Lent.{Lent}
+
+pub record LentRight (n m : ℕ) (l : Lent) : Type 0 where
+  pub rows : l .rows ≡ n
+  pub columns : l .columns ≡ m
+  pub lstarts : l .lstarts ≡ n + 1
+  pub lower : l .lcols ≡ l .lvals
+  pub ustarts : l .ustarts ≡ n + 1
+  pub upper : l .ucols ≡ l .uvals
+  pub work : l .work ≡ workLength
+
+pub record FactorsFit (p n m : ℕ) (A : Compressed) (l : Lent) : Type 0 where
+  pub lower : length (factor p n m A .L .cols) ≤ l .lcols
+  pub upper : length (factor p n m A .U .cols) ≤ l .ucols
+
+pub record Factorable (p n m : ℕ) (A : Compressed) (l : Lent) : Type 0 where
+  pub plan : GoodPlan p n m A
+  pub lists : LentRight n m l
+  pub fits : FactorsFit p n m A l
+
+pub record FactorCleared (rank structural : ℕ) (R C : List ℕ) (L U : Compressed) : Type 0 where
+  pub rank-is : rank ≡ 0
+  pub structural-is : structural ≡ 0
+  pub R-is : R ≡ zeros (length R)
+  pub C-is : C ≡ zeros (length C)
+  pub L-starts : L .starts ≡ zeros (length (L .starts))
+  pub L-columns : L .cols ≡ zeros (length (L .cols))
+  pub L-values : L .vals ≡ zeros (length (L .vals))
+  pub U-starts : U .starts ≡ zeros (length (U .starts))
+  pub U-columns : U .cols ≡ zeros (length (U .cols))
+  pub U-values : U .vals ≡ zeros (length (U .vals))

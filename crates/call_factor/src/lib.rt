@@ -1,0 +1,139 @@
+// The public call that factors a stored plan.
+ghost use mathlib.Core.Path.{_≡_};
+ghost use Rattle.sparse.specs.Matrix.{compressed};
+ghost use Rattle.factor_all.specs.Outcome.{Leaves};
+ghost use Rattle.call_factor.specs.Lengths.{lentLengths, lentOutcome, lentOf};
+ghost use Rattle.call_factor.specs.Calls.{factorCallOf};
+use call_plan::plan_lengths;
+use call_plan::plan_outcome;
+use factor_all::clearing::clear_all;
+use factor_all::factor::Factored;
+use lists::Outcome;
+use lists::index;
+use residue::Modulus;
+
+// How long the lists are that are lent to factoring.
+pub struct Lent {
+    pub rows: usize,
+    pub columns: usize,
+    pub lstarts: usize,
+    pub lcols: usize,
+    pub lvals: usize,
+    pub ustarts: usize,
+    pub ucols: usize,
+    pub uvals: usize,
+    pub work: usize,
+}
+
+// Whether the lent lists have the lengths that factoring takes.
+fn lent_lengths(n: u32, m: u32, lent: Lent) -> bool
+    ensures { λ r. ⌜ r ≡ lentLengths n m lent ⌝ }
+{
+    let height = index(n);
+    if lent.rows != height {
+        return false;
+    }
+    if lent.columns != index(m) {
+        return false;
+    }
+    if lent.lstarts != height + 1 {
+        return false;
+    }
+    if lent.lcols != lent.lvals {
+        return false;
+    }
+    if lent.ustarts != height + 1 {
+        return false;
+    }
+    if lent.ucols != lent.uvals {
+        return false;
+    }
+    lent.work == 2048
+}
+
+// The lengths and the plan: 9, 1, 2, 8.
+fn lent_outcome(
+    p: u32,
+    n: u32,
+    m: u32,
+    ss: &[u32],
+    cols: &[u32],
+    vals: &[u32],
+    lent: Lent,
+) -> Outcome
+    ensures { λ o. ⌜ o ≡ lentOutcome p n m (compressed (now (ss .entry)) (now (cols .entry)) (now (vals .entry))) lent ⌝ }
+{
+    if !plan_lengths(n, ss, cols, vals) {
+        return Outcome::Refused(9, 0);
+    }
+    if !lent_lengths(n, m, lent) {
+        return Outcome::Refused(9, 0);
+    }
+    plan_outcome(p, n, m, ss, cols, vals)
+}
+
+// Factors a stored plan.
+//   takes    a stored plan (p, n, m, row starts, columns, values); lent lists for R (n cells), C (m), L and U (n + 1 starts each, columns and values of
+//            one length, whichever), and a working row; anything may stand in them
+//   gives    0, the rank and the number of structural pivots; R, C, L and U in the lists, zero past their ends
+//   refuses  9, 1, 2, 8, and 7 with the row after which L or U has more entries than its lists hold
+//   leaves   after a refusal every lent list all zero; the working row all zero in any case
+pub fn factor(
+    p: u32,
+    n: u32,
+    m: u32,
+    ss: &[u32],
+    cols: &[u32],
+    vals: &[u32],
+    rows: &mut [u32],
+    columns: &mut [u32],
+    ls: &mut [u32],
+    lc: &mut [u32],
+    lv: &mut [u32],
+    us: &mut [u32],
+    uc: &mut [u32],
+    uv: &mut [u32],
+    work: &mut [u64],
+) -> Factored
+    ensures { λ o. ⌜ Leaves (factorCallOf p n m (compressed (now (ss .entry)) (now (cols .entry)) (now (vals .entry))) (lentOf (now (rows .entry)) (now (columns .entry)) (compressed (now (ls .entry)) (now (lc .entry)) (now (lv .entry))) (compressed (now (us .entry)) (now (uc .entry)) (now (uv .entry))) (now (work .entry)))) (o .number) (o .detail) (o .rank) (o .structural) (now (rows .exit)) (now (columns .exit)) (compressed (now (ls .exit)) (now (lc .exit)) (now (lv .exit))) (compressed (now (us .exit)) (now (uc .exit)) (now (uv .exit))) (now (work .exit)) ⌝ }
+{
+    clear_all(rows, columns, ls, lc, lv, us, uc, uv, work);
+    let lent = Lent {
+        rows: rows.len(),
+        columns: columns.len(),
+        lstarts: ls.len(),
+        lcols: lc.len(),
+        lvals: lv.len(),
+        ustarts: us.len(),
+        ucols: uc.len(),
+        uvals: uv.len(),
+        work: work.len(),
+    };
+    let tested = lent_outcome(p, n, m, ss, cols, vals, lent);
+    if let Outcome::Refused(number, detail) = tested {
+        return Factored {
+            number,
+            detail,
+            rank: 0,
+            structural: 0,
+        };
+    }
+    let q = Modulus { p };
+    factor_all::factor::factor(
+        q,
+        ss,
+        cols,
+        vals,
+        n,
+        m,
+        rows,
+        columns,
+        ls,
+        lc,
+        lv,
+        us,
+        uc,
+        uv,
+        work,
+    )
+}

@@ -1,0 +1,84 @@
+// The public call that lists the open columns from a certificate. Any content of the list and of the working row is accepted.
+ghost use lib.ListN.{length};
+ghost use Rattle.sparse.specs.Matrix.{compressed};
+ghost use Rattle.row_space.specs.Solve.{openColumns};
+ghost use Rattle.answer_open.specs.Opening.{Columns};
+ghost use Rattle.certificate.specs.Reading.{setOfCertificate};
+ghost use Rattle.call_open.specs.Calls.{openCertificateOf, PartsReady, Lists};
+use certificate::parts::number;
+use certificate::parts::places_in;
+use call_check::from_certificate::check_bytes;
+use answer_open::pivots::open_columns;
+use lists::Outcome;
+use lists::clear;
+use lists::clear_row;
+use residue::Modulus;
+
+// The open columns from a certificate that passed: its parts are read where they stand.
+fn open_columns_of_parts(
+    q: Modulus,
+    n: u32,
+    m: u32,
+    cert: &[u8],
+    marks: &mut [u32],
+    work: &mut [u64],
+)
+    requires { ⌜ PartsReady (q .p) n m (now cert) (now marks) (now work) ⌝ }
+    ensures { λ _. ⌜ Columns (openColumns (q .p) (length (now (marks .entry))) (setOfCertificate n m (now (cert .entry)))) (now (marks .exit)) (now (work .exit)) ⌝ }
+{
+    let places = places_in(cert, n, m);
+    let r = number(cert, 3);
+    let b = places.cols;
+    let c = places.lstarts;
+    let f = places.ustarts;
+    let g = places.ucols;
+    let h = places.uvals;
+    let i = places.end;
+    open_columns(
+        q,
+        &[],
+        &cert[b..c],
+        &[],
+        &cert[f..g],
+        &[],
+        &cert[g..h],
+        &[],
+        &cert[h..i],
+        r as usize,
+        marks,
+        work,
+    );
+}
+
+// Lists the open columns from a certificate, which is read from its own bytes.
+//   takes    a stored plan, the bytes of a certificate, a list of m cells and a working row
+//   gives    1 for each column whose unit question is open and 0 for each other; or the number and detail of the first fault
+//   refuses  9, 1, 2, 8, 10, 11, 12, 13, 14 at the first position
+//   leaves   after a refusal the list all zero; the working row all zero
+pub fn open_columns_from_certificate(
+    p: u32,
+    n: u32,
+    m: u32,
+    ss: &[u32],
+    cols: &[u32],
+    vals: &[u32],
+    cert: &[u8],
+    marks: &mut [u32],
+    work: &mut [u64],
+) -> Outcome
+    ensures { λ o. ⌜ Lists (openCertificateOf p n m (compressed (now (ss .entry)) (now (cols .entry)) (now (vals .entry))) (now (cert .entry)) (length (now (marks .entry))) (length (now (work .entry)))) o (now (marks .entry)) (now (marks .exit)) (now (work .entry)) (now (work .exit)) ⌝ }
+{
+    let q = Modulus { p };
+    if marks.len() != m as usize {
+        clear(marks);
+        clear_row(work);
+        return Outcome::Refused(9, 0);
+    }
+    let checked = check_bytes(q, n, m, ss, cols, vals, cert, work);
+    let Outcome::Passed = checked else {
+        clear(marks);
+        return checked;
+    };
+    open_columns_of_parts(q, n, m, cert, marks, work);
+    Outcome::Passed
+}

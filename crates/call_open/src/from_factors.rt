@@ -1,0 +1,71 @@
+// The public call that lists the open columns from stored factors. Any content of the list and of the working row is accepted.
+ghost use lib.ListN.{length};
+ghost use Rattle.sparse.specs.Matrix.{compressed};
+ghost use Rattle.sparse.specs.Set.{setOf};
+ghost use Rattle.call_open.specs.Calls.{openFactorsOf, Lists};
+use call_check::from_factors::check_stored;
+use answer_open::pivots::open_columns;
+use lists::Outcome;
+use lists::clear;
+use lists::clear_row;
+use residue::Modulus;
+
+// Lists the open columns from stored factors.
+//   takes    a stored plan (p, n, m, row starts, columns, values), a stored set (r, row order, column order, L, U), a list of m cells
+//            and a working row
+//   gives    1 for each column whose unit question is open and 0 for each other; or the number and detail of the first fault
+//   refuses  9, 1, 2, 8, 11, 12, 13, 14 at the first position
+//   leaves   after a refusal the list all zero; the working row all zero
+pub fn open_columns_from_factors(
+    p: u32,
+    n: u32,
+    m: u32,
+    ss: &[u32],
+    cols: &[u32],
+    vals: &[u32],
+    r: u32,
+    ro: &[u32],
+    co: &[u32],
+    ls: &[u32],
+    lc: &[u32],
+    lv: &[u32],
+    us: &[u32],
+    uc: &[u32],
+    uv: &[u32],
+    marks: &mut [u32],
+    work: &mut [u64],
+) -> Outcome
+    ensures { λ o. ⌜ Lists (openFactorsOf p n m (compressed (now (ss .entry)) (now (cols .entry)) (now (vals .entry))) (setOf r (now (ro .entry)) (now (co .entry)) (compressed (now (ls .entry)) (now (lc .entry)) (now (lv .entry))) (compressed (now (us .entry)) (now (uc .entry)) (now (uv .entry)))) (length (now (marks .entry))) (length (now (work .entry)))) o (now (marks .entry)) (now (marks .exit)) (now (work .entry)) (now (work .exit)) ⌝ }
+{
+    let q = Modulus { p };
+    if marks.len() != m as usize {
+        clear(marks);
+        clear_row(work);
+        return Outcome::Refused(9, 0);
+    }
+    let checked = check_stored(
+        q,
+        n,
+        m,
+        ss,
+        cols,
+        vals,
+        r,
+        ro,
+        co,
+        ls,
+        lc,
+        lv,
+        us,
+        uc,
+        uv,
+        work,
+    );
+    let Outcome::Passed = checked else {
+        clear(marks);
+        return checked;
+    };
+    let k = r as usize;
+    open_columns(q, co, b"", us, b"", uc, b"", uv, b"", k, marks, work);
+    Outcome::Passed
+}

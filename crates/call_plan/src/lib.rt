@@ -1,0 +1,76 @@
+// The tests that every call on a stored plan begins with.
+ghost use mathlib.Core.Path.{_≡_};
+ghost use Rattle.sparse.specs.Matrix.{compressed};
+ghost use Rattle.sparse.specs.Set.{setOf};
+ghost use Rattle.call_plan.specs.Tests.{planLengths, setLengths, limitsOk, planOutcome};
+use lists::Outcome;
+use lists::index;
+use residue::is_modulus;
+use sparse::form::form_ok;
+
+// Whether the lists of a matrix of n rows have their lengths.
+pub fn plan_lengths(n: u32, ss: &[u32], cols: &[u32], vals: &[u32]) -> bool
+    ensures { λ r. ⌜ r ≡ planLengths n (compressed (now (ss .entry)) (now (cols .entry)) (now (vals .entry))) ⌝ }
+{
+    if ss.len() != index(n) + 1 {
+        return false;
+    }
+    cols.len() == vals.len()
+}
+
+// Whether the lists of a set of rank r for an n by m matrix have their lengths.
+pub fn set_lengths(
+    n: u32,
+    m: u32,
+    r: u32,
+    ro: &[u32],
+    co: &[u32],
+    ls: &[u32],
+    lc: &[u32],
+    lv: &[u32],
+    us: &[u32],
+    uc: &[u32],
+    uv: &[u32],
+) -> bool
+    ensures { λ z. ⌜ z ≡ setLengths n m (setOf r (now (ro .entry)) (now (co .entry)) (compressed (now (ls .entry)) (now (lc .entry)) (now (lv .entry))) (compressed (now (us .entry)) (now (uc .entry)) (now (uv .entry)))) ⌝ }
+{
+    if ro.len() != index(n) {
+        return false;
+    }
+    if co.len() != index(m) {
+        return false;
+    }
+    if !plan_lengths(n, ls, lc, lv) {
+        return false;
+    }
+    plan_lengths(r, us, uc, uv)
+}
+
+// Whether the sizes and the entry count of a plan keep the limits.
+fn limits_ok(n: u32, m: u32, ss: &[u32], cols: &[u32], vals: &[u32]) -> bool
+    ensures { λ r. ⌜ r ≡ limitsOk n m (compressed (now (ss .entry)) (now (cols .entry)) (now (vals .entry))) ⌝ }
+{
+    if 2048 < n {
+        return false;
+    }
+    if 2048 < m {
+        return false;
+    }
+    cols.len() <= 16384
+}
+
+// 1, 2 and 8.
+pub fn plan_outcome(p: u32, n: u32, m: u32, ss: &[u32], cols: &[u32], vals: &[u32]) -> Outcome
+    ensures { λ o. ⌜ o ≡ planOutcome p n m (compressed (now (ss .entry)) (now (cols .entry)) (now (vals .entry))) ⌝ }
+{
+    if !is_modulus(p) {
+        return Outcome::Refused(1, 0);
+    }
+    if !limits_ok(n, m, ss, cols, vals) {
+        return Outcome::Refused(2, 0);
+    }
+    if !form_ok(ss, b"", cols, b"", vals, b"", m, p) {
+        return Outcome::Refused(8, 0);
+    }
+    Outcome::Passed
+}

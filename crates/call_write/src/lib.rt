@@ -1,0 +1,80 @@
+// The public call that writes a certificate.
+ghost use lib.ListN.{length};
+ghost use Rattle.sparse.specs.Matrix.{compressed};
+ghost use Rattle.sparse.specs.Set.{setOf};
+ghost use Rattle.certificate.specs.Layout.{certificateOf};
+ghost use Rattle.call_write.specs.Call.{writeOutcome, WritesCertificate};
+use certificate::writer::write;
+use call_check::check_factors;
+use lists::Outcome;
+use lists::clear_bytes;
+
+// What writing returns: the outcome, and the certificate's length, 0 on a refusal.
+pub struct Written {
+    pub outcome: Outcome,
+    pub length: usize,
+}
+
+// Writes the certificate of a stored set, which is checked first.
+//   takes    a stored plan, a stored set, a buffer and a working row
+//   gives    the certificate in the buffer, zero past its end, and its length
+//   refuses  9, 1, 2, 8, 11, 12, 13, 14 at the first position, then 9 for a buffer that is too short
+//   leaves   after a refusal the buffer all zero; the working row all zero
+pub fn write_certificate(
+    p: u32,
+    n: u32,
+    m: u32,
+    ss: &[u32],
+    cols: &[u32],
+    vals: &[u32],
+    r: u32,
+    ro: &[u32],
+    co: &[u32],
+    ls: &[u32],
+    lc: &[u32],
+    lv: &[u32],
+    us: &[u32],
+    uc: &[u32],
+    uv: &[u32],
+    buffer: &mut [u8],
+    work: &mut [u64],
+) -> Written
+    ensures { λ z. ⌜ WritesCertificate (writeOutcome p n m (compressed (now (ss .entry)) (now (cols .entry)) (now (vals .entry))) (setOf r (now (ro .entry)) (now (co .entry)) (compressed (now (ls .entry)) (now (lc .entry)) (now (lv .entry))) (compressed (now (us .entry)) (now (uc .entry)) (now (uv .entry)))) (length (now (work .entry))) (length (now (buffer .entry)))) (certificateOf p n m (setOf r (now (ro .entry)) (now (co .entry)) (compressed (now (ls .entry)) (now (lc .entry)) (now (lv .entry))) (compressed (now (us .entry)) (now (uc .entry)) (now (uv .entry))))) z (now (buffer .entry)) (now (buffer .exit)) (now (work .entry)) (now (work .exit)) ⌝ }
+{
+    let checked = check_factors(
+        p,
+        n,
+        m,
+        ss,
+        cols,
+        vals,
+        r,
+        ro,
+        co,
+        ls,
+        lc,
+        lv,
+        us,
+        uc,
+        uv,
+        work,
+    );
+    let Outcome::Passed = checked else {
+        clear_bytes(buffer);
+        return Written {
+            outcome: checked,
+            length: 0,
+        };
+    };
+    let length = write(p, n, m, r, ro, co, ls, lc, lv, us, uc, uv, buffer);
+    if length == 0 {
+        return Written {
+            outcome: Outcome::Refused(9, 0),
+            length: 0,
+        };
+    }
+    Written {
+        outcome: Outcome::Passed,
+        length,
+    }
+}

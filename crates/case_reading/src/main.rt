@@ -1,0 +1,263 @@
+// The cases of document 01 that concern reading, and triples in any order, one line each: the name; the number and its detail; p, n, m and the
+// number of entries; and how many cells of the starts, the columns and the values are not 0. Lent lists hold 9s before.
+ghost use Prim.Native.Nat.{_≤_};
+ghost use lib.ListN.{length};
+
+mod long;
+mod print;
+
+// The byte `|`.
+const BAR: u8 = 124;
+
+// Reads a text and prints what comes of it.
+fn show(name: &[u8], text: &[u8], starts: &mut [u32], columns: &mut [u32], values: &mut [u32]) {
+    let r = text_plan::read(text, starts, columns, values);
+    print::line(name, r);
+    io::write_all(1, b" cells");
+    case_print::number(case_print::nonzero(starts) as u64);
+    case_print::number(case_print::nonzero(columns) as u64);
+    case_print::number(case_print::nonzero(values) as u64);
+    io::write_all(1, b"\n");
+}
+
+// A case is its name, a bar and its text.
+fn show_case(case: &[u8], starts: &mut [u32], columns: &mut [u32], values: &mut [u32]) {
+    let name = text_fields::pieces::piece(case, 0, BAR);
+    let e = name.len();
+    if e < case.len() {
+        show(name, &case[e + 1..], starts, columns, values);
+    }
+}
+
+// Reads a case's text into the first a, b and c cells of the lists.
+fn show_parts(
+    case: &[u8],
+    starts: &mut [u32],
+    a: usize,
+    columns: &mut [u32],
+    b: usize,
+    values: &mut [u32],
+    c: usize,
+)
+    requires { ⌜ (a ≤ length (now starts)) × (b ≤ length (now columns)) × (c ≤ length (now values)) ⌝ }
+{
+    show_case(case, &mut starts[..a], &mut columns[..b], &mut values[..c]);
+}
+
+// Reads a case's text into lists of these lengths.
+fn length_case(case: &[u8], a: usize, b: usize, c: usize)
+    requires { ⌜ (a ≤ 2050) × (b ≤ 16) × (c ≤ 16) ⌝ }
+{
+    let mut starts = [9u32; 2050];
+    let mut columns = [9u32; 16];
+    let mut values = [9u32; 16];
+    show_parts(case, &mut starts, a, &mut columns, b, &mut values, c);
+}
+
+// Reads a case's text into lists with room for so many entries.
+fn room_case(case: &[u8], room: usize)
+    requires { ⌜ room ≤ 16 ⌝ }
+{
+    length_case(case, 2049, room, room);
+}
+
+fn plain_case(case: &[u8]) {
+    room_case(case, 16);
+}
+
+// Reads a case's text and prints the first cells of each list too.
+fn cells_case(case: &[u8]) {
+    let mut starts = [9u32; 2049];
+    let mut columns = [9u32; 12];
+    let mut values = [9u32; 12];
+    show_case(case, &mut starts, &mut columns, &mut values);
+    print::list_line(b"  starts", lists::part(&starts, 0, 7));
+    print::list_line(b"  columns", &columns);
+    print::list_line(b"  values", &values);
+}
+
+fn moduli() {
+    plain_case(b"p 65521|65521\n0 0 M\n0 0 0\n");
+    plain_case(b"p 2|2\n0 0 M\n0 0 0\n");
+    plain_case(b"p 0|0\n0 0 M\n0 0 0\n");
+    plain_case(b"p 1|1\n0 0 M\n0 0 0\n");
+    plain_case(b"p 65520|65520\n0 0 M\n0 0 0\n");
+    plain_case(b"p 65522|65522\n0 0 M\n0 0 0\n");
+    plain_case(b"p of ten digits|9999999999\n0 0 M\n0 0 0\n");
+    plain_case(b"p of eleven digits|10000000000\n0 0 M\n0 0 0\n");
+}
+
+fn sizes() {
+    plain_case(b"words 2048|2\n0 2048 M\n0 0 0\n");
+    plain_case(b"words 2049|2\n0 2049 M\n0 0 0\n");
+    plain_case(b"slots 2048|2\n2048 0 M\n0 0 0\n");
+    plain_case(b"slots 2049|2\n2049 0 M\n0 0 0\n");
+    plain_case(b"no letter|2\n1 1\n0 0 0\n");
+    plain_case(b"other letter|2\n1 1 N\n0 0 0\n");
+}
+
+fn values() {
+    cells_case(b"v 2147483647|65521\n1 1 M\n1 1 2147483647\n0 0 0\n");
+    plain_case(b"v 2147483648|65521\n1 1 M\n1 1 2147483648\n0 0 0\n");
+    cells_case(b"v -2147483648|65521\n1 1 M\n1 1 -2147483648\n0 0 0\n");
+    plain_case(b"v -2147483649|65521\n1 1 M\n1 1 -2147483649\n0 0 0\n");
+    cells_case(b"v 14 of p 7|7\n1 1 M\n1 1 14\n0 0 0\n");
+    cells_case(b"v -1 of p 7|7\n1 1 M\n1 1 -1\n0 0 0\n");
+}
+
+// Line 4 of each text is at fault: 3.
+fn malformed() {
+    plain_case(b"two spaces|7\n2 2 M\n1 1 1\n1 2  1\n2 2 1\n0 0 0\n");
+    plain_case(b"leading zero|7\n2 2 M\n1 1 1\n01 2 1\n2 2 1\n0 0 0\n");
+    plain_case(b"plus sign|7\n2 2 M\n1 1 1\n1 2 +1\n2 2 1\n0 0 0\n");
+    plain_case(b"minus zero|7\n2 2 M\n1 1 1\n1 2 -0\n2 2 1\n0 0 0\n");
+    plain_case(b"minus on j|7\n2 2 M\n1 1 1\n1 -2 1\n2 2 1\n0 0 0\n");
+    plain_case(b"two fields|7\n2 2 M\n1 1 1\n1 2\n2 2 1\n0 0 0\n");
+    plain_case(b"space at the end|7\n2 2 M\n1 1 1\n1 2 1 \n2 2 1\n0 0 0\n");
+    plain_case(b"empty line|7\n2 2 M\n1 1 1\n\n2 2 1\n0 0 0\n");
+    plain_case(b"v of eleven digits|7\n2 2 M\n1 1 1\n1 2 10000000000\n2 2 1\n0 0 0\n");
+    plain_case(b"0 0 -0|7\n2 2 M\n1 1 1\n0 0 -0\n");
+}
+
+// Line 4 of each text is at fault: 4, 5 and 6, in this order.
+fn judged() {
+    plain_case(b"i too large|7\n2 2 M\n1 1 1\n3 1 1\n2 2 1\n0 0 0\n");
+    plain_case(b"j too large|7\n2 2 M\n1 1 1\n1 3 2147483648\n2 2 1\n0 0 0\n");
+    plain_case(b"0 0 5|7\n2 2 M\n1 1 1\n0 0 5\n");
+    plain_case(b"0 1 0|7\n2 2 M\n1 1 1\n0 1 0\n");
+    plain_case(b"1 0 0|7\n2 2 M\n1 1 1\n1 0 0\n");
+    plain_case(b"repeated|7\n2 2 M\n1 1 1\n1 1 2147483648\n2 2 1\n0 0 0\n");
+    plain_case(b"repeated after 0|7\n2 2 M\n1 1 7\n1 1 1\n2 2 1\n0 0 0\n");
+    plain_case(b"v too large|7\n2 2 M\n1 1 1\n1 2 2147483648\n2 2 1\n0 0 0\n");
+}
+
+// Triples in any order give the plan that they give when they rise.
+fn any_order() {
+    cells_case(b"row falls|7\n2 2 M\n2 1 1\n1 2 2\n2 2 3\n0 0 0\n");
+    cells_case(b"column falls|7\n2 2 M\n1 2 1\n1 1 2\n2 2 3\n0 0 0\n");
+    cells_case(b"row falls after 0|7\n2 2 M\n2 1 7\n1 2 2\n2 2 3\n0 0 0\n");
+    cells_case(
+        b"plan D reversed|7\n5 5 M\n5 5 3\n4 3 5\n4 2 1\n3 4 1\n3 3 2\n3 2 3\n3 1 4\n2 4 1\n2 2 3\n1 3 1\n1 1 2\n0 0 0\n",
+    );
+    cells_case(
+        b"plan D by column|7\n5 5 M\n1 1 2\n3 1 4\n2 2 3\n3 2 3\n4 2 1\n1 3 1\n3 3 2\n4 3 5\n2 4 1\n3 4 1\n5 5 3\n0 0 0\n",
+    );
+}
+
+// Line 6 of each text has the place of line 3: 5, before 6 and 7.
+fn repeated() {
+    plain_case(b"repeated far apart|7\n2 2 M\n1 1 1\n1 2 1\n2 2 1\n1 1 1\n0 0 0\n");
+    plain_case(b"repeated, row falls|7\n2 2 M\n2 1 1\n1 2 1\n1 1 1\n2 1 1\n0 0 0\n");
+    plain_case(b"repeated, 0 first|7\n2 2 M\n2 1 7\n1 2 1\n1 1 1\n2 1 1\n0 0 0\n");
+    plain_case(b"repeated, 0 second|7\n2 2 M\n2 1 1\n1 2 1\n1 1 1\n2 1 7\n0 0 0\n");
+    plain_case(b"repeated, v too large|7\n2 2 M\n2 1 1\n1 2 1\n1 1 1\n2 1 2147483648\n0 0 0\n");
+    plain_case(b"repeated, 3 after 5|7\n2 2 M\n2 1 1\n1 2 1\n1 1 1\n2 1 1\nx\n");
+    plain_case(b"two repeated|7\n2 2 M\n2 2 1\n1 1 1\n1 2 1\n2 2 1\n1 1 1\n0 0 0\n");
+    room_case(
+        b"repeated, room 3|7\n2 2 M\n2 1 1\n1 2 1\n1 1 1\n2 1 1\n0 0 0\n",
+        3,
+    );
+}
+
+// Lines are judged as they stand, also where a row falls: line 4 or 5 of each text is at fault.
+fn judged_as_they_stand() {
+    plain_case(b"row falls, no triple|7\n2 2 M\n2 1 1\n1 2\n2 1 1\n0 0 0\n");
+    plain_case(b"row falls, j too large|7\n2 2 M\n2 1 1\n1 3 1\n2 1 1\n0 0 0\n");
+    plain_case(b"row falls, v too large|7\n2 2 M\n2 1 1\n1 2 2147483648\n2 1 1\n0 0 0\n");
+    room_case(
+        b"row falls, room 1|7\n2 2 M\n2 1 1\n1 2 1\n2 1 1\n0 0 0\n",
+        1,
+    );
+    room_case(
+        b"row falls, room 1, a value 0|7\n2 2 M\n2 1 1\n1 2 7\n1 1 1\n0 0 0\n",
+        1,
+    );
+    plain_case(b"row falls, no last line|7\n2 2 M\n2 1 1\n1 2 1\n");
+    plain_case(b"row falls, no last line feed|7\n2 2 M\n2 1 1\n1 2 1\n0 0 0");
+}
+
+fn room() {
+    room_case(b"room 1|7\n2 2 M\n1 1 1\n1 2 1\n2 2 1\n0 0 0\n", 1);
+    room_case(
+        b"room 1, a value 0|7\n2 2 M\n1 1 1\n1 2 7\n2 2 1\n0 0 0\n",
+        1,
+    );
+    room_case(b"room 1, 3 after 7|7\n2 2 M\n1 1 1\n1 2 1\nx\n0 0 0\n", 1);
+    room_case(
+        b"room 1, 6 before 7|7\n2 2 M\n1 1 1\n1 2 2147483648\n0 0 0\n",
+        1,
+    );
+    room_case(b"room 0, only zeros|7\n2 2 M\n1 1 7\n1 2 -7\n0 0 0\n", 0);
+    room_case(b"room 3|7\n2 2 M\n1 1 1\n1 2 1\n2 2 1\n0 0 0\n", 3);
+}
+
+fn ends() {
+    plain_case(b"no text|");
+    plain_case(b"no line feed|7");
+    plain_case(b"one line|7\n");
+    plain_case(b"no second line feed|7\n0 0 M");
+    plain_case(b"two lines|7\n0 0 M\n");
+    plain_case(b"no last line feed|7\n0 0 M\n0 0 0");
+    plain_case(b"a line feed after the last line|7\n0 0 M\n0 0 0\n\n");
+    plain_case(b"a byte after the last line|7\n0 0 M\n0 0 0\nx");
+    plain_case(b"no last line|7\n1 1 M\n1 1 1\n");
+}
+
+fn lengths() {
+    length_case(b"starts 2048|7\n0 0 M\n0 0 0\n", 2048, 4, 4);
+    length_case(b"starts 2050|7\n0 0 M\n0 0 0\n", 2050, 4, 4);
+    length_case(b"columns 3, values 4|x", 2049, 3, 4);
+    length_case(b"no room at all|7\n0 0 M\n0 0 0\n", 2049, 0, 0);
+}
+
+// Document 01's plan D.
+fn plan_d() {
+    cells_case(
+        b"plan D|7\n5 5 M\n1 1 2\n1 3 1\n2 2 3\n2 4 1\n3 1 4\n3 2 3\n3 3 2\n3 4 1\n4 2 1\n4 3 5\n5 5 3\n0 0 0\n",
+    );
+}
+
+// Reads the first n bytes of a text into lists with room for 5,460 entries.
+fn long_case(name: &[u8], text: &[u8], n: usize)
+    requires { ⌜ n ≤ length (now text) ⌝ }
+{
+    let mut starts = [9u32; 2049];
+    let mut columns = [9u32; 5460];
+    let mut values = [9u32; 5460];
+    show(name, &text[..n], &mut starts, &mut columns, &mut values);
+}
+
+// A text of 65,536 bytes, and one of a byte more.
+fn long_texts() {
+    let mut text = [10u8; 65537];
+    long::fill(&mut text);
+    long_case(b"65536 bytes", &text, 65536);
+    long_case(b"65537 bytes", &text, 65537);
+}
+
+// The same text with two lines exchanged, and then with one of them twice, far apart.
+fn long_any_order() {
+    let mut text = [10u8; 65537];
+    long::fill(&mut text);
+    long::exchange_ends(&mut text);
+    long_case(b"65536 bytes, ends exchanged", &text, 65536);
+    long::repeat_end(&mut text);
+    long_case(b"65536 bytes, an end repeated", &text, 65536);
+}
+
+fn main() {
+    moduli();
+    sizes();
+    values();
+    malformed();
+    judged();
+    any_order();
+    repeated();
+    judged_as_they_stand();
+    room();
+    ends();
+    lengths();
+    plan_d();
+    long_texts();
+    long_any_order();
+}

@@ -1,0 +1,22 @@
+// What the cases print, on standard output.
+use case_print::number;
+use text_plan::Reading;
+
+// A case's name and what reading returned.
+pub fn line(name: &[u8], r: Reading) {
+    io::write_all(1, name);
+    io::write_all(1, b":");
+    number(r.number as u64);
+    number(r.detail as u64);
+    io::write_all(1, b" plan");
+    number(r.p as u64);
+    number(r.n as u64);
+    number(r.m as u64);
+    number(r.count as u64);
+}
+
+// A line with a label and the numbers of a list.
+pub fn list_line(label: &[u8], numbers: &[u32]) {
+    case_print::list(label, numbers);
+    io::write_all(1, b"\n");
+}

@@ -1,0 +1,120 @@
+// Runs a case: a plan's text is read into lists of 9s, one thing is changed, the plan is factored into lists of 9s, and what comes
+// of it is printed.
+use crate::change;
+use crate::change::Change;
+use crate::change::put_first;
+use crate::handed::Handed;
+use crate::handed::prepare;
+use crate::parts::first;
+use crate::parts::within;
+use crate::parts::within_row;
+use crate::print;
+use call_factor::factor;
+use text_plan::Reading;
+
+// Factors a plan into lent lists and prints what it returned and left.
+fn factor_and_print(
+    name: &[u8],
+    h: Handed,
+    starts: &[u32],
+    columns: &[u32],
+    values: &[u32],
+    rows: &mut [u32],
+    cols: &mut [u32],
+    ls: &mut [u32],
+    lc: &mut [u32],
+    lv: &mut [u32],
+    us: &mut [u32],
+    uc: &mut [u32],
+    uv: &mut [u32],
+    work: &mut [u64],
+) {
+    let f = factor(
+        h.p,
+        h.n,
+        h.m,
+        starts,
+        columns,
+        values,
+        rows,
+        cols,
+        ls,
+        lc,
+        lv,
+        us,
+        uc,
+        uv,
+        work,
+    );
+    print::result(name, h.n, f, rows, cols, ls, lc, lv, us, uc, uv, work);
+}
+
+// Lends lists of 9s, as many cells of each as are to be handed.
+fn lend(name: &[u8], h: Handed, starts: &[u32], columns: &[u32], values: &[u32]) {
+    let mut rows = [9u32; 2049];
+    let mut cols = [9u32; 2049];
+    let mut ls = [9u32; 2050];
+    let mut lc = [9u32; 32];
+    let mut lv = [9u32; 32];
+    let mut us = [9u32; 2050];
+    let mut uc = [9u32; 32];
+    let mut uv = [9u32; 32];
+    let mut work = [9u64; 2049];
+    let a = within(&rows, h.rows);
+    let b = within(&cols, h.cols);
+    let c = within(&ls, h.ls);
+    let d = within(&lc, h.lc);
+    let e = within(&lv, h.lv);
+    let f = within(&us, h.us);
+    let g = within(&uc, h.uc);
+    let i = within(&uv, h.uv);
+    let k = within_row(&work, h.work);
+    factor_and_print(
+        name,
+        h,
+        starts,
+        columns,
+        values,
+        &mut rows[..a],
+        &mut cols[..b],
+        &mut ls[..c],
+        &mut lc[..d],
+        &mut lv[..e],
+        &mut us[..f],
+        &mut uc[..g],
+        &mut uv[..i],
+        &mut work[..k],
+    );
+}
+
+// Reads a text into the first 2,049 starts, which reading takes, and into columns and values; changes what the case changes there.
+fn read(
+    text: &[u8],
+    change: Change,
+    starts: &mut [u32],
+    columns: &mut [u32],
+    values: &mut [u32],
+) -> Reading {
+    let e = within(starts, 2049);
+    let r = text_plan::read(text, &mut starts[..e], columns, values);
+    put_first(change, change::FIRST_START, starts);
+    put_first(change, change::FIRST_COLUMN, columns);
+    put_first(change, change::FIRST_VALUE, values);
+    r
+}
+
+// Runs a case with rooms l and u for the entries of L and U.
+pub fn run(name: &[u8], text: &[u8], l: u32, u: u32, change: Change) {
+    let mut starts = [9u32; 2050];
+    let mut columns = [9u32; 16385];
+    let mut values = [9u32; 16385];
+    let r = read(text, change, &mut starts, &mut columns, &mut values);
+    let h = prepare(r, l, u, change);
+    lend(
+        name,
+        h,
+        first(&starts, h.starts),
+        first(&columns, h.columns),
+        first(&values, h.values),
+    );
+}

@@ -1,0 +1,211 @@
+// The product of a set compared with the matrix (refusal 14), row by row in the working row.
+ghost use mathlib.Core.Path.{_≡_};
+ghost use Prim.Native.Nat.{_<_};
+ghost use lib.ListN.{length, getD};
+ghost use Rattle.lists.specs.Filled.{zeros};
+ghost use Rattle.lists.specs.Tests.{first};
+ghost use Rattle.algebra.specs.Matrix.{vector};
+ghost use Rattle.sparse.specs.Words.{view};
+ghost use Rattle.sparse.specs.Row.{weigh};
+ghost use Rattle.sparse.specs.Matrix.{viewed, matrix};
+ghost use Rattle.sparse.specs.WorkingRow.{Subtracted};
+ghost use Rattle.pluq.specs.Judge.{agrees};
+ghost use Rattle.check_product.specs.Combination.{isCombination};
+ghost use Rattle.check_product.specs.Needs.{CombinesRows, ComparesRow, Comparable};
+
+mod sweep;
+
+use crate::sweep::clear_touched;
+use lists::index;
+use residue::Modulus;
+use sparse::kernel::subtract_row;
+use sparse::words::bytes_part;
+use sparse::words::count;
+use sparse::words::list_part;
+use sparse::words::word;
+
+// The number at place t of a list, as an index.
+fn index_at(list: &[u32], bytes: &[u8], t: usize) -> usize
+    requires { ⌜ t < length (view (now list) (now bytes)) ⌝ }
+    ensures { λ r. ⌜ r ≡ getD (view (now (list .entry)) (now (bytes .entry))) t 0 ⌝ }
+{
+    index(word(list, bytes, t))
+}
+
+// Takes the rows of U away, each as often as the sparse row says.
+fn subtract_rows(
+    q: Modulus,
+    ks: &[u32],
+    kb: &[u8],
+    vs: &[u32],
+    vb: &[u8],
+    us: &[u32],
+    usb: &[u8],
+    uc: &[u32],
+    ucb: &[u8],
+    uv: &[u32],
+    uvb: &[u8],
+    r: usize,
+    work: &mut [u64],
+)
+    requires { ⌜ CombinesRows (q .p) r (view (now ks) (now kb)) (view (now vs) (now vb)) (viewed (now us) (now usb) (now uc) (now ucb) (now uv) (now uvb)) (now work) ⌝ }
+    ensures { λ _. ⌜ Subtracted (q .p) (λ j. weigh (view (now (ks .entry)) (now (kb .entry))) (view (now (vs .entry)) (now (vb .entry))) (λ k. matrix (viewed (now (us .entry)) (now (usb .entry)) (now (uc .entry)) (now (ucb .entry)) (now (uv .entry)) (now (uvb .entry))) k j)) (now (work .entry)) (now (work .exit)) ⌝ }
+{
+    let n = count(ks, kb);
+    let mut t = 0;
+    while t < n {
+        let k = index_at(ks, kb, t);
+        let v = word(vs, vb, t);
+        subtract_row(q, us, usb, uc, ucb, uv, uvb, k, v, work);
+        t += 1;
+    }
+}
+
+// Whether the working row is the sum of the rows of U, each as often as a row of L says: at all columns, modulo p. Only
+// cells at the given columns may be other than 0; after it all are 0. The rows are parts of the lists of A and of L.
+fn is_combination(
+    q: Modulus,
+    cols: &[u32],
+    cb: &[u8],
+    ks: &[u32],
+    kb: &[u8],
+    vs: &[u32],
+    vb: &[u8],
+    us: &[u32],
+    usb: &[u8],
+    uc: &[u32],
+    ucb: &[u8],
+    uv: &[u32],
+    uvb: &[u8],
+    r: usize,
+    work: &mut [u64],
+) -> bool
+    requires { ⌜ ComparesRow (q .p) r (view (now cols) (now cb)) (view (now ks) (now kb)) (view (now vs) (now vb)) (viewed (now us) (now usb) (now uc) (now ucb) (now uv) (now uvb)) (now work) ⌝ }
+    ensures { λ z. ⌜ (z ≡ isCombination (q .p) (now (work .entry)) (view (now (ks .entry)) (now (kb .entry))) (view (now (vs .entry)) (now (vb .entry))) (matrix (viewed (now (us .entry)) (now (usb .entry)) (now (uc .entry)) (now (ucb .entry)) (now (uv .entry)) (now (uvb .entry))))) × (now (work .exit) ≡ zeros (length (now (work .entry)))) ⌝ }
+{
+    subtract_rows(q, ks, kb, vs, vb, us, usb, uc, ucb, uv, uvb, r, work);
+    clear_touched(q, cols, cb, ks, kb, us, usb, uc, ucb, work)
+}
+
+// Whether row R[i] of A is row i of the product, at all columns. A's row is put into the working row:
+// taken away p - 1 times it is added once. The two rows are handed on as middle parts of their lists.
+fn row_agrees(
+    q: Modulus,
+    ss: &[u32],
+    sb: &[u8],
+    cols: &[u32],
+    cb: &[u8],
+    vals: &[u32],
+    vb: &[u8],
+    ro: &[u32],
+    rob: &[u8],
+    ls: &[u32],
+    lsb: &[u8],
+    lc: &[u32],
+    lcb: &[u8],
+    lv: &[u32],
+    lvb: &[u8],
+    us: &[u32],
+    usb: &[u8],
+    uc: &[u32],
+    ucb: &[u8],
+    uv: &[u32],
+    uvb: &[u8],
+    r: usize,
+    n: usize,
+    i: usize,
+    work: &mut [u64],
+) -> bool
+    requires { ⌜ (i < n) × Comparable (q .p) n r (viewed (now ss) (now sb) (now cols) (now cb) (now vals) (now vb)) (view (now ro) (now rob)) (viewed (now ls) (now lsb) (now lc) (now lcb) (now lv) (now lvb)) (viewed (now us) (now usb) (now uc) (now ucb) (now uv) (now uvb)) (now work) ⌝ }
+    ensures { λ z. ⌜ (z ≡ agrees (q .p) (length (now (work .entry))) r (matrix (viewed (now (ss .entry)) (now (sb .entry)) (now (cols .entry)) (now (cb .entry)) (now (vals .entry)) (now (vb .entry)))) (vector (view (now (ro .entry)) (now (rob .entry)))) (matrix (viewed (now (ls .entry)) (now (lsb .entry)) (now (lc .entry)) (now (lcb .entry)) (now (lv .entry)) (now (lvb .entry)))) (matrix (viewed (now (us .entry)) (now (usb .entry)) (now (uc .entry)) (now (ucb .entry)) (now (uv .entry)) (now (uvb .entry)))) i) × (now (work .exit) ≡ now (work .entry)) ⌝ }
+{
+    let k = index_at(ro, rob, i);
+    subtract_row(q, ss, sb, cols, cb, vals, vb, k, q.p - 1, work);
+    let a = index_at(ss, sb, k);
+    let e = index_at(ss, sb, k + 1);
+    let from = index_at(ls, lsb, i);
+    let to = index_at(ls, lsb, i + 1);
+    is_combination(
+        q,
+        list_part(cols, a, e),
+        bytes_part(cols.len(), cb, a, e),
+        list_part(lc, from, to),
+        bytes_part(lc.len(), lcb, from, to),
+        list_part(lv, from, to),
+        bytes_part(lv.len(), lvb, from, to),
+        us,
+        usb,
+        uc,
+        ucb,
+        uv,
+        uvb,
+        r,
+        work,
+    )
+}
+
+// The first position whose row differs from the product's, or n.
+pub fn first_differing(
+    q: Modulus,
+    ss: &[u32],
+    sb: &[u8],
+    cols: &[u32],
+    cb: &[u8],
+    vals: &[u32],
+    vb: &[u8],
+    ro: &[u32],
+    rob: &[u8],
+    ls: &[u32],
+    lsb: &[u8],
+    lc: &[u32],
+    lcb: &[u8],
+    lv: &[u32],
+    lvb: &[u8],
+    us: &[u32],
+    usb: &[u8],
+    uc: &[u32],
+    ucb: &[u8],
+    uv: &[u32],
+    uvb: &[u8],
+    r: usize,
+    n: usize,
+    work: &mut [u64],
+) -> usize
+    requires { ⌜ Comparable (q .p) n r (viewed (now ss) (now sb) (now cols) (now cb) (now vals) (now vb)) (view (now ro) (now rob)) (viewed (now ls) (now lsb) (now lc) (now lcb) (now lv) (now lvb)) (viewed (now us) (now usb) (now uc) (now ucb) (now uv) (now uvb)) (now work) ⌝ }
+    ensures { λ z. ⌜ (z ≡ first n (agrees (q .p) (length (now (work .entry))) r (matrix (viewed (now (ss .entry)) (now (sb .entry)) (now (cols .entry)) (now (cb .entry)) (now (vals .entry)) (now (vb .entry)))) (vector (view (now (ro .entry)) (now (rob .entry)))) (matrix (viewed (now (ls .entry)) (now (lsb .entry)) (now (lc .entry)) (now (lcb .entry)) (now (lv .entry)) (now (lvb .entry)))) (matrix (viewed (now (us .entry)) (now (usb .entry)) (now (uc .entry)) (now (ucb .entry)) (now (uv .entry)) (now (uvb .entry)))))) × (now (work .exit) ≡ now (work .entry)) ⌝ }
+{
+    let mut i = 0;
+    while i < n {
+        if !row_agrees(
+            q,
+            ss,
+            sb,
+            cols,
+            cb,
+            vals,
+            vb,
+            ro,
+            rob,
+            ls,
+            lsb,
+            lc,
+            lcb,
+            lv,
+            lvb,
+            us,
+            usb,
+            uc,
+            ucb,
+            uv,
+            uvb,
+            r,
+            n,
+            i,
+            work,
+        ) {
+            return i;
+        }
+        i += 1;
+    }
+    n
+}

@@ -1,0 +1,168 @@
+// The check of a set against a stored matrix: refusals 11 to 14, in order. The names of the lists of a set: `ro` and `co` are the
+// row and column order, `ls`, `lc`, `lv` the starts, columns and values of L, `us`, `uc`, `uv` those of U, each with its bytes.
+ghost use mathlib.Core.Path.{_≡_};
+ghost use Rattle.sparse.specs.Words.{view};
+ghost use Rattle.sparse.specs.Matrix.{viewed};
+ghost use Rattle.sparse.specs.Set.{setOf};
+ghost use Rattle.pluq.specs.Judge.{judgeFactors, judge};
+ghost use Rattle.check_set.specs.Needs.{Judgeable, Checkable};
+use lists::Outcome;
+use check_product::first_differing;
+use residue::Modulus;
+use check_shape::lower::lower_ok;
+use check_shape::order::is_permutation;
+use check_shape::upper::upper_ok;
+use sparse::form::form_ok;
+
+// 13, then 14.
+pub fn judge_factors(
+    q: Modulus,
+    ss: &[u32],
+    sb: &[u8],
+    cols: &[u32],
+    cb: &[u8],
+    vals: &[u32],
+    vb: &[u8],
+    ro: &[u32],
+    rob: &[u8],
+    co: &[u32],
+    cob: &[u8],
+    ls: &[u32],
+    lsb: &[u8],
+    lc: &[u32],
+    lcb: &[u8],
+    lv: &[u32],
+    lvb: &[u8],
+    us: &[u32],
+    usb: &[u8],
+    uc: &[u32],
+    ucb: &[u8],
+    uv: &[u32],
+    uvb: &[u8],
+    n: u32,
+    m: u32,
+    r: u32,
+    work: &mut [u64],
+) -> Outcome
+    requires { ⌜ Judgeable (q .p) n m (viewed (now ss) (now sb) (now cols) (now cb) (now vals) (now vb)) (setOf r (view (now ro) (now rob)) (view (now co) (now cob)) (viewed (now ls) (now lsb) (now lc) (now lcb) (now lv) (now lvb)) (viewed (now us) (now usb) (now uc) (now ucb) (now uv) (now uvb))) (now work) ⌝ }
+    ensures { λ o. ⌜ (o ≡ judgeFactors (q .p) n m (viewed (now (ss .entry)) (now (sb .entry)) (now (cols .entry)) (now (cb .entry)) (now (vals .entry)) (now (vb .entry))) (setOf r (view (now (ro .entry)) (now (rob .entry))) (view (now (co .entry)) (now (cob .entry))) (viewed (now (ls .entry)) (now (lsb .entry)) (now (lc .entry)) (now (lcb .entry)) (now (lv .entry)) (now (lvb .entry))) (viewed (now (us .entry)) (now (usb .entry)) (now (uc .entry)) (now (ucb .entry)) (now (uv .entry)) (now (uvb .entry))))) × (now (work .exit) ≡ now (work .entry)) ⌝ }
+{
+    if !form_ok(ls, lsb, lc, lcb, lv, lvb, r, q.p) {
+        return Outcome::Refused(13, 0);
+    }
+    if !form_ok(us, usb, uc, ucb, uv, uvb, m, q.p) {
+        return Outcome::Refused(13, 0);
+    }
+    if !lower_ok(ls, lsb, lc, lcb, lv, lvb, q.p, r as usize) {
+        return Outcome::Refused(13, 0);
+    }
+    if !upper_ok(us, usb, uc, ucb, uv, uvb, co, cob, q.p, r as usize, work) {
+        return Outcome::Refused(13, 0);
+    }
+    let i = first_differing(
+        q,
+        ss,
+        sb,
+        cols,
+        cb,
+        vals,
+        vb,
+        ro,
+        rob,
+        ls,
+        lsb,
+        lc,
+        lcb,
+        lv,
+        lvb,
+        us,
+        usb,
+        uc,
+        ucb,
+        uv,
+        uvb,
+        r as usize,
+        n as usize,
+        work,
+    );
+    if i < n as usize {
+        return Outcome::Refused(14, i as u32);
+    }
+    Outcome::Passed
+}
+
+// 11, then 12, then the factors.
+pub fn check(
+    q: Modulus,
+    ss: &[u32],
+    sb: &[u8],
+    cols: &[u32],
+    cb: &[u8],
+    vals: &[u32],
+    vb: &[u8],
+    ro: &[u32],
+    rob: &[u8],
+    co: &[u32],
+    cob: &[u8],
+    ls: &[u32],
+    lsb: &[u8],
+    lc: &[u32],
+    lcb: &[u8],
+    lv: &[u32],
+    lvb: &[u8],
+    us: &[u32],
+    usb: &[u8],
+    uc: &[u32],
+    ucb: &[u8],
+    uv: &[u32],
+    uvb: &[u8],
+    n: u32,
+    m: u32,
+    r: u32,
+    work: &mut [u64],
+) -> Outcome
+    requires { ⌜ Checkable (q .p) n m (viewed (now ss) (now sb) (now cols) (now cb) (now vals) (now vb)) (setOf r (view (now ro) (now rob)) (view (now co) (now cob)) (viewed (now ls) (now lsb) (now lc) (now lcb) (now lv) (now lvb)) (viewed (now us) (now usb) (now uc) (now ucb) (now uv) (now uvb))) (now work) ⌝ }
+    ensures { λ o. ⌜ (o ≡ judge (q .p) n m (viewed (now (ss .entry)) (now (sb .entry)) (now (cols .entry)) (now (cb .entry)) (now (vals .entry)) (now (vb .entry))) (setOf r (view (now (ro .entry)) (now (rob .entry))) (view (now (co .entry)) (now (cob .entry))) (viewed (now (ls .entry)) (now (lsb .entry)) (now (lc .entry)) (now (lcb .entry)) (now (lv .entry)) (now (lvb .entry))) (viewed (now (us .entry)) (now (usb .entry)) (now (uc .entry)) (now (ucb .entry)) (now (uv .entry)) (now (uvb .entry))))) × (now (work .exit) ≡ now (work .entry)) ⌝ }
+{
+    if !is_permutation(ro, rob, work) {
+        return Outcome::Refused(11, 0);
+    }
+    if !is_permutation(co, cob, work) {
+        return Outcome::Refused(11, 0);
+    }
+    if n < r {
+        return Outcome::Refused(12, 0);
+    }
+    if m < r {
+        return Outcome::Refused(12, 0);
+    }
+    judge_factors(
+        q,
+        ss,
+        sb,
+        cols,
+        cb,
+        vals,
+        vb,
+        ro,
+        rob,
+        co,
+        cob,
+        ls,
+        lsb,
+        lc,
+        lcb,
+        lv,
+        lvb,
+        us,
+        usb,
+        uc,
+        ucb,
+        uv,
+        uvb,
+        n,
+        m,
+        r,
+        &mut work[..m as usize],
+    )
+}

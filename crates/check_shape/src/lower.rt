@@ -1,0 +1,55 @@
+// The shape of L: by the last column of each row.
+ghost use mathlib.Core.Path.{_≡_};
+ghost use Prim.Native.Nat.{_<_};
+ghost use Rattle.sparse.specs.Matrix.{viewed, matrix};
+ghost use Rattle.pluq.specs.Shape.{lowerRow, lower};
+ghost use Rattle.check_shape.specs.Needs.{Rows};
+use lists::index;
+use sparse::words::word;
+
+// Whether the last column of row k is k.
+fn lower_row(
+    ss: &[u32],
+    sb: &[u8],
+    cols: &[u32],
+    cb: &[u8],
+    vals: &[u32],
+    vb: &[u8],
+    p: u32,
+    r: usize,
+    k: usize,
+) -> bool
+    requires { ⌜ (k < r) × Rows p r r (viewed (now ss) (now sb) (now cols) (now cb) (now vals) (now vb)) ⌝ }
+    ensures { λ z. ⌜ z ≡ lowerRow r (matrix (viewed (now (ss .entry)) (now (sb .entry)) (now (cols .entry)) (now (cb .entry)) (now (vals .entry)) (now (vb .entry))) k) k ⌝ }
+{
+    let a = index(word(ss, sb, k));
+    let e = index(word(ss, sb, k + 1));
+    if e <= a {
+        return false;
+    }
+    index(word(cols, cb, e - 1)) == k
+}
+
+// Whether L has its shape.
+pub fn lower_ok(
+    ss: &[u32],
+    sb: &[u8],
+    cols: &[u32],
+    cb: &[u8],
+    vals: &[u32],
+    vb: &[u8],
+    p: u32,
+    r: usize,
+) -> bool
+    requires { ⌜ Rows p r r (viewed (now ss) (now sb) (now cols) (now cb) (now vals) (now vb)) ⌝ }
+    ensures { λ z. ⌜ z ≡ lower r (matrix (viewed (now (ss .entry)) (now (sb .entry)) (now (cols .entry)) (now (cb .entry)) (now (vals .entry)) (now (vb .entry)))) ⌝ }
+{
+    let mut k = 0;
+    while k < r {
+        if !lower_row(ss, sb, cols, cb, vals, vb, p, r, k) {
+            return false;
+        }
+        k += 1;
+    }
+    true
+}

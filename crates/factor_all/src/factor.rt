@@ -1,0 +1,154 @@
+// Factoring of a stored matrix into lent lists. The names of the lists: `ls`, `lc`, `lv` are the starts, columns and values of L,
+// `us`, `uc`, `uv` those of U.
+ghost use lib.ListN.{length};
+ghost use Rattle.sparse.specs.Matrix.{compressed, matrix};
+ghost use Rattle.factor_turn.specs.Passing.{pairsOf};
+ghost use Rattle.factor_all.specs.Outcome.{factoringFrom, factoring, Leaves};
+ghost use Rattle.factor_passes.specs.Needs.{FromReady};
+ghost use Rattle.factor_all.specs.Needs.{FactorReady};
+use crate::clearing::clear_all;
+use factor_order::pairs::structural_pairs;
+use factor_passes::passes::pass_one;
+use factor_passes::passes::pass_two;
+use residue::Modulus;
+
+// What factoring returns: document 01's number with its detail, the rank and the number of structural pivots.
+pub struct Factored {
+    pub number: u32,
+    pub detail: u32,
+    pub rank: u32,
+    pub structural: u32,
+}
+
+// Factors from the s pairs that `rows` and `columns` hold, whichever rule chose them.
+pub fn factor_from(
+    q: Modulus,
+    ss: &[u32],
+    cols: &[u32],
+    vals: &[u32],
+    s: usize,
+    rows: &mut [u32],
+    columns: &mut [u32],
+    ls: &mut [u32],
+    lc: &mut [u32],
+    lv: &mut [u32],
+    us: &mut [u32],
+    uc: &mut [u32],
+    uv: &mut [u32],
+    work: &mut [u64],
+) -> Factored
+    requires { ⌜ FromReady (q .p) s (compressed (now ss) (now cols) (now vals)) (now rows) (now columns) (compressed (now ls) (now lc) (now lv)) (compressed (now us) (now uc) (now uv)) (now work) ⌝ }
+    ensures { λ o. ⌜ Leaves (factoringFrom (q .p) (length (now (rows .entry))) (length (now (columns .entry))) (matrix (compressed (now (ss .entry)) (now (cols .entry)) (now (vals .entry)))) (length (now (lc .entry))) (length (now (uc .entry))) (pairsOf s (now (rows .entry)) (now (columns .entry)))) (o .number) (o .detail) (o .rank) (o .structural) (now (rows .exit)) (now (columns .exit)) (compressed (now (ls .exit)) (now (lc .exit)) (now (lv .exit))) (compressed (now (us .exit)) (now (uc .exit)) (now (uv .exit))) (now (work .exit)) ⌝ }
+{
+    let pass = pass_one(
+        q,
+        ss,
+        cols,
+        vals,
+        s,
+        rows,
+        columns,
+        ls,
+        lc,
+        lv,
+        us,
+        uc,
+        uv,
+        work,
+    );
+    let stop = pass.stop;
+    let so = pass.so;
+    let over = so.over;
+    let r = so.r;
+    let at = so.at;
+    let l = so.l;
+    if over {
+        clear_all(rows, columns, ls, lc, lv, us, uc, uv, work);
+        return Factored {
+            number: 7,
+            detail: stop,
+            rank: 0,
+            structural: 0,
+        };
+    }
+    pass_two(
+        q,
+        ss,
+        cols,
+        vals,
+        r,
+        at,
+        l,
+        us,
+        uc,
+        uv,
+        rows,
+        columns,
+        ls,
+        lc,
+        lv,
+        work,
+    );
+    let rank = r as u32;
+    let structural = s as u32;
+    Factored {
+        number: 0,
+        detail: 0,
+        rank: rank,
+        structural: structural,
+    }
+}
+
+// Factors an n by m matrix modulo the prime p of q.
+// Takes: the matrix in its stored form; `rows` of n cells, `columns` of m, `ls` and `us` of n + 1; `lc` as long as `lv` and `uc` as
+// `uv`, of any length; a working row of at least n and m cells; everything lent all zero.
+// Gives: the rank and the number of structural pivots.
+// Refuses with: 7 and the row, where L or U has more entries than its lists hold.
+// Leaves: R, C, L and U, zero past their ends; all zero on a refusal; the working row all zero.
+pub fn factor(
+    q: Modulus,
+    ss: &[u32],
+    cols: &[u32],
+    vals: &[u32],
+    n: u32,
+    m: u32,
+    rows: &mut [u32],
+    columns: &mut [u32],
+    ls: &mut [u32],
+    lc: &mut [u32],
+    lv: &mut [u32],
+    us: &mut [u32],
+    uc: &mut [u32],
+    uv: &mut [u32],
+    work: &mut [u64],
+) -> Factored
+    requires { ⌜ FactorReady (q .p) n m (compressed (now ss) (now cols) (now vals)) (now rows) (now columns) (compressed (now ls) (now lc) (now lv)) (compressed (now us) (now uc) (now uv)) (now work) ⌝ }
+    ensures { λ o. ⌜ Leaves (factoring (q .p) n m (compressed (now (ss .entry)) (now (cols .entry)) (now (vals .entry))) (length (now (lc .entry))) (length (now (uc .entry)))) (o .number) (o .detail) (o .rank) (o .structural) (now (rows .exit)) (now (columns .exit)) (compressed (now (ls .exit)) (now (lc .exit)) (now (lv .exit))) (compressed (now (us .exit)) (now (uc .exit)) (now (uv .exit))) (now (work .exit)) ⌝ }
+{
+    let s = structural_pairs(
+        ss,
+        cols,
+        vals,
+        q.p,
+        n as usize,
+        rows,
+        columns,
+        &mut work[..m as usize],
+    );
+    factor_from(
+        q,
+        ss,
+        cols,
+        vals,
+        s,
+        rows,
+        columns,
+        ls,
+        lc,
+        lv,
+        us,
+        uc,
+        uv,
+        work,
+    )
+}

@@ -1,0 +1,90 @@
+// How many waiting rows lead to each pivot.
+ghost use mathlib.Core.Path.{_≡_};
+ghost use Prim.Native.Nat.{_+_};
+ghost use lib.ListN.{length};
+ghost use Rattle.sparse.specs.Matrix.{compressed};
+ghost use Rattle.factor_arrange.specs.Waiting.{waitingTo, waiting, Counted, Ready};
+ghost use Rattle.factor_arrange.specs.Needs.{CountReady, RowReady, MarkReady};
+use lists::index;
+use factor_names::columns_of;
+
+// Copies a list into another of its length.
+pub fn copy(from: &[u32], to: &mut [u32])
+    requires { ⌜ length (now to) ≡ length (now from) ⌝ }
+    ensures { λ _. ⌜ now (to .exit) ≡ now (from .entry) ⌝ }
+{
+    let mut i = 0;
+    while i < from.len() {
+        to[i] = from[i];
+        i += 1;
+    }
+}
+
+// Counts row k, which leads to the pivots of the other columns that it has.
+fn count_row(
+    ss: &[u32],
+    cols: &[u32],
+    vals: &[u32],
+    p: u32,
+    n: usize,
+    k: usize,
+    work: &[u64],
+    chosen: &[u32],
+    degrees: &mut [u32],
+)
+    requires { ⌜ RowReady p n k (compressed (now ss) (now cols) (now vals)) (now work) (now chosen) (now degrees) ⌝ }
+    ensures { λ _. ⌜ Counted (compressed (now (ss .entry)) (now (cols .entry)) (now (vals .entry))) (now (work .entry)) (waitingTo (now (chosen .entry)) (k + 1)) (now (degrees .exit)) ⌝ }
+{
+    let row = columns_of(ss, cols, k);
+    let own = k as u64 + 1;
+    let mut t = 0;
+    while t < row.len() {
+        let cell = work[index(row[t])];
+        if cell != 0 {
+            if cell != own {
+                let q = cell as usize - 1;
+                degrees[q] = degrees[q] + 1;
+            }
+        }
+        t += 1;
+    }
+}
+
+// Counts all rows that are chosen.
+pub fn count(
+    ss: &[u32],
+    cols: &[u32],
+    vals: &[u32],
+    p: u32,
+    n: usize,
+    work: &[u64],
+    chosen: &[u32],
+    degrees: &mut [u32],
+)
+    requires { ⌜ CountReady p n (compressed (now ss) (now cols) (now vals)) (now work) (now chosen) (now degrees) ⌝ }
+    ensures { λ _. ⌜ Counted (compressed (now (ss .entry)) (now (cols .entry)) (now (vals .entry))) (now (work .entry)) (waiting (now (chosen .entry))) (now (degrees .exit)) ⌝ }
+{
+    let mut k = 0;
+    while k < n {
+        if chosen[k] != 0 {
+            count_row(ss, cols, vals, p, n, k, work, chosen, degrees);
+        }
+        k += 1;
+    }
+}
+
+// Marks the rows that are chosen and to which none leads.
+pub fn mark_ready(chosen: &[u32], degrees: &[u32], ready: &mut [u64])
+    requires { ⌜ MarkReady (now chosen) (now degrees) (now ready) ⌝ }
+    ensures { λ _. ⌜ Ready (now (chosen .entry)) (now (degrees .entry)) (now (ready .exit)) ⌝ }
+{
+    let mut i = 0;
+    while i < chosen.len() {
+        if chosen[i] != 0 {
+            if degrees[i] == 0 {
+                ready[i] = 1;
+            }
+        }
+        i += 1;
+    }
+}

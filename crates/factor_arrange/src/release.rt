@@ -1,0 +1,59 @@
+// A row that waits no more.
+ghost use mathlib.Core.Path.{_≡_};
+ghost use lib.ListN.{length, set};
+ghost use Rattle.sparse.specs.Matrix.{compressed};
+ghost use Rattle.factor_arrange.specs.Needs.{LowerReady, Lowered, ReleaseReady, Released};
+use lists::index;
+use factor_names::columns_of;
+
+// Row q has one row less that leads to it; where none leads to it any more it becomes ready. Gives the lower of `low` and the row that became ready.
+fn lower(q: usize, low: usize, degrees: &mut [u32], ready: &mut [u64]) -> usize
+    requires { ⌜ LowerReady q (now degrees) (now ready) ⌝ }
+    ensures { λ r. ⌜ Lowered q low (now (degrees .entry)) (now (ready .entry)) (now (degrees .exit)) (now (ready .exit)) r ⌝ }
+{
+    let left = degrees[q] - 1;
+    degrees[q] = left;
+    if left != 0 {
+        return low;
+    }
+    ready[q] = 1;
+    if low < q {
+        return low;
+    }
+    q
+}
+
+// Takes row k, which is ready, from those that wait: the pivots to which it leads have one row less that leads to them, and those to which none leads
+// any more become ready. Gives a row, at most k, before which none became ready.
+pub fn release(
+    ss: &[u32],
+    cols: &[u32],
+    vals: &[u32],
+    p: u32,
+    k: usize,
+    work: &[u64],
+    chosen: &[u32],
+    waits: &mut [u32],
+    degrees: &mut [u32],
+    ready: &mut [u64],
+) -> usize
+    requires { ⌜ ReleaseReady p (length (now ready)) k (compressed (now ss) (now cols) (now vals)) (now work) (now chosen) (now waits) (now degrees) (now ready) ⌝ }
+    ensures { λ r. ⌜ (now (waits .exit) ≡ set (now (waits .entry)) k 0) × Released p (length (now (ready .entry))) k (compressed (now (ss .entry)) (now (cols .entry)) (now (vals .entry))) (now (work .entry)) (now (chosen .entry)) (now (waits .entry)) (now (ready .entry)) (now (degrees .exit)) (now (ready .exit)) r ⌝ }
+{
+    waits[k] = 0;
+    ready[k] = 0;
+    let own = k as u64 + 1;
+    let row = columns_of(ss, cols, k);
+    let mut low = k;
+    let mut t = 0;
+    while t < row.len() {
+        let cell = work[index(row[t])];
+        if cell != 0 {
+            if cell != own {
+                low = lower(cell as usize - 1, low, degrees, ready);
+            }
+        }
+        t += 1;
+    }
+    low
+}

@@ -1,0 +1,59 @@
+-- The cells divided by their value at a place and stored as a row of U, and that value as an entry of L.
+use mathlib.Core.Path.{_≡_, sym, ap, _∙_}
+use mathlib.Core.Bool.{Bool, true, false, not, _&&_, true≢false}
+use mathlib.Core.List.{List, [], _∷_}
+use Prim.Native.Nat.{ℕ, _+_, _%_}
+use native.Mathlib.Omega.{arith}
+use lib.Dec.{leb}
+use lib.ListN.{length, getD, take}
+use Rattle.residue.specs.Arithmetic.{Residue}
+use Rattle.residue.specs.Inverse.{invMod, Invertible}
+use Rattle.sparse.specs.Dense.{nonzeros}
+use Rattle.sparse.proofs.Nonzeros.{nonzeros-one}
+use Rattle.factor_dense.specs.Storing.{EntryReady, EntryStored, LeftReady, LeftStored, RowScaled}
+use Rattle.factor_dense.specs.Turn.{UpperReady, UpperFound}
+
+module _ (p r k at next limit width : ℕ) (js row lc₀ lv₀ uc₀ uv₀ : List ℕ) (h : UpperReady p r k at next limit width js row lc₀ lv₀ uc₀ uv₀) where
+  pub entry-ready : EntryReady r next limit lc₀ lv₀
+  entry-ready = record { narrow = h .rank; lists = h .lower }
+
+  pub upper-ready : LeftReady width at (length uc₀) js uc₀ uv₀
+  upper-ready = record { rows = h .narrow; narrow = h .columns; lists = h .upper }
+
+  module _ (v : ℕ) (rv : Residue p (getD row k 0 % p) v) where
+    some : v ≡ 0 → ⊥
+    some e = h .here (sym (rv .value) ∙ e)
+
+    pub upper-invertible : Invertible p v
+    upper-invertible = record { prime = h .prime; nonzero = omega (arith, some); below = rv .below }
+
+    module _ (x : ℕ) (rx : Residue p (invMod p v) x) (new : List ℕ) (s : RowScaled p x row new) (lc lv : List ℕ) (full : Bool) (l : ℕ)
+        (e : EntryStored r v next limit lc₀ lv₀ lc lv full l) where
+      scaled : RowScaled p (invMod p (getD row k 0 % p)) row new
+      scaled = rw (← rv .value, ← rx .value) s
+
+      one : length (nonzeros (v ∷ [])) ≡ 1
+      unfolding nonzeros
+      one = nonzeros-one v [] some
+
+      first : leb (next + 1) limit ≡ not full
+      first = ap (λ (n : ℕ). leb (next + n) limit) (sym one) ∙ e .fit
+
+      pub upper-full : full ≡ true → (lc′ lv′ uc uv : List ℕ) (at′ l′ : ℕ) → UpperFound p r k at next limit width js row lc₀ lv₀ uc₀ uv₀ lc′ lv′ uc uv true at′ l′ new
+      upper-full o lc′ lv′ uc uv at′ l′ =
+          record {
+            scaled = scaled;
+            fit = ap (λ (t : Bool). t && leb (at + length (nonzeros (take width new))) (length uc₀)) (first ∙ ap not o);
+            lower = λ q. absurd (true≢false q);
+            upper = λ q. absurd (true≢false q);
+          }
+
+      pub upper-stored : full ≡ false → (uc uv : List ℕ) (over : Bool) (at′ : ℕ) → LeftStored at (length uc₀) (take width js) (take width new) uc₀ uv₀ uc uv over at′
+          → UpperFound p r k at next limit width js row lc₀ lv₀ uc₀ uv₀ lc lv uc uv over at′ l new
+      upper-stored o uc uv over at′ u =
+          record {
+            scaled = scaled;
+            fit = ap (λ (t : Bool). t && leb (at + length (nonzeros (take width new))) (length uc₀)) (first ∙ ap not o) ∙ u .fit;
+            lower = λ q. rw (← rv .value) (e .stored o);
+            upper = u .stored;
+          }

@@ -1,0 +1,270 @@
+// One row that has no structural pivot, taken in the block: what is done in the working row is its reduction by the rows of U
+// that the block does not hold.
+ghost use lib.ListN.{length};
+ghost use Rattle.sparse.specs.Matrix.{compressed, matrix};
+ghost use Rattle.factor_row.specs.Gathering.{cut, multiplesBy, remainderBy};
+ghost use Rattle.factor_dense.specs.Turn.{LeftRowReady, LeftRowFound, LowerReady, LowerFound, UpperReady, UpperFound, DenseReady, DenseTaken};
+use crate::block::left_cells;
+use crate::block::reduce_in_block;
+use crate::storing::first_left;
+use crate::storing::scale_row;
+use crate::storing::store_entry;
+use crate::storing::store_left;
+use crate::storing::store_multiples;
+use lists::clear_row;
+use residue::Modulus;
+use factor_row::gathering::gather_row;
+use factor_row::pivot_row::Step;
+
+// Whether the multiples did not fit, the place after them, and the cells that are left of the row.
+pub struct LeftRow {
+    pub over: bool,
+    pub next: usize,
+    pub row: [u64; 32],
+}
+
+// A row stored as a row of U: whether it did not fit, where U and L end, and the row divided by its pivot.
+pub struct PivotStored {
+    pub over: bool,
+    pub at: usize,
+    pub l: usize,
+    pub row: [u32; 32],
+}
+
+// What a turn came to, and where it found a pivot: the place of its column, and the row that the block gets.
+pub struct DenseStep {
+    pub step: Step,
+    pub place: u32,
+    pub row: [u32; 32],
+}
+
+// Reduces row i by the first s rows of U, which have `first` entries, and stores the multiples from place l on. What is left at
+// the columns js is copied, and the working row cleared.
+fn reduce_left(
+    q: Modulus,
+    ss: &[u32],
+    cols: &[u32],
+    vals: &[u32],
+    i: usize,
+    s: usize,
+    first: usize,
+    columns: &[u32],
+    us: &[u32],
+    uc: &[u32],
+    uv: &[u32],
+    js: [u32; 32],
+    width: usize,
+    l: usize,
+    total: usize,
+    lc: &mut [u32],
+    lv: &mut [u32],
+    work: &mut [u64],
+) -> LeftRow
+    requires { ⌜ LeftRowReady (q .p) i s first l total (compressed (now ss) (now cols) (now vals)) (now columns) (now us) (now uc) (now uv) js width (now work) (now lc) (now lv) ⌝ }
+    ensures { λ d. ⌜ LeftRowFound (q .p) (length (now (work .entry))) l total (multiplesBy (q .p) s (now (columns .entry)) (cut s first (now (us .entry)) (now (uc .entry)) (now (uv .entry))) (matrix (compressed (now (ss .entry)) (now (cols .entry)) (now (vals .entry))) i)) (remainderBy (q .p) s (now (columns .entry)) (cut s first (now (us .entry)) (now (uc .entry)) (now (uv .entry))) (matrix (compressed (now (ss .entry)) (now (cols .entry)) (now (vals .entry))) i)) width js (now (lc .entry)) (now (lv .entry)) (now (lc .exit)) (now (lv .exit)) (now (work .exit)) (d .over) (d .next) (d .row) ⌝ }
+{
+    let g = gather_row(
+        q,
+        ss,
+        cols,
+        vals,
+        i,
+        s,
+        first,
+        columns,
+        us,
+        uc,
+        uv,
+        l,
+        total,
+        lc,
+        lv,
+        work,
+    );
+    let row = left_cells(js, width, work);
+    clear_row(work);
+    LeftRow {
+        over: g.over,
+        next: g.next,
+        row: row,
+    }
+}
+
+// Reduces the cells by the first b rows of the block and stores the multiples, that of block row t at column s + t of L.
+fn lower_left(
+    q: Modulus,
+    block: &[[u32; 32]; 32],
+    ks: &[u32; 32],
+    s: usize,
+    b: usize,
+    row: [u64; 32],
+    next: usize,
+    limit: usize,
+    lc: &mut [u32],
+    lv: &mut [u32],
+) -> LeftRow
+    requires { ⌜ LowerReady (q .p) s b next limit (now ks) (now block) row (now lc) (now lv) ⌝ }
+    ensures { λ d. ⌜ LowerFound (q .p) s b next limit (now (ks .entry)) (now (block .entry)) row (now (lc .entry)) (now (lv .entry)) (now (lc .exit)) (now (lv .exit)) (d .over) (d .next) (d .row) ⌝ }
+{
+    let done = reduce_in_block(q, block, ks, b, row);
+    let xs = done.multiples;
+    let rest = done.row;
+    let g = store_multiples(xs, b, s, next, limit, lc, lv);
+    LeftRow {
+        over: g.over,
+        next: g.next,
+        row: rest,
+    }
+}
+
+// Stores the cells, divided by their value at place k, as row r of U, and that value as an entry of L, if they fit.
+fn upper_left(
+    q: Modulus,
+    r: usize,
+    k: usize,
+    at: usize,
+    next: usize,
+    limit: usize,
+    js: [u32; 32],
+    width: usize,
+    row: [u64; 32],
+    lc: &mut [u32],
+    lv: &mut [u32],
+    uc: &mut [u32],
+    uv: &mut [u32],
+) -> PivotStored
+    requires { ⌜ UpperReady (q .p) r k at next limit width js row (now lc) (now lv) (now uc) (now uv) ⌝ }
+    ensures { λ d. ⌜ UpperFound (q .p) r k at next limit width js row (now (lc .entry)) (now (lv .entry)) (now (uc .entry)) (now (uv .entry)) (now (lc .exit)) (now (lv .exit)) (now (uc .exit)) (now (uv .exit)) (d .over) (d .at) (d .l) (d .row) ⌝ }
+{
+    let v = q.reduce_cell(row[k]);
+    let new = scale_row(q, q.invert(v), row);
+    let e = store_entry(r, v, next, limit, lc, lv);
+    let l = e.next;
+    if e.over {
+        return PivotStored {
+            over: true,
+            at: at,
+            l: l,
+            row: new,
+        };
+    }
+    let u = store_left(js, new, width, at, uc.len(), uc, uv);
+    PivotStored {
+        over: u.over,
+        at: u.next,
+        l: l,
+        row: new,
+    }
+}
+
+// Row i is reduced by r rows of U, of which the block holds those after the first s; what remains gives a pivot row, or the row is
+// dependent.
+pub fn take_dense(
+    q: Modulus,
+    ss: &[u32],
+    cols: &[u32],
+    vals: &[u32],
+    i: usize,
+    s: usize,
+    first: usize,
+    r: usize,
+    at: usize,
+    l: usize,
+    total: usize,
+    columns: &[u32],
+    us: &[u32],
+    js: [u32; 32],
+    width: usize,
+    ks: &[u32; 32],
+    block: &[[u32; 32]; 32],
+    lc: &mut [u32],
+    lv: &mut [u32],
+    uc: &mut [u32],
+    uv: &mut [u32],
+    work: &mut [u64],
+) -> DenseStep
+    requires { ⌜ DenseReady (q .p) i s first r at l total (compressed (now ss) (now cols) (now vals)) (now columns) (now us) js width (now ks) (now block) (now work) (now lc) (now lv) (now uc) (now uv) ⌝ }
+    ensures { λ d. ⌜ DenseTaken (q .p) i r at l total (compressed (now (ss .entry)) (now (cols .entry)) (now (vals .entry))) (now (columns .entry)) (now (us .entry)) js width (length (now (work .entry))) (now (lc .entry)) (now (lv .entry)) (now (uc .entry)) (now (uv .entry)) (now (lc .exit)) (now (lv .exit)) (now (uc .exit)) (now (uv .exit)) (now (work .exit)) (d .step .over) (d .step .column) (d .step .at) (d .step .l) (d .step .total) (d .place) (d .row) ⌝ }
+{
+    let left = reduce_left(
+        q,
+        ss,
+        cols,
+        vals,
+        i,
+        s,
+        first,
+        columns,
+        us,
+        uc,
+        uv,
+        js,
+        width,
+        l,
+        total,
+        lc,
+        lv,
+        work,
+    );
+    let none = [0u32; 32];
+    let start = left.row;
+    if left.over {
+        return DenseStep {
+            step: Step {
+                over: true,
+                column: 0,
+                at: at,
+                l: l,
+                total: total,
+            },
+            place: 0,
+            row: none,
+        };
+    }
+    // `total` counts the entries of dependent rows too, which are stored later: their places are not free.
+    let limit = l + (lc.len() - total);
+    let d = lower_left(q, block, ks, s, r - s, start, left.next, limit, lc, lv);
+    let rest = d.row;
+    let next = d.next;
+    if d.over {
+        return DenseStep {
+            step: Step {
+                over: true,
+                column: 0,
+                at: at,
+                l: l,
+                total: total,
+            },
+            place: 0,
+            row: none,
+        };
+    }
+    let sum = total + (next - l);
+    let k = first_left(q, rest);
+    if k == 32 {
+        return DenseStep {
+            step: Step {
+                over: false,
+                column: work.len(),
+                at: at,
+                l: l,
+                total: sum,
+            },
+            place: 0,
+            row: none,
+        };
+    }
+    let u = upper_left(q, r, k, at, next, limit, js, width, rest, lc, lv, uc, uv);
+    let divided = u.row;
+    DenseStep {
+        step: Step {
+            over: u.over,
+            column: js[k] as usize,
+            at: u.at,
+            l: u.l,
+            total: sum + 1,
+        },
+        place: k as u32,
+        row: divided,
+    }
+}

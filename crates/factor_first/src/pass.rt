@@ -1,0 +1,107 @@
+// The first pass of the factoring: the pivots, U, and the rows of L of the pivot rows.
+ghost use mathlib.Core.Path.{_≡_};
+ghost use mathlib.Core.Bool.{false};
+ghost use Prim.Native.Nat.{_≤_};
+ghost use lib.ListN.{length};
+ghost use Rattle.lists.specs.Filled.{zeros};
+ghost use Rattle.sparse.specs.Matrix.{compressed};
+ghost use Rattle.factor_turn.specs.Passing.{PassReady, PassLeaves};
+ghost use Rattle.factor_first.specs.Dense.{sparseEnd};
+use crate::dense::Pass;
+use crate::dense::find_dense;
+use factor_turn::turn::Progress;
+use factor_turn::turn::take_row;
+use residue::Modulus;
+
+// The rows before this one are taken one by one: all n of them, or the first s where what is left fits the block.
+fn sparse_end(n: usize, m: usize, s: usize) -> usize
+    requires { ⌜ (s ≤ n) × (s ≤ m) ⌝ }
+    ensures { λ r. ⌜ r ≡ sparseEnd n m s ⌝ }
+{
+    if n - s <= 32 {
+        if m - s <= 32 {
+            return s;
+        }
+    }
+    n
+}
+
+// Takes the rows in the order of `rows`: the first s as they stand, with their columns in `columns`, then the others. The pivot
+// rows and columns are entered in place: row r of them is written when row k is taken, and r is at most k. Where at most 32 rows
+// and 32 columns are left after the first s, those rows are taken in the block.
+pub fn find_pivots(
+    q: Modulus,
+    ss: &[u32],
+    cols: &[u32],
+    vals: &[u32],
+    s: usize,
+    rows: &mut [u32],
+    columns: &mut [u32],
+    ls: &mut [u32],
+    lc: &mut [u32],
+    lv: &mut [u32],
+    us: &mut [u32],
+    uc: &mut [u32],
+    uv: &mut [u32],
+    work: &mut [u64],
+) -> Pass
+    requires { ⌜ PassReady (q .p) s (compressed (now ss) (now cols) (now vals)) (now rows) (now columns) (compressed (now ls) (now lc) (now lv)) (compressed (now us) (now uc) (now uv)) (now work) ⌝ }
+    ensures { λ to. ⌜ PassLeaves (q .p) s (compressed (now (ss .entry)) (now (cols .entry)) (now (vals .entry))) (now (rows .entry)) (now (columns .entry)) (length (now (work .entry))) (length (now (lc .entry))) (length (now (uc .entry))) (now (rows .exit)) (now (columns .exit)) (compressed (now (ls .exit)) (now (lc .exit)) (now (lv .exit))) (compressed (now (us .exit)) (now (uc .exit)) (now (uv .exit))) (to .so .over) (to .stop) (to .so .r) (to .so .at) (to .so .l) (to .so .total) × (to .so .over ≡ false → now (work .exit) ≡ zeros (length (now (work .entry)))) ⌝ }
+{
+    let mut so = Progress {
+        over: false,
+        r: 0,
+        at: 0,
+        l: 0,
+        total: 0,
+    };
+    let end = sparse_end(rows.len(), work.len(), s);
+    let mut k = 0;
+    while k < end {
+        let i = rows[k];
+        let paired = k < s;
+        so = take_row(
+            q,
+            ss,
+            cols,
+            vals,
+            i,
+            paired,
+            so,
+            rows,
+            columns,
+            ls,
+            lc,
+            lv,
+            us,
+            uc,
+            uv,
+            work,
+        );
+        let over = so.over;
+        if over {
+            return Pass { stop: i, so: so };
+        }
+        k += 1;
+    }
+    if k < rows.len() {
+        return find_dense(
+            q,
+            ss,
+            cols,
+            vals,
+            s,
+            so,
+            rows,
+            columns,
+            ls,
+            lc,
+            lv,
+            us,
+            uc,
+            uv,
+            work,
+        );
+    }
+    Pass { stop: 0, so: so }
+}

@@ -1,0 +1,57 @@
+// The completion of an order: numbers that are given, then the others below its length, rising.
+ghost use mathlib.Core.Path.{_≡_};
+ghost use Prim.Native.Nat.{_+_, _≤_};
+ghost use lib.ListN.{length, take};
+ghost use Rattle.lists.specs.Tabulate.{tabulate};
+ghost use Rattle.factor_order.specs.Needs.{Completable};
+ghost use Rattle.factor_order.specs.Written.{Written};
+ghost use Rattle.factor_order.specs.Completion.{marked, unmarked, AppendReady, Completed};
+use lists::index;
+
+// Marks the first k numbers of the list.
+fn mark(k: usize, list: &[u32], marks: &mut [u64])
+    requires { ⌜ Completable k (now list) (now marks) ⌝ }
+    ensures { λ _. ⌜ now (marks .exit) ≡ tabulate (length (now (list .entry))) (marked (take k (now (list .entry)))) ⌝ }
+{
+    let mut i = 0;
+    while i < k {
+        let x = index(list[i]);
+        marks[x] = 1;
+        i += 1;
+    }
+}
+
+// Writes x at place `at` unless it is marked; gives the next place.
+fn append(x: u32, v: u64, at: usize, list: &mut [u32]) -> usize
+    requires { ⌜ at + length (unmarked v x) ≤ length (now list) ⌝ }
+    ensures { λ next. ⌜ Written (unmarked v x) at (now (list .entry)) (now (list .exit)) next ⌝ }
+{
+    if v != 0 {
+        return at;
+    }
+    list[at] = x;
+    at + 1
+}
+
+// Writes the numbers that are not marked after the first k, and clears the marks.
+fn append_unmarked(k: usize, list: &mut [u32], marks: &mut [u64])
+    requires { ⌜ AppendReady k (now list) (now marks) ⌝ }
+    ensures { λ _. ⌜ Completed k (now (list .entry)) (now (list .exit)) (now (marks .exit)) ⌝ }
+{
+    let mut at = k;
+    let mut x = 0;
+    while x < marks.len() {
+        at = append(x as u32, marks[x], at, list);
+        marks[x] = 0;
+        x += 1;
+    }
+}
+
+// Completes an order of which the first k numbers are given.
+pub fn complete(k: usize, list: &mut [u32], marks: &mut [u64])
+    requires { ⌜ Completable k (now list) (now marks) ⌝ }
+    ensures { λ _. ⌜ Completed k (now (list .entry)) (now (list .exit)) (now (marks .exit)) ⌝ }
+{
+    mark(k, list, marks);
+    append_unmarked(k, list, marks);
+}

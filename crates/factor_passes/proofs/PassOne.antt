@@ -1,0 +1,149 @@
+-- The first pass: R is completed to the schedule, and C where the block needs it, then every row is taken.
+use mathlib.Core.Path.{_≡_, refl, sym, ap, _∙_, subst₂}
+use mathlib.Core.Bool.{Bool}
+use mathlib.Core.List.{List, _++_}
+use Prim.Native.Nat.{ℕ, _+_, _≤_}
+use native.Mathlib.Omega.{arith}
+use lib.ListN.{length, take, drop, length-append, length-drop}
+use lib.Seq.{length-take-le}
+use Rattle.lists.specs.Filled.{zeros}
+use Rattle.algebra.specs.Matrix.{Distinct, vector}
+use Rattle.sparse.specs.Matrix.{Compressed, matrix}
+use Rattle.elimination.proofs.Selected.{pairs-columns}
+use Rattle.factor_order.specs.Needs.{Completable}
+use Rattle.factor_order.specs.Completion.{Completed}
+use Rattle.factor_turn.specs.Turning.{Lent}
+use Rattle.factor_turn.specs.Passing.{pairsIn, pairsOf, PassReady, PassLeaves}
+use Rattle.factor_turn.proofs.Schedules.{rows-are, columns-are, pairs-many}
+use Rattle.factor_passes.specs.Needs.{FromReady, ColumnsCompleted}
+use Rattle.factor_passes.proofs.Orders.{distinct-front, distinct-cut, front-kept, order-long, order-completed}
+use Rattle.factor_passes.proofs.WorkingRow.{part-clear, whole-again, lists-lent, lists-same}
+
+-- ---- C, completed or left as it is
+
+pub columns-same : (n s : ℕ) (C w : List ℕ) → Completable s C w → (n ≤ s + 32 → length C ≤ s + 32 → ⊥) → ColumnsCompleted n s C C w
+columns-same n s C w h many = record { order = λ a b. absurd (many a b); front = refl; long = refl; cleared = h .marks }
+
+pub columns-completed : (n s : ℕ) (C w C₁ marks : List ℕ) → Completable s C w → Completed s C C₁ marks → ColumnsCompleted n s C C₁ marks
+columns-completed n s C w C₁ marks h c =
+    record {
+      order = λ a b. order-completed s C (h .inside) C₁ marks c distinct;
+      front = front-kept s C (h .inside) C₁ marks c;
+      long = order-long s C (h .inside) C₁ marks c distinct;
+      cleared = c .cleared;
+    }
+  where
+    distinct : Distinct s (length C) (vector (take s C))
+    distinct = distinct-cut s (length C) C (h .distinct)
+
+-- ---- the pass
+
+module _ (p s : ℕ) (A : Compressed) (R C : List ℕ) (L U : Compressed) (w : List ℕ) (h : FromReady p s A R C L U w) where
+  abbrev n : ℕ
+  n = length R
+
+  abbrev m : ℕ
+  m = length C
+
+  -- the pairs' rows and columns are distinct
+  R-distinct : Distinct s n (vector (take s R))
+  R-distinct =
+      subst₂ (λ (k : ℕ) (l : List ℕ). Distinct k n (vector l)) (pairs-many s R C (h .rows-inside) (h .columns-inside)) (rows-are s R C (h .rows-inside) (h .columns-inside)) (h .pairs .rows)
+
+  C-distinct : Distinct s m (vector (take s C))
+  C-distinct =
+      subst₂ (λ (k : ℕ) (l : List ℕ). Distinct k m (vector l)) (pairs-many s R C (h .rows-inside) (h .columns-inside)) (columns-are s R C (h .rows-inside) (h .columns-inside))
+      (pairs-columns n m (matrix A) (pairsOf s R C) (h .pairs))
+
+  pub rows-part : n ≡ length (take n w)
+  rows-part = sym (length-take-le n w (h .lists .n-fits))
+
+  pub one-rows : Completable s R (take n w)
+  one-rows =
+      record {
+        inside = h .rows-inside;
+        narrow = omega (arith, h .lists .n-narrow);
+        distinct = distinct-front s n (take s R) R refl R-distinct;
+        marks = part-clear w (h .lists .clear) n (h .lists .n-fits);
+      }
+
+  module _ (R₁ marks₁ : List ℕ) (cr : Completed s R R₁ marks₁) where
+    -- the working row is as it was
+    abbrev w₁ : List ℕ
+    w₁ = marks₁ ++ drop n w
+
+    first-again : w₁ ≡ w
+    first-again = whole-again w (h .lists .clear) n (h .lists .n-fits) marks₁ (cr .cleared)
+
+    pub R-kept : length R₁ ≡ n
+    R-kept = order-long s R (h .rows-inside) R₁ marks₁ cr R-distinct
+
+    pub columns-fit : m ≤ length w₁
+    columns-fit = omega (arith, ap length first-again, h .lists .m-fits)
+
+    pub columns-part : m ≡ length (take m w₁)
+    columns-part = sym (length-take-le m w₁ columns-fit)
+
+    pub one-columns : Completable s C (take m w₁)
+    one-columns =
+        record {
+          inside = h .columns-inside;
+          narrow = omega (arith, h .lists .m-narrow);
+          distinct = distinct-front s m (take s C) C refl C-distinct;
+          marks = ap (take m) first-again ∙ part-clear w (h .lists .clear) m (h .lists .m-fits);
+        }
+
+    module _ (C₁ marks₂ : List ℕ) (cc : ColumnsCompleted n s C C₁ marks₂) where
+      abbrev w₂ : List ℕ
+      w₂ = marks₂ ++ drop m w₁
+
+      again : w₂ ≡ w
+      again = ap (λ (x : List ℕ). marks₂ ++ drop m x) first-again ∙ whole-again w (h .lists .clear) m (h .lists .m-fits) marks₂ (cc .cleared)
+
+      pub C-kept : length C₁ ≡ m
+      C-kept = cc .long
+
+      pub last-fit : m ≤ length w₂
+      last-fit = omega (arith, ap length again, h .lists .m-fits)
+
+      pub last-part : m ≡ length (take m w₂)
+      last-part = sym (length-take-le m w₂ last-fit)
+
+      pub last-long : (part : List ℕ) → length part ≡ length (take m w₂) → length (part ++ drop m w₂) ≡ length w
+      last-long part e = omega (arith, last-part, length-append part (drop m w₂), length-drop m w₂, last-fit, ap length again)
+
+      same-pairs : pairsOf s R₁ C₁ ≡ pairsOf s R C
+      same-pairs = λ t. pairsIn (front-kept s R (h .rows-inside) R₁ marks₁ cr t) (cc .front t)
+
+      lent : Lent p A R₁ C₁ L U (take m w)
+      lent =
+          rw C-kept at
+          (lists-lent p A R₁ C₁ L U w (lists-same p A R C R₁ C₁ L U L U w w (h .lists) R-kept C-kept refl refl refl refl refl refl (h .lists .clear) refl))
+
+      pub one-pass : PassReady p s A R₁ C₁ L U (take m w₂)
+      one-pass =
+          rw again (record {
+            lent = lent;
+            rows-inside = omega (arith, R-kept, h .rows-inside);
+            columns-inside = omega (arith, C-kept, h .columns-inside);
+            pairs = rw (R-kept, length-take-le m w (h .lists .m-fits), same-pairs) (h .pairs);
+            order = order-completed s R (h .rows-inside) R₁ marks₁ cr R-distinct;
+            columns-order = λ a b. cc .order (omega (arith, R-kept)) (omega (arith, length-take-le m w (h .lists .m-fits)));
+            L-clear = h .L-clear;
+            U-clear = h .U-clear;
+          })
+
+      pub one-passed : (roomL roomU : ℕ) (R′ C′ : List ℕ) (L′ U′ : Compressed) (over : Bool) (stop r at l total : ℕ)
+          → PassLeaves p s A R₁ C₁ (length (take m w₂)) roomL roomU R′ C′ L′ U′ over stop r at l total → PassLeaves p s A R C m roomL roomU R′ C′ L′ U′ over stop r at l total
+      one-passed roomL roomU R′ C′ L′ U′ over stop r at l total q =
+          record {
+            stopped = rw (sym last-part, R-kept, same-pairs) at (q .stopped);
+            fitted = rw (sym last-part, R-kept, same-pairs) at (q .fitted);
+            state = rw (sym last-part, R-kept, same-pairs) at (q .state);
+          }
+
+      pub one-clear : (part : List ℕ) → part ≡ zeros (length (take m w₂)) → part ++ drop m w₂ ≡ zeros (length w)
+      one-clear part e =
+          ap (λ (x : List ℕ). part ++ drop m x) again
+          ∙ whole-again w (h .lists .clear) m (h .lists .m-fits) part (e ∙ ap zeros (sym last-part))
+          ∙ h .lists .clear

@@ -1,0 +1,121 @@
+// The two passes, each with the orders completed first: by the rows that the first pass takes after the pairs and the columns that
+// its block has, and by what the factors lack. The working row marks the rows or the columns of an order
+// while it is completed.
+ghost use mathlib.Core.Path.{_≡_};
+ghost use mathlib.Core.Bool.{false};
+ghost use Prim.Native.Nat.{ℕ, _≤_};
+ghost use lib.ListN.{length};
+ghost use Rattle.lists.specs.Filled.{zeros};
+ghost use Rattle.sparse.specs.Matrix.{compressed};
+ghost use Rattle.elimination.specs.Pivots.{Found};
+ghost use Rattle.factor_turn.specs.Passing.{PassLeaves};
+ghost use Rattle.factor_order.specs.Needs.{Completable};
+ghost use Rattle.factor_passes.specs.Needs.{FromReady, ColumnsCompleted, FoundFrom, CompleteReady, CompletedFor};
+use factor_first::dense::Pass;
+use factor_first::pass::find_pivots;
+use factor_order::complete::complete;
+use factor_turn::fill::fill_dependents;
+use residue::Modulus;
+
+// Completes `columns` where what is left of n rows after the first s fits the block: its columns are then those after the first s.
+fn complete_columns(n: usize, s: usize, columns: &mut [u32], marks: &mut [u64])
+    requires { ⌜ (s ≤ n) × Completable s (now columns) (now marks) ⌝ }
+    ensures { λ _. ⌜ ColumnsCompleted n s (now (columns .entry)) (now (columns .exit)) (now (marks .exit)) ⌝ }
+{
+    if 32 < n - s {
+        return;
+    }
+    if 32 < columns.len() - s {
+        return;
+    }
+    complete(s, columns, marks);
+}
+
+// Takes the s pairs that `rows` and `columns` hold, then the other rows, rising.
+pub fn pass_one(
+    q: Modulus,
+    ss: &[u32],
+    cols: &[u32],
+    vals: &[u32],
+    s: usize,
+    rows: &mut [u32],
+    columns: &mut [u32],
+    ls: &mut [u32],
+    lc: &mut [u32],
+    lv: &mut [u32],
+    us: &mut [u32],
+    uc: &mut [u32],
+    uv: &mut [u32],
+    work: &mut [u64],
+) -> Pass
+    requires { ⌜ FromReady (q .p) s (compressed (now ss) (now cols) (now vals)) (now rows) (now columns) (compressed (now ls) (now lc) (now lv)) (compressed (now us) (now uc) (now uv)) (now work) ⌝ }
+    ensures { λ to. ⌜ PassLeaves (q .p) s (compressed (now (ss .entry)) (now (cols .entry)) (now (vals .entry))) (now (rows .entry)) (now (columns .entry)) (length (now (columns .entry))) (length (now (lc .entry))) (length (now (uc .entry))) (now (rows .exit)) (now (columns .exit)) (compressed (now (ls .exit)) (now (lc .exit)) (now (lv .exit))) (compressed (now (us .exit)) (now (uc .exit)) (now (uv .exit))) (to .so .over) (to .stop) (to .so .r) (to .so .at) (to .so .l) (to .so .total) × (to .so .over ≡ false → now (work .exit) ≡ zeros (length (now (work .entry)))) ⌝ }
+{
+    let n = rows.len();
+    let m = columns.len();
+    complete(s, rows, &mut work[..n]);
+    complete_columns(n, s, columns, &mut work[..m]);
+    find_pivots(
+        q,
+        ss,
+        cols,
+        vals,
+        s,
+        rows,
+        columns,
+        ls,
+        lc,
+        lv,
+        us,
+        uc,
+        uv,
+        &mut work[..m],
+    )
+}
+
+// Completes `rows` and `columns`, of which the first r are the pivots', and stores the rows of L of the dependent rows.
+pub fn pass_two(
+    q: Modulus,
+    ss: &[u32],
+    cols: &[u32],
+    vals: &[u32],
+    r: usize,
+    at: usize,
+    l: usize,
+    us: &[u32],
+    uc: &[u32],
+    uv: &[u32],
+    rows: &mut [u32],
+    columns: &mut [u32],
+    ls: &mut [u32],
+    lc: &mut [u32],
+    lv: &mut [u32],
+    work: &mut [u64],
+)
+    requires { ⌜ CompleteReady (q .p) (compressed (now ss) (now cols) (now vals)) (now rows) (now columns) (compressed (now ls) (now lc) (now lv)) (compressed (now us) (now uc) (now uv)) (now work) r at l ⌝ }
+    ensures completed { λ _. ⌜ ((f : Found) (total : ℕ) → FoundFrom (q .p) (compressed (now (ss .entry)) (now (cols .entry)) (now (vals .entry))) (now (rows .entry)) (now (columns .entry)) (compressed (now (ls .entry)) (now (lc .entry)) (now (lv .entry))) (compressed (now (us .entry)) (now (uc .entry)) (now (uv .entry))) r at l total f → CompletedFor f (length (now (columns .entry))) (now (rows .exit)) (now (columns .exit)) (compressed (now (ls .exit)) (now (lc .exit)) (now (lv .exit)))) ⌝ }
+    ensures clear { λ _. ⌜ now (work .exit) ≡ zeros (length (now (work .entry))) ⌝ }
+{
+    let n = rows.len();
+    let m = columns.len();
+    complete(r, columns, &mut work[..m]);
+    complete(r, rows, &mut work[..n]);
+    fill_dependents(
+        q,
+        ss,
+        cols,
+        vals,
+        r,
+        at,
+        l,
+        rows,
+        columns,
+        us,
+        uc,
+        uv,
+        ls,
+        lc,
+        lv,
+        &mut work[..m],
+    );
+}

@@ -1,0 +1,79 @@
+// The row of L of a row of the matrix.
+ghost use lib.ListN.{length};
+ghost use Rattle.algebra.specs.Matrix.{vector};
+ghost use Rattle.algebra.specs.Reduction.{reduced};
+ghost use Rattle.sparse.specs.Matrix.{compressed, matrix};
+ghost use Rattle.factor_row.specs.Loading.{multiples};
+ghost use Rattle.factor_row.specs.Gathering.{cut, multiplesBy, remainderBy, GatherRowReady, RowGathered, GatherReadyFrom};
+use crate::loading::load_row;
+use lists::part;
+use factor_reduce::gather::Gathered;
+use factor_reduce::gather::gather_multiples;
+use residue::Modulus;
+
+// Reduces row i by the rows of U, stores the multiples that were taken away at place l, if they fit after `total` entries, and
+// leaves the remainder in the working row. The lists of U and its pivot columns are cut to their lengths.
+fn gather_cut(
+    q: Modulus,
+    ss: &[u32],
+    cols: &[u32],
+    vals: &[u32],
+    i: usize,
+    co: &[u32],
+    us: &[u32],
+    uc: &[u32],
+    uv: &[u32],
+    l: usize,
+    total: usize,
+    lc: &mut [u32],
+    lv: &mut [u32],
+    work: &mut [u64],
+) -> Gathered
+    requires { ⌜ GatherRowReady (q .p) i l total (compressed (now ss) (now cols) (now vals)) (now co) (compressed (now us) (now uc) (now uv)) (now work) (now lc) (now lv) ⌝ }
+    ensures { λ g. ⌜ RowGathered (q .p) (length (now (work .entry))) l total (multiples (q .p) (length (now (co .entry))) (vector (now (co .entry))) (matrix (compressed (now (us .entry)) (now (uc .entry)) (now (uv .entry)))) (matrix (compressed (now (ss .entry)) (now (cols .entry)) (now (vals .entry))) i)) (reduced (q .p) (vector (now (co .entry))) (matrix (compressed (now (us .entry)) (now (uc .entry)) (now (uv .entry)))) (length (now (co .entry))) (matrix (compressed (now (ss .entry)) (now (cols .entry)) (now (vals .entry))) i)) (now (lc .entry)) (now (lv .entry)) (now (lc .exit)) (now (lv .exit)) (now (work .exit)) (g .over) (g .next) ⌝ }
+{
+    load_row(ss, cols, vals, i, q.p, work);
+    // `total` counts the entries of dependent rows too, which are stored later: their places are not free.
+    let limit = l + (lc.len() - total);
+    gather_multiples(q, us, uc, uv, co, l, limit, work, lc, lv)
+}
+
+// The same by r rows of U with `at` entries, whose lists and pivot columns are cut here.
+pub fn gather_row(
+    q: Modulus,
+    ss: &[u32],
+    cols: &[u32],
+    vals: &[u32],
+    i: usize,
+    r: usize,
+    at: usize,
+    columns: &[u32],
+    us: &[u32],
+    uc: &[u32],
+    uv: &[u32],
+    l: usize,
+    total: usize,
+    lc: &mut [u32],
+    lv: &mut [u32],
+    work: &mut [u64],
+) -> Gathered
+    requires { ⌜ GatherReadyFrom (q .p) i r at l total (compressed (now ss) (now cols) (now vals)) (now columns) (now us) (now uc) (now uv) (now work) (now lc) (now lv) ⌝ }
+    ensures { λ g. ⌜ RowGathered (q .p) (length (now (work .entry))) l total (multiplesBy (q .p) r (now (columns .entry)) (cut r at (now (us .entry)) (now (uc .entry)) (now (uv .entry))) (matrix (compressed (now (ss .entry)) (now (cols .entry)) (now (vals .entry))) i)) (remainderBy (q .p) r (now (columns .entry)) (cut r at (now (us .entry)) (now (uc .entry)) (now (uv .entry))) (matrix (compressed (now (ss .entry)) (now (cols .entry)) (now (vals .entry))) i)) (now (lc .entry)) (now (lv .entry)) (now (lc .exit)) (now (lv .exit)) (now (work .exit)) (g .over) (g .next) ⌝ }
+{
+    gather_cut(
+        q,
+        ss,
+        cols,
+        vals,
+        i,
+        part(columns, 0, r),
+        part(us, 0, r + 1),
+        part(uc, 0, at),
+        part(uv, 0, at),
+        l,
+        total,
+        lc,
+        lv,
+        work,
+    )
+}

@@ -1,0 +1,19 @@
+// Rows of the stored matrix in the working row.
+ghost use mathlib.Core.Path.{_≡_};
+ghost use lib.ListN.{length};
+ghost use Rattle.lists.specs.Tabulate.{tabulate};
+ghost use Rattle.sparse.specs.Matrix.{compressed, matrix};
+ghost use Rattle.factor_row.specs.Loading.{RowLoadable};
+use lists::index;
+use lists::part;
+use sparse::dense::load;
+
+// Puts row i of the matrix into the working row, which is all zero.
+pub fn load_row(ss: &[u32], cols: &[u32], vals: &[u32], i: usize, p: u32, work: &mut [u64])
+    requires { ⌜ RowLoadable p i (compressed (now ss) (now cols) (now vals)) (now work) ⌝ }
+    ensures { λ _. ⌜ now (work .exit) ≡ tabulate (length (now (work .entry))) (matrix (compressed (now (ss .entry)) (now (cols .entry)) (now (vals .entry))) i) ⌝ }
+{
+    let a = index(ss[i]);
+    let e = index(ss[i + 1]);
+    load(part(cols, a, e), &[], part(vals, a, e), &[], p, work);
+}

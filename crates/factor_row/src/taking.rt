@@ -1,0 +1,124 @@
+// One row of the matrix is taken.
+ghost use lib.Dec.{eqb};
+ghost use lib.ListN.{length};
+ghost use Rattle.lists.specs.Filled.{zeros};
+ghost use Rattle.lists.specs.Tests.{first};
+ghost use Rattle.sparse.specs.Matrix.{compressed, matrix};
+ghost use Rattle.factor_row.specs.Gathering.{cut, multiplesBy, remainderBy};
+ghost use Rattle.factor_row.specs.Taking.{PairReady, OtherReady, RowFound};
+use crate::gathering::gather_row;
+use crate::pivot_copy::copy_pivot;
+use crate::pivot_row::Step;
+use crate::pivot_row::store_pivot;
+use lists::clear_row;
+use lists::index;
+use lists::part;
+use residue::Modulus;
+use sparse::dense::first_nonzero;
+
+// Row i becomes the pivot row of column c as it stands. It is copied; the working row, all zero, gives only its length.
+pub fn take_pair(
+    q: Modulus,
+    ss: &[u32],
+    cols: &[u32],
+    vals: &[u32],
+    i: usize,
+    c: usize,
+    r: usize,
+    at: usize,
+    l: usize,
+    total: usize,
+    lc: &mut [u32],
+    lv: &mut [u32],
+    uc: &mut [u32],
+    uv: &mut [u32],
+    work: &mut [u64],
+) -> Step
+    requires { ⌜ PairReady (q .p) i c r at l total (compressed (now ss) (now cols) (now vals)) (now work) (now lc) (now lv) (now uc) (now uv) ⌝ }
+    ensures { λ s. ⌜ RowFound (q .p) (length (now (work .entry))) at l total (zeros r) (matrix (compressed (now (ss .entry)) (now (cols .entry)) (now (vals .entry))) i) c (now (lc .entry)) (now (lv .entry)) (now (uc .entry)) (now (uv .entry)) (now (lc .exit)) (now (lv .exit)) (now (uc .exit)) (now (uv .exit)) (now (work .exit)) (s .over) (s .column) (s .at) (s .l) (s .total) ⌝ }
+{
+    let a = index(ss[i]);
+    let e = index(ss[i + 1]);
+    let m = work.len();
+    copy_pivot(
+        q,
+        part(cols, a, e),
+        part(vals, a, e),
+        m,
+        c,
+        r,
+        at,
+        l,
+        total,
+        lc,
+        lv,
+        uc,
+        uv,
+    )
+}
+
+// Row i is reduced by r rows of U with `at` entries; what remains gives a pivot row, or the row is dependent.
+pub fn take_other(
+    q: Modulus,
+    ss: &[u32],
+    cols: &[u32],
+    vals: &[u32],
+    i: usize,
+    r: usize,
+    at: usize,
+    l: usize,
+    total: usize,
+    columns: &[u32],
+    us: &[u32],
+    lc: &mut [u32],
+    lv: &mut [u32],
+    uc: &mut [u32],
+    uv: &mut [u32],
+    work: &mut [u64],
+) -> Step
+    requires { ⌜ OtherReady (q .p) i r at l total (compressed (now ss) (now cols) (now vals)) (now columns) (now us) (now work) (now lc) (now lv) (now uc) (now uv) ⌝ }
+    ensures { λ s. ⌜ RowFound (q .p) (length (now (work .entry))) at l total (multiplesBy (q .p) r (now (columns .entry)) (cut r at (now (us .entry)) (now (uc .entry)) (now (uv .entry))) (matrix (compressed (now (ss .entry)) (now (cols .entry)) (now (vals .entry))) i)) (remainderBy (q .p) r (now (columns .entry)) (cut r at (now (us .entry)) (now (uc .entry)) (now (uv .entry))) (matrix (compressed (now (ss .entry)) (now (cols .entry)) (now (vals .entry))) i)) (first (length (now (work .entry))) (λ j. eqb (remainderBy (q .p) r (now (columns .entry)) (cut r at (now (us .entry)) (now (uc .entry)) (now (uv .entry))) (matrix (compressed (now (ss .entry)) (now (cols .entry)) (now (vals .entry))) i) j) 0)) (now (lc .entry)) (now (lv .entry)) (now (uc .entry)) (now (uv .entry)) (now (lc .exit)) (now (lv .exit)) (now (uc .exit)) (now (uv .exit)) (now (work .exit)) (s .over) (s .column) (s .at) (s .l) (s .total) ⌝ }
+{
+    let g = gather_row(
+        q,
+        ss,
+        cols,
+        vals,
+        i,
+        r,
+        at,
+        columns,
+        us,
+        uc,
+        uv,
+        l,
+        total,
+        lc,
+        lv,
+        work,
+    );
+    let over = g.over;
+    let next = g.next;
+    if over {
+        return Step {
+            over: true,
+            column: 0,
+            at: at,
+            l: l,
+            total: total,
+        };
+    }
+    let sum = total + (next - l);
+    let c = first_nonzero(q, work);
+    if c == work.len() {
+        clear_row(work);
+        return Step {
+            over: false,
+            column: c,
+            at: at,
+            l: l,
+            total: sum,
+        };
+    }
+    store_pivot(q, c, r, at, next, sum, lc, lv, uc, uv, work)
+}

@@ -1,0 +1,114 @@
+// More pivots before any arithmetic (document 02, slip 9; document 003, 3.4): rows that rule 1 left take a column where no cycle closes.
+// The working row has a cell for each column, one more than the row chosen for it; `chosen` a cell for each row, one more than its column; 0 is none.
+// The modulus and the values are named in contracts only.
+ghost use mathlib.Core.Path.{_≡_};
+ghost use Prim.Native.Nat.{_+_};
+ghost use lib.ListN.{length};
+ghost use Rattle.sparse.specs.Matrix.{compressed};
+ghost use Rattle.elimination.specs.Structural.{leading};
+ghost use Rattle.factor_names.specs.Named.{ByRow, Named};
+ghost use Rattle.factor_select.specs.Needs.{NameReady, Extended, ExtendReady, SelectReady};
+
+pub mod fit;
+pub mod search;
+
+// Names the column of each row that is chosen.
+fn name_rows(
+    ss: &[u32],
+    cols: &[u32],
+    vals: &[u32],
+    p: u32,
+    n: usize,
+    work: &[u64],
+    chosen: &mut [u32],
+)
+    requires { ⌜ NameReady p n (compressed (now ss) (now cols) (now vals)) (now work) (now chosen) ⌝ }
+    ensures { λ _. ⌜ ByRow (now (chosen .exit)) (leading (compressed (now (ss .entry)) (now (cols .entry)) (now (vals .entry))) n (length (now (work .entry)))) ⌝ }
+{
+    let mut c = 0;
+    while c < work.len() {
+        if work[c] != 0 {
+            chosen[work[c] as usize - 1] = c as u32 + 1;
+        }
+        c += 1;
+    }
+}
+
+// Takes row i: unless it is chosen, it gets its lowest column that is not used and closes no cycle, if there is one.
+fn extend_row(
+    ss: &[u32],
+    cols: &[u32],
+    vals: &[u32],
+    p: u32,
+    n: usize,
+    i: usize,
+    work: &mut [u64],
+    chosen: &mut [u32],
+    stamps: &mut [u32],
+    queue: &mut [u32],
+)
+    requires { ⌜ ExtendReady p n i (compressed (now ss) (now cols) (now vals)) (now work) (now chosen) (now stamps) (now queue) ⌝ }
+    ensures { λ _. ⌜ Extended (compressed (now (ss .entry)) (now (cols .entry)) (now (vals .entry))) n (length (now (work .entry))) (i + 1) (now (work .exit)) (now (chosen .exit)) (now (stamps .exit)) (now (queue .exit)) ⌝ }
+{
+    if chosen[i] != 0 {
+        return;
+    }
+    let mark = i as u32 + 1;
+    let c = search::search(ss, cols, vals, p, n, i, mark, work, chosen, stamps, queue);
+    if c < work.len() {
+        work[c] = i as u64 + 1;
+        chosen[i] = c as u32 + 1;
+    }
+}
+
+// Takes all rows by number.
+fn extend_all(
+    ss: &[u32],
+    cols: &[u32],
+    vals: &[u32],
+    p: u32,
+    n: usize,
+    work: &mut [u64],
+    chosen: &mut [u32],
+    stamps: &mut [u32],
+    queue: &mut [u32],
+)
+    requires { ⌜ SelectReady p n (compressed (now ss) (now cols) (now vals)) (now work) (now chosen) (now stamps) (now queue) ⌝ }
+    ensures { λ _. ⌜ Extended (compressed (now (ss .entry)) (now (cols .entry)) (now (vals .entry))) n (length (now (work .entry))) n (now (work .exit)) (now (chosen .exit)) (now (stamps .exit)) (now (queue .exit)) ⌝ }
+{
+    let mut i = 0;
+    while i < n {
+        extend_row(ss, cols, vals, p, n, i, work, chosen, stamps, queue);
+        i += 1;
+    }
+}
+
+// Selects the structural pivots: the working row names document 01's, `chosen` is all zero; afterwards both name all that are selected.
+pub fn select(
+    ss: &[u32],
+    cols: &[u32],
+    vals: &[u32],
+    p: u32,
+    n: usize,
+    work: &mut [u64],
+    chosen: &mut [u32],
+)
+    requires { ⌜ NameReady p n (compressed (now ss) (now cols) (now vals)) (now work) (now chosen) ⌝ }
+    ensures { λ _. ⌜ Named (compressed (now (ss .entry)) (now (cols .entry)) (now (vals .entry))) n (length (now (work .entry))) n (now (work .exit)) (now (chosen .exit)) ⌝ }
+{
+    let m = work.len();
+    let mut stamps = [0u32; 2048];
+    let mut queue = [0u32; 2048];
+    name_rows(ss, cols, vals, p, n, work, chosen);
+    extend_all(
+        ss,
+        cols,
+        vals,
+        p,
+        n,
+        work,
+        chosen,
+        &mut stamps[..m],
+        &mut queue[..m],
+    );
+}

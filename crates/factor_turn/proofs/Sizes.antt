@@ -1,0 +1,48 @@
+-- Sizes that the invariant bounds: the rank, and the entries of U and of L.
+use mathlib.Core.Path.{ap, subst}
+use mathlib.Core.List.{List, [], _∷_}
+use Prim.Native.Nat.{ℕ, zero, suc, _*_, _≤_, _<_}
+use native.Mathlib.Omega.{arith}
+use lib.ListN.{length, getD, length-append, length-map, List·getD-map}
+use Rattle.algebra.specs.Matrix.{Matrix, Distinct, vector}
+use Rattle.sparse.specs.Dense.{nonzeros}
+use Rattle.elimination.specs.Pivots.{Found, columnsOf, uppersOf, rankOf}
+use Rattle.elimination.specs.Factoring.{rest, entries}
+use Rattle.elimination.proofs.Completion.{completed-length}
+use Rattle.elimination.proofs.Echelon.{echelon-distinct}
+use Rattle.elimination.proofs.Invariant.{noPivot, columns-many, uppers-many, Invariant}
+use Rattle.factor_turn.specs.State.{pivotLowers}
+
+nonzeros-most : (row : List ℕ) → length (nonzeros row) ≤ length row
+unfolding nonzeros
+nonzeros-most [] = omega arith
+nonzeros-most (zero ∷ row) = omega (arith, nonzeros-most row)
+nonzeros-most (suc v ∷ row) = omega (arith, nonzeros-most row)
+
+pub entries-most : (m : ℕ) (rows : List (List ℕ)) → ((k : ℕ) → k < length rows → length (getD rows k []) ≤ m) → entries rows ≤ length rows * m
+unfolding entries
+entries-most m [] h = omega arith
+entries-most m (row ∷ rows) h = omega (arith, nonzeros-most row, h 0 (omega arith), entries-most m rows (λ k l. h (suc k) (omega arith)))
+
+module _ (p n m : ℕ) (A : Matrix) (f : Found) (v : Invariant p n m A f) where
+  pub columns-distinct : Distinct (rankOf f) m (vector (columnsOf f))
+  columns-distinct = subst (λ (r : ℕ). Distinct r m (vector (columnsOf f))) (columns-many f) (echelon-distinct p m (columnsOf f) (uppersOf f) (v .echelon))
+
+  pub rank-most : rankOf f ≤ m
+  rank-most =
+      omega (
+        arith,
+        completed-length (columnsOf f) m (echelon-distinct p m (columnsOf f) (uppersOf f) (v .echelon)),
+        length-append (columnsOf f) (rest (columnsOf f) m),
+        columns-many f,
+      )
+
+  pub U-most : entries (uppersOf f) ≤ rankOf f * m
+  U-most = subst (λ (r : ℕ). entries (uppersOf f) ≤ r * m) (uppers-many f) (entries-most m (uppersOf f) (λ k h. omega (arith, v .echelon .rows k h .wide)))
+
+  pub L-most : entries (pivotLowers f) ≤ rankOf f * m
+  unfolding pivotLowers
+  L-most =
+      subst (λ (r : ℕ). entries (pivotLowers f) ≤ r * m) (length-map (f .pivots) (λ q. q .lower))
+      (entries-most m (pivotLowers f) (λ k h. let b : k < rankOf f = omega (arith, length-map (f .pivots) (λ q. q .lower)) in
+      omega (arith, ap length (List·getD-map (λ q. q .lower) (f .pivots) k noPivot), v .pivot-rows k b .long, rank-most)))

@@ -1,0 +1,197 @@
+-- One turn: where the lists hold what was found before it, they hold what is found after it.
+use mathlib.Core.Path.{_≡_, refl, sym, ap, ap₂, _∙_}
+use mathlib.Core.Bool.{Bool, true, false, not, _&&_}
+use mathlib.Core.List.{List, [], _∷_, _++_, map}
+use Prim.Native.Nat.{ℕ, suc, _+_, _≤_, _<_}
+use native.Mathlib.Omega.{arith}
+use native.Mathlib.Numerals.{add-one}
+use lib.Dec.{leb}
+use lib.ListN.{length, take, set, length-map}
+use lib.Seq.{take-suc-set}
+use borrow.Author.Tests.{leb-true, le-leb}
+use Rattle.lists.proofs.Bools.{and-left, and-right}
+use Rattle.algebra.specs.Matrix.{Vector}
+use Rattle.sparse.specs.Matrix.{Compressed, compressed}
+use Rattle.sparse.specs.Dense.{nonzeros, compress}
+use Rattle.sparse.proofs.DenseLaws.{compress-lengths}
+use Rattle.elimination.specs.Pivots.{Found, columnsOf, uppersOf, rankOf, withPivot, withDependent}
+use Rattle.elimination.specs.Factoring.{lowersOf, entries, fits}
+use Rattle.elimination.proofs.Listed.{snoc-length, map-append}
+use Rattle.elimination.proofs.Invariant.{uppers-many}
+use Rattle.elimination.proofs.Room.{entries-stored, entries-append}
+use Rattle.factor_row.specs.Storage.{Holds}
+use Rattle.factor_row.specs.Taking.{upperRow, PivotFound, DependentFound}
+use Rattle.factor_row.proofs.Storage.{holds-more, holds-same}
+use Rattle.factor_turn.specs.State.{pivotRows, pivotLowers, State}
+
+-- ---- how many entries
+
+entries-one : (row : List ℕ) → entries (row ∷ []) ≡ length (nonzeros row)
+unfolding entries
+entries-one row = omega arith
+
+pub entries-values : (rows : List (List ℕ)) → entries rows ≡ length (compress rows .vals)
+entries-values rows = entries-stored rows ∙ compress-lengths rows .paired
+
+-- ---- one pivot more, and one dependent row more
+
+module _ (p m : ℕ) (f : Found) (i c : ℕ) (cs : List ℕ) (w : Vector) where
+  abbrev after : Found
+  after = withPivot p m f i c cs w
+
+  pub rank-more : rankOf after ≡ suc (rankOf f)
+  unfolding withPivot
+  rank-more = snoc-length (f .pivots) _
+
+  rows-more : pivotRows after ≡ pivotRows f ++ (i ∷ [])
+  unfolding withPivot pivotRows
+  rows-more = map-append (λ q. q .row) (f .pivots) _
+
+  pub columns-more : columnsOf after ≡ columnsOf f ++ (c ∷ [])
+  unfolding withPivot columnsOf
+  columns-more = map-append (λ q. q .column) (f .pivots) _
+
+  pub uppers-more : uppersOf after ≡ uppersOf f ++ (upperRow p m c w ∷ [])
+  unfolding withPivot uppersOf upperRow
+  uppers-more = map-append (λ q. q .upper) (f .pivots) _
+
+  lowers-more : pivotLowers after ≡ pivotLowers f ++ ((cs ++ (w c ∷ [])) ∷ [])
+  unfolding withPivot pivotLowers
+  lowers-more = map-append (λ q. q .lower) (f .pivots) _
+
+pub lowers-split : (f : Found) → lowersOf f ≡ pivotLowers f ++ map (λ d. d .lower) (f .dependents)
+unfolding lowersOf pivotLowers
+lowers-split f = refl
+
+pub pivots-less : (f : Found) → entries (pivotLowers f) ≤ entries (lowersOf f)
+pivots-less f = omega (arith, ap entries (lowers-split f), entries-append (pivotLowers f) (map (λ d. d .lower) (f .dependents)))
+
+module _ (p m : ℕ) (f : Found) (i c : ℕ) (cs : List ℕ) (w : Vector) where
+  pub pivot-U-entries : entries (uppersOf (withPivot p m f i c cs w)) ≡ entries (uppersOf f) + length (nonzeros (upperRow p m c w))
+  pivot-U-entries =
+      ap entries (uppers-more p m f i c cs w)
+      ∙ entries-append (uppersOf f) (upperRow p m c w ∷ [])
+      ∙ ap (λ (n : ℕ). entries (uppersOf f) + n) (entries-one (upperRow p m c w))
+
+  pub pivot-lower-entries : entries (pivotLowers (withPivot p m f i c cs w)) ≡ entries (pivotLowers f) + length (nonzeros (cs ++ (w c ∷ [])))
+  pivot-lower-entries =
+      ap entries (lowers-more p m f i c cs w)
+      ∙ entries-append (pivotLowers f) ((cs ++ (w c ∷ [])) ∷ [])
+      ∙ ap (λ (n : ℕ). entries (pivotLowers f) + n) (entries-one (cs ++ (w c ∷ [])))
+
+  pub pivot-L-entries : entries (lowersOf (withPivot p m f i c cs w)) ≡ entries (lowersOf f) + length (nonzeros (cs ++ (w c ∷ [])))
+  unfolding withPivot
+  pivot-L-entries =
+      let ds : List (List ℕ) = map (λ d. d .lower) (f .dependents) in
+      omega (
+        arith,
+        ap entries (lowers-split (withPivot p m f i c cs w)) ∙ entries-append (pivotLowers (withPivot p m f i c cs w)) ds,
+        ap entries (lowers-split f) ∙ entries-append (pivotLowers f) ds,
+        pivot-lower-entries,
+      )
+
+pub dependent-L-entries : (f : Found) (i : ℕ) (cs : List ℕ) → entries (lowersOf (withDependent f i cs)) ≡ entries (lowersOf f) + length (nonzeros cs)
+unfolding withDependent pivotLowers
+dependent-L-entries f i cs =
+    let ds : List (List ℕ) = map (λ d. d .lower) (f .dependents) in
+    omega (
+      arith,
+      ap entries (lowers-split (withDependent f i cs)) ∙ entries-append (pivotLowers f) (map (λ d. d .lower) (withDependent f i cs .dependents)),
+      ap entries (map-append (λ d. d .lower) (f .dependents) (record { row = i; lower = cs } ∷ [])) ∙ entries-append ds (cs ∷ []),
+      entries-one cs,
+      ap entries (lowers-split f) ∙ entries-append (pivotLowers f) ds,
+    )
+
+-- ---- the state after a row that is taken
+
+lowers-many : (f : Found) → length (pivotLowers f) ≡ rankOf f
+unfolding pivotLowers
+lowers-many f = length-map (f .pivots) (λ q. q .lower)
+
+-- the front of an order, with one number more
+front-more : (xs l : List ℕ) (r x : ℕ) → take r l ≡ xs → r < length l → take (r + 1) (set l r x) ≡ xs ++ (x ∷ [])
+front-more xs l r x e h = ap (λ (k : ℕ). take k (set l r x)) (add-one r) ∙ take-suc-set l r x h ∙ ap (λ (z : List ℕ). z ++ (x ∷ [])) e
+
+module _ (f : Found) (R C : List ℕ) (L U : Compressed) (r at l total : ℕ) (s : State f R C L U r at l total) (L-paired : length (L .cols) ≡ length (L .vals)) (U-paired : length (U .cols) ≡ length (U .vals)) where
+  -- it is a pivot row
+  module _ (p m i c : ℕ) (cs : List ℕ) (w : Vector) (lc lv uc uv : List ℕ) (over : Bool) (at′ l′ total′ : ℕ)
+      (t : PivotFound p m at l total cs w c (L .cols) (L .vals) (U .cols) (U .vals) lc lv uc uv over at′ l′ total′) where
+    pub pivot-fits : fits (length (L .cols)) (length (U .cols)) (withPivot p m f i c cs w) ≡ not over
+    unfolding fits
+    pivot-fits =
+        ap₂ (λ (a b : ℕ). leb a (length (L .cols)) && leb b (length (U .cols)))
+        (pivot-L-entries p m f i c cs w ∙ ap (λ (n : ℕ). n + length (nonzeros (cs ++ (w c ∷ [])))) (sym (s .L-entries)))
+        (pivot-U-entries p m f i c cs w ∙ ap (λ (n : ℕ). n + length (nonzeros (upperRow p m c w))) (sym (s .U-entries)))
+        ∙ t .fit
+
+    module _ (e : over ≡ false) where
+      abbrev L-more : ℕ
+      L-more = total + length (nonzeros (cs ++ (w c ∷ [])))
+
+      abbrev U-more : ℕ
+      U-more = at + length (nonzeros (upperRow p m c w))
+
+      L-room : L-more ≤ length (L .cols)
+      L-room = leb-true L-more (length (L .cols)) (and-left (leb L-more (length (L .cols))) (leb U-more (length (U .cols))) (t .fit ∙ ap not e))
+
+      U-room : U-more ≤ length (U .cols)
+      U-room = leb-true U-more (length (U .cols)) (and-right (leb L-more (length (L .cols))) (leb U-more (length (U .cols))) (t .fit ∙ ap not e))
+
+      upper-after : r + 1 < length (U .starts) → Holds (uppersOf f ++ (upperRow p m c w ∷ [])) at′ (compressed (set (U .starts) (r + 1) at′) uc uv)
+      upper-after h =
+          holds-more (uppersOf f) at U (s .upper) (upperRow p m c w) uc uv at at′ at′ (s .U-entries ∙ entries-values (uppersOf f)) (t .upper e)
+          (omega arith) (omega (arith, t .upper e .place)) (omega (arith, t .upper e .place, U-room)) (omega (arith, t .upper e .place, U-room))
+          (r + 1) (omega (arith, s .rank, uppers-many f)) h
+
+      lower-after : r + 1 < length (L .starts) → Holds (pivotLowers f ++ ((cs ++ (w c ∷ [])) ∷ [])) total′ (compressed (set (L .starts) (r + 1) l′) lc lv)
+      lower-after h =
+          holds-more (pivotLowers f) total L (s .lower) (cs ++ (w c ∷ [])) lc lv l l′ total′ (s .pivot-entries ∙ entries-values (pivotLowers f)) (t .lower e)
+          (omega (arith, t .lower e .place, t .count e, s .pivot-entries, s .L-entries, pivots-less f)) (omega (arith, t .count e)) (omega (arith, t .count e, L-room)) (omega (arith, t .count e, L-room))
+          (r + 1) (omega (arith, s .rank, lowers-many f)) h
+
+      pub pivot-state : r < length R → r < length C → r + 1 < length (L .starts) → r + 1 < length (U .starts)
+          → State (withPivot p m f i c cs w) (set R r i) (set C r c) (compressed (set (L .starts) (r + 1) l′) lc lv) (compressed (set (U .starts) (r + 1) at′) uc uv) (r + 1) at′ l′ total′
+      pivot-state hR hC hL hU =
+          record {
+            rank = omega (arith, s .rank, rank-more p m f i c cs w);
+            U-entries = t .upper e .place ∙ omega (arith, s .U-entries, pivot-U-entries p m f i c cs w);
+            pivot-entries = t .lower e .place ∙ omega (arith, s .pivot-entries, pivot-lower-entries p m f i c cs w);
+            L-entries = t .count e ∙ omega (arith, s .L-entries, pivot-L-entries p m f i c cs w);
+            rows = front-more (pivotRows f) R r i (s .rows) hR ∙ sym (rows-more p m f i c cs w);
+            columns = front-more (columnsOf f) C r c (s .columns) hC ∙ sym (columns-more p m f i c cs w);
+            upper = rw (uppers-more p m f i c cs w) (upper-after hU);
+            lower = rw (lowers-more p m f i c cs w) (lower-after hL);
+          }
+
+  -- it is dependent
+  module _ (i : ℕ) (cs lc lv uc uv : List ℕ) (over : Bool) (at′ l′ total′ : ℕ) (t : DependentFound at l total cs (L .cols) (L .vals) (U .cols) (U .vals) lc lv uc uv over at′ l′ total′)
+      (U-fits : at ≤ length (U .cols)) where
+    pub dependent-fits : fits (length (L .cols)) (length (U .cols)) (withDependent f i cs) ≡ not over
+    unfolding fits withDependent uppersOf
+    dependent-fits =
+        ap₂ (λ (a b : Bool). a && b)
+        (ap (λ (n : ℕ). leb n (length (L .cols))) (dependent-L-entries f i cs ∙ ap (λ (n : ℕ). n + length (nonzeros cs)) (sym (s .L-entries))) ∙ t .fit)
+        (le-leb (entries (uppersOf f)) (length (U .cols)) (omega (arith, s .U-entries)))
+        ∙ and-true (not over)
+      where
+        and-true : (b : Bool) → (b && true) ≡ b
+        and-true true = refl
+        and-true false = refl
+
+    pub dependent-state : over ≡ false → State (withDependent f i cs) R C (compressed (L .starts) lc lv) (compressed (U .starts) uc uv) r at′ l′ total′
+    unfolding withDependent pivotRows pivotLowers columnsOf uppersOf
+    dependent-state e =
+        record {
+          rank = s .rank;
+          U-entries = t .place e .0 ∙ s .U-entries;
+          pivot-entries = t .place e .1 ∙ s .pivot-entries;
+          L-entries = t .count e ∙ omega (arith, s .L-entries, dependent-L-entries f i cs);
+          rows = s .rows;
+          columns = s .columns;
+          upper = rw (t .place e .0, t .upper e .0, t .upper e .1) (s .upper);
+          lower = holds-same (pivotLowers f) total L (s .lower) cs lc lv l (l + length (nonzeros cs)) total′ (s .pivot-entries ∙ entries-values (pivotLowers f)) (t .lower e)
+              (omega (arith, t .count e, s .pivot-entries, s .L-entries, pivots-less f)) (omega (arith, t .count e)) (omega (arith, t .count e, room)) (omega (arith, t .count e, room));
+        }
+      where
+        room : total + length (nonzeros cs) ≤ length (L .cols)
+        room = leb-true (total + length (nonzeros cs)) (length (L .cols)) (t .fit ∙ ap not e)

@@ -1,0 +1,141 @@
+-- A row that was taken is a turn of the definition, and the lists hold what it finds.
+use mathlib.Core.Path.{_≡_, refl, sym, ap, _∙_}
+use mathlib.Core.Bool.{Bool, true, false, cond, not}
+use mathlib.Core.List.{List}
+use Prim.Native.Nat.{ℕ, _+_, _≤_, _<_}
+use native.Mathlib.Decide.{ℕ-discrete, decLt}
+use native.Mathlib.Omega.{arith}
+use lib.Dec.{eqb}
+use lib.ListN.{length, getD, take, set}
+use borrow.Author.Tests.{le-leb, lt-leb}
+use Rattle.lists.specs.Filled.{zeros}
+use Rattle.lists.specs.Tabulate.{tabulate}
+use Rattle.lists.specs.Tests.{first}
+use Rattle.algebra.specs.Matrix.{Vector, Matrix, vector}
+use Rattle.algebra.specs.Reduction.{reduced}
+use Rattle.sparse.specs.Matrix.{Compressed, compressed, matrix}
+use Rattle.sparse.proofs.DenseLaws.{compress-matrix}
+use Rattle.elimination.specs.Pivots.{Found, uppersOf, upper, rankOf, reducedBy, coefficients, withPivot, withDependent, placed, turn}
+use Rattle.elimination.specs.Factoring.{entries, fits}
+use Rattle.factor_row.specs.Loading.{multiples}
+use Rattle.factor_row.specs.Gathering.{cut, multiplesBy, remainderBy}
+use Rattle.factor_row.specs.Taking.{RowFound}
+use Rattle.factor_row.proofs.TakenRows.{first-most}
+use Rattle.factor_turn.specs.State.{pivotLowers, State, turnOf, AfterTurn}
+use Rattle.factor_turn.specs.Turning.{lowerOf, remainderOf, columnOf}
+use Rattle.factor_turn.proofs.Steps.{rank-more, pivot-U-entries, pivot-lower-entries, pivot-fits, pivot-state, dependent-fits, dependent-state}
+use Rattle.factor_turn.proofs.Readiness.{cut-found}
+
+module _ (p m : ℕ) (A : Matrix) (i : ℕ) (paired : Bool) (f : Found) (R C : List ℕ) (L U : Compressed) (r at l total : ℕ) (s : State f R C L U r at l total)
+    (pair : paired ≡ true → getD C r 0 < m) where
+  abbrev cutU : Compressed
+  cutU = cut r at (U .starts) (U .cols) (U .vals)
+
+  -- ---- the reduction by the lists is that by the rows found
+
+  matrices : matrix cutU ≡ upper f
+  matrices = ap matrix (cut-found f R C L U r at l total s) ∙ (λ t k j. compress-matrix (uppersOf f) k j t)
+
+  reduced-found : (k : ℕ) → reduced p (vector (take r C)) (matrix cutU) k (A i) ≡ reducedBy p f k (A i)
+  reduced-found k t = reduced p (vector (s .columns t)) (matrices t) k (A i)
+
+  pub multiples-found : multiplesBy p r C cutU (A i) ≡ coefficients p f (A i)
+  unfolding multiples coefficients
+  multiples-found t = tabulate (s .rank t) (λ k. reduced p (vector (s .columns t)) (matrices t) k (A i) (vector (s .columns t) k))
+
+  remainder-found : remainderBy p r C cutU (A i) ≡ reducedBy p f (rankOf f) (A i)
+  remainder-found t = reduced p (vector (s .columns t)) (matrices t) (s .rank t) (A i)
+
+  -- ---- the turn
+
+  abbrev cs : List ℕ
+  cs = lowerOf p paired r C cutU (A i)
+
+  abbrev w : Vector
+  w = remainderOf p paired r C cutU (A i)
+
+  abbrev c : ℕ
+  c = columnOf p m paired r C cutU (A i)
+
+  abbrev found : Found
+  found = turn p m A f (turnOf paired i (getD C r 0))
+
+  turn-placed : found ≡ placed p m f i cs w c
+  unfolding turn placed
+  turn-placed = go paired pair
+    where
+      go : (b : Bool) → (b ≡ true → getD C r 0 < m) → turn p m A f (turnOf b i (getD C r 0)) ≡ placed p m f i (lowerOf p b r C cutU (A i)) (remainderOf p b r C cutU (A i)) (columnOf p m b r C cutU (A i))
+      go true h =
+          ap (λ (k : ℕ). withPivot p m f i (getD C r 0) (zeros k) (A i)) (sym (s .rank))
+          ∙ ap (λ (b : Bool). cond b (withDependent f i (zeros r)) (withPivot p m f i (getD C r 0) (zeros r) (A i))) (sym (lt-leb m (getD C r 0) (h refl)))
+      go false h = λ t. placed p m f i (sym multiples-found t) (sym remainder-found t) (first m (λ j. eqb (sym remainder-found t j) 0))
+
+  column-most : c ≤ m
+  column-most = go paired pair
+    where
+      go : (b : Bool) → (b ≡ true → getD C r 0 < m) → columnOf p m b r C cutU (A i) ≤ m
+      go true h = omega (arith, h refl)
+      go false h = first-most m (λ j. eqb (remainderBy p r C cutU (A i) j) 0)
+
+  pub dependent-is : m ≤ c → found ≡ withDependent f i cs
+  unfolding placed
+  dependent-is h = turn-placed ∙ ap (λ (b : Bool). cond b (withDependent f i cs) (withPivot p m f i c cs w)) (le-leb m c h)
+
+  pub pivot-is : c < m → found ≡ withPivot p m f i c cs w
+  unfolding placed
+  pivot-is h = turn-placed ∙ ap (λ (b : Bool). cond b (withDependent f i cs) (withPivot p m f i c cs w)) (lt-leb m c h)
+
+  -- ---- after it
+
+  module _ (L-paired : length (L .cols) ≡ length (L .vals)) (U-paired : length (U .cols) ≡ length (U .vals)) (U-fits : at ≤ length (U .cols))
+      (lc lv uc uv work : List ℕ) (over : Bool) (column at′ l′ total′ : ℕ)
+      (t : RowFound p m at l total cs w c (L .cols) (L .vals) (U .cols) (U .vals) lc lv uc uv work over column at′ l′ total′) where
+    taken-fits : fits (length (L .cols)) (length (U .cols)) found ≡ not over
+    taken-fits = go (decLt c m)
+      where
+        go : Dec (c < m) → fits (length (L .cols)) (length (U .cols)) found ≡ not over
+        go (yes h) = ap (fits (length (L .cols)) (length (U .cols))) (pivot-is h) ∙ pivot-fits f R C L U r at l total s L-paired U-paired p m i c cs w lc lv uc uv over at′ l′ total′ (t .pivot h)
+        go (no h) =
+            ap (fits (length (L .cols)) (length (U .cols))) (dependent-is (omega arith))
+            ∙ dependent-fits f R C L U r at l total s L-paired U-paired i cs lc lv uc uv over at′ l′ total′ (t .dependent (omega arith)) U-fits
+
+    -- it did not fit, or it is dependent
+    pub turned-stays : (over ≡ false → column ≡ m) → AfterTurn found m (length (L .cols)) (length (U .cols)) R C (compressed (L .starts) lc lv) (compressed (U .starts) uc uv) work over r at′ l′ total′
+    turned-stays h =
+        record {
+          fit = taken-fits;
+          state = λ e. let d : m ≤ c = omega (arith, h e, t .column e) in
+              rw (dependent-is d) (dependent-state f R C L U r at l total s L-paired U-paired i cs lc lv uc uv over at′ l′ total′ (t .dependent d) U-fits e);
+          clear = t .clear;
+        }
+
+    -- it is a pivot row, which is entered
+    module _ (e : over ≡ false) (h : ¬ (column ≡ m)) where
+      pub column-inside : column < m
+      column-inside = go (ℕ-discrete c m)
+        where
+          go : Dec (c ≡ m) → column < m
+          go (yes q) = absurd (h (t .column e ∙ q))
+          go (no q) = omega (arith, column-most, t .column e)
+
+      inside : c < m
+      inside = omega (arith, column-inside, t .column e)
+
+      -- what is to be entered
+      pub rank-found : r + 1 ≡ rankOf found
+      rank-found = omega (arith, s .rank, ap rankOf (pivot-is inside) ∙ rank-more p m f i c cs w)
+
+      pub at-found : at′ ≡ entries (uppersOf found)
+      at-found = t .pivot inside .upper e .place ∙ omega (arith, s .U-entries, ap (λ (g : Found). entries (uppersOf g)) (pivot-is inside) ∙ pivot-U-entries p m f i c cs w)
+
+      pub l-found : l′ ≡ entries (pivotLowers found)
+      l-found = t .pivot inside .lower e .place ∙ omega (arith, s .pivot-entries, ap (λ (g : Found). entries (pivotLowers g)) (pivot-is inside) ∙ pivot-lower-entries p m f i c cs w)
+
+      pub turned-enters : r < length R → r < length C → r + 1 < length (L .starts) → r + 1 < length (U .starts)
+          → AfterTurn found m (length (L .cols)) (length (U .cols)) (set R r i) (set C r column) (compressed (set (L .starts) (r + 1) l′) lc lv) (compressed (set (U .starts) (r + 1) at′) uc uv) work false (r + 1) at′ l′ total′
+      turned-enters hR hC hL hU =
+          record {
+            fit = taken-fits ∙ ap not e;
+            state = λ q. rw (pivot-is inside, t .column e) (pivot-state f R C L U r at l total s L-paired U-paired p m i c cs w lc lv uc uv over at′ l′ total′ (t .pivot inside) e hR hC hL hU);
+            clear = λ q. t .clear e;
+          }

@@ -1,0 +1,103 @@
+// The second pass of the factoring: the rows of L of the dependent rows.
+ghost use mathlib.Core.Path.{_≡_};
+ghost use Prim.Native.Nat.{ℕ};
+ghost use lib.ListN.{length};
+ghost use Rattle.lists.specs.Filled.{zeros};
+ghost use Rattle.sparse.specs.Matrix.{compressed};
+ghost use Rattle.elimination.specs.Pivots.{Found};
+ghost use Rattle.factor_turn.specs.Filling.{LowerReady, LowerStored, FillFrom, FillReady, FillDone};
+use lists::clear_row;
+use residue::Modulus;
+use factor_row::gathering::gather_row;
+
+// Stores the row of L of row i at place l, where nothing remains of the row; gives the next place.
+fn lower_row(
+    q: Modulus,
+    ss: &[u32],
+    cols: &[u32],
+    vals: &[u32],
+    i: usize,
+    r: usize,
+    at: usize,
+    columns: &[u32],
+    us: &[u32],
+    uc: &[u32],
+    uv: &[u32],
+    l: usize,
+    lc: &mut [u32],
+    lv: &mut [u32],
+    work: &mut [u64],
+) -> usize
+    requires { ⌜ LowerReady (q .p) i r at l (compressed (now ss) (now cols) (now vals)) (now columns) (now us) (now uc) (now uv) (now work) (now lc) (now lv) ⌝ }
+    ensures { λ next. ⌜ LowerStored (q .p) i r at l (compressed (now (ss .entry)) (now (cols .entry)) (now (vals .entry))) (now (columns .entry)) (now (us .entry)) (now (uc .entry)) (now (uv .entry)) (length (now (work .entry))) (now (lc .entry)) (now (lv .entry)) (now (lc .exit)) (now (lv .exit)) (now (work .exit)) next ⌝ }
+{
+    let g = gather_row(
+        q,
+        ss,
+        cols,
+        vals,
+        i,
+        r,
+        at,
+        columns,
+        us,
+        uc,
+        uv,
+        l,
+        l,
+        lc,
+        lv,
+        work,
+    );
+    clear_row(work);
+    g.next
+}
+
+// Stores the rows of L of the rows from place r on, after those of the pivot rows, which have l entries.
+pub fn fill_dependents(
+    q: Modulus,
+    ss: &[u32],
+    cols: &[u32],
+    vals: &[u32],
+    r: usize,
+    at: usize,
+    l: usize,
+    rows: &[u32],
+    columns: &[u32],
+    us: &[u32],
+    uc: &[u32],
+    uv: &[u32],
+    ls: &mut [u32],
+    lc: &mut [u32],
+    lv: &mut [u32],
+    work: &mut [u64],
+)
+    requires { ⌜ FillReady (q .p) (compressed (now ss) (now cols) (now vals)) (now rows) (now columns) (compressed (now ls) (now lc) (now lv)) (compressed (now us) (now uc) (now uv)) (now work) r at l ⌝ }
+    ensures filled { λ _. ⌜ ((f : Found) (total : ℕ) → FillFrom (q .p) (compressed (now (ss .entry)) (now (cols .entry)) (now (vals .entry))) (now (rows .entry)) (now (columns .entry)) (compressed (now (ls .entry)) (now (lc .entry)) (now (lv .entry))) (compressed (now (us .entry)) (now (uc .entry)) (now (uv .entry))) (length (now (work .entry))) r at l total f → FillDone f (compressed (now (ls .exit)) (now (lc .exit)) (now (lv .exit)))) ⌝ }
+    ensures clear { λ _. ⌜ now (work .exit) ≡ zeros (length (now (work .entry))) ⌝ }
+{
+    let mut next = l;
+    let mut k = r;
+    while k < rows.len() {
+        let i = rows[k] as usize;
+        next = lower_row(
+            q,
+            ss,
+            cols,
+            vals,
+            i,
+            r,
+            at,
+            columns,
+            us,
+            uc,
+            uv,
+            next,
+            lc,
+            lv,
+            work,
+        );
+        k += 1;
+        ls[k] = next as u32;
+    }
+}

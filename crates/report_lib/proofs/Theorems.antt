@@ -1,0 +1,140 @@
+-- What a report says, with what the call left: its first `size` bytes of the buffer are what is printed.
+--   report-right      a text that states a plan whose factors fit: its report is right (`ReportsRight`)
+--   report-refused    a text that states no plan: the line of a refusal by one of the numbers of a text
+--   report-storage    a plan whose factors overflow: the line of refusal 7 at the first row that does, counted from 1
+use mathlib.Core.Path.{_≡_, refl, sym, ap, subst, _∙_}
+use mathlib.Core.List.{List}
+use Prim.Native.Nat.{ℕ, _+_}
+use lib.Dec.{eqb}
+use lib.ListN.{length, take}
+use borrow.Author.Tests.{eq-eqb}
+use Rattle.lists.specs.Filled.{zeros, filled}
+use Rattle.lists.specs.Table.{textFaults, storageTooShort}
+use Rattle.lists.specs.Refusals.{numberOf, detailOf}
+use Rattle.lists.specs.declared.Outcome.{Outcome}
+use Rattle.lists.specs.declared.Outcome.the-variants.{Passed}
+use Rattle.lists.proofs.Filled.{length-zeros, filled-whole}
+use Rattle.lists.proofs.Refusals.{unless-holds}
+use Rattle.sparse.specs.Matrix.{Compressed}
+use Rattle.sparse.specs.Set.{Set}
+use Rattle.elimination.proofs.Theorem.{factor-rank}
+use Rattle.row_space.specs.Solve.{openColumns}
+use Rattle.call_plan.specs.Limits.{largestEntries, workLength}
+use Rattle.call_plan.specs.Accepted.{GoodPlan}
+use Rattle.call_plan.proofs.Plans.{good-prime}
+use Rattle.text_plan.specs.Held.{planOf, StatesPlan}
+use Rattle.call_check.specs.Calls.{checkFactorsOf}
+use Rattle.call_check.specs.Passing.{StoredPasses}
+use Rattle.call_check.proofs.Theorems.{factors-exactly}
+use Rattle.call_open.specs.Calls.{Listed, columnsAfter, listed, openFactorsOf, Lists}
+use Rattle.call_open.specs.Meaning.{MarksOpen}
+use Rattle.call_open.proofs.Theorems.{columns-long, stored-marks}
+use Rattle.factor_all.specs.Outcome as factorings
+use Rattle.print_text.specs.Report.{reportText, refusalText}
+use Rattle.print_text.specs.Printed.{countedFromOne, printed, PrintsRefusal}
+use Rattle.print_text.proofs.Shown.{fills-shown, first-refusal}
+use Rattle.stages.specs.Stages.{reading, readOutcome, factoredOf, factorOutcome}
+use Rattle.stages.specs.Meaning.{factorsOf, FitsAll, OverflowsAt}
+use Rattle.stages.proofs.ReadText.{reading-good, outcome-passed, reading-numbers, wholeSet, factored-whole, factored-over}
+use Rattle.stages.proofs.Passing.{factors-sized, factors-pass}
+use Rattle.report_lib.specs.Reporting.{summaryOf, openListOf, reportReadOf, reportOf, Reports}
+use Rattle.report_lib.specs.Meaning.{ReportsRight}
+
+-- ---- the open columns from a set that passes the check
+
+module _ (p n m : ℕ) (A : Compressed) (s : Set) (passes : StoredPasses p n m A s workLength) where
+  listed-all : openFactorsOf p n m A s m workLength ≡ listed Passed (openColumns p m s)
+  unfolding openFactorsOf columnsAfter
+  listed-all =
+      ap (λ (o : Outcome). listed o (openColumns p m s))
+      (unless-holds (eqb m m) 9 0 (checkFactorsOf p n m A s workLength) (eq-eqb m m refl) (factors-exactly p n m A s workLength .1 passes))
+
+  -- as a call that lists them leaves them
+  as-call : (l₀ w₀ : List ℕ) → length l₀ ≡ m → length w₀ ≡ workLength
+      → Lists (openFactorsOf p n m A s (length l₀) (length w₀)) Passed l₀ (openColumns p m s) w₀ (zeros (length w₀))
+  as-call l₀ w₀ long wide =
+      let same : openFactorsOf p n m A s (length l₀) (length w₀) ≡ listed Passed (openColumns p m s) = (λ t. openFactorsOf p n m A s (long t) (wide t)) ∙ listed-all in
+      record {
+        outcome = ap (λ (g : Listed). g .outcome) (sym same);
+        number = ap (λ (g : Listed). numberOf (g .outcome)) (sym same);
+        detail = ap (λ (g : Listed). detailOf (g .outcome)) (sym same);
+        list-is = sym (ap (λ (g : Listed). filled (length l₀) (g .list)) same ∙ filled-whole (length l₀) (openColumns p m s) (columns-long p m s ∙ sym long));
+        cleared = refl;
+      }
+
+  all-marked : MarksOpen p n m A (openColumns p m s)
+  all-marked =
+      stored-marks p n m A s Passed (zeros m) (openColumns p m s) (zeros workLength) (zeros (length (zeros workLength)))
+      (as-call (zeros m) (zeros workLength) (length-zeros m) (length-zeros workLength)) refl
+
+-- ---- the call
+
+module _ (text : List ℕ) (size : ℕ) (b₀ b w₀ w : List ℕ) (call : Reports text size b₀ b w₀ w) where
+  abbrev p : ℕ
+  p = reading text .result .p
+
+  abbrev n : ℕ
+  n = reading text .result .n
+
+  abbrev m : ℕ
+  m = reading text .result .m
+
+  abbrev A : Compressed
+  A = planOf (reading text)
+
+  abbrev set : Set
+  set = factorsOf (reading text)
+
+  -- what is printed after reading, and after factoring
+  abbrev after-factoring : factorings.Outcome → List ℕ
+  after-factoring f = let g = openListOf (reading text) f in printed (g .outcome) (reportText (summaryOf (reading text) f) (g .list))
+
+  abbrev after-reading : factorings.Outcome → List ℕ
+  after-reading f = printed (countedFromOne storageTooShort (factorOutcome f)) (after-factoring f)
+
+  shown : take size b ≡ printed (readOutcome (reading text .result)) (after-reading (factoredOf (reading text)))
+  unfolding reportOf reportReadOf
+  shown = fills-shown b₀ b size (reportOf text) (call .report)
+
+  pub report-refused : ¬ StatesPlan largestEntries text → PrintsRefusal textFaults (take size b)
+  report-refused none =
+      subst (PrintsRefusal textFaults) (sym shown)
+      (first-refusal textFaults (readOutcome (reading text .result)) (after-reading (factoredOf (reading text))) (reading-numbers text) (λ e. none (outcome-passed text .0 e)))
+
+  module _ (states : StatesPlan largestEntries text) where
+    good : GoodPlan p n m A
+    good = reading-good text states
+
+    passes : StoredPasses p n m A set workLength
+    passes = factors-pass p n m A good
+
+    shown-read : take size b ≡ after-reading (factoredOf (reading text))
+    shown-read = shown ∙ ap (λ (o : Outcome). printed o (after-reading (factoredOf (reading text)))) (outcome-passed text .1 states)
+
+    pub report-storage : ¬ FitsAll (reading text) → (i : ℕ) × (take size b ≡ refusalText storageTooShort (i + 1)) × OverflowsAt (reading text) i
+    report-storage none =
+        let (i, refused, overflows) = factored-over text states none in
+        (i, shown-read ∙ ap (λ (o : Outcome). printed (countedFromOne 7 o) (after-factoring (factoredOf (reading text)))) refused, overflows)
+
+    shown-whole : FitsAll (reading text) → take size b ≡ reportText (summaryOf (reading text) (wholeSet text)) (openColumns p m set)
+    shown-whole fits =
+        shown-read
+        ∙ ap after-reading (factored-whole text states fits)
+        ∙ ap (λ (g : Listed). printed (g .outcome) (reportText (summaryOf (reading text) (wholeSet text)) (g .list))) (listed-all p n m A set passes)
+
+    pub report-right : FitsAll (reading text) → ReportsRight (reading text) (take size b)
+    report-right fits =
+        record {
+          summary = summaryOf (reading text) (wholeSet text);
+          marks = openColumns p m set;
+          printed-is = shown-whole fits;
+          modulus-is = refl;
+          slots-are = refl;
+          words-are = refl;
+          entries-are = refl;
+          rank-is = factor-rank p n m A (good-prime good) (good .formed) (good .rows);
+          structural-is = refl;
+          lower-is = factors-sized p n m A good .lower-values;
+          upper-is = factors-sized p n m A good .upper-values;
+          marks-are = all-marked p n m A set passes;
+        }

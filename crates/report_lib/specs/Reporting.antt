@@ -1,0 +1,58 @@
+-- What the report program prints for a text (document 01, "Report and cases").
+--   summaryOf x f       the numbers of a report: the plan that was read, and its factoring
+--   openListOf x f      its open columns (document 01's open words), from the set that factoring gives
+--   reportReadOf x      the report of a reading: the line of the first refusal, or the report
+--   reportOf text       the report of a text
+--   ReportLists ..      a buffer that holds any report, and a working row
+--   Reports text ..     the contract: the length, every byte of the buffer, and the working row left all zero
+use Prim.Native.Nat.{ℕ, _≤_}
+use mathlib.Core.Path.{_≡_}
+use mathlib.Core.List.{List}
+use lib.ListN.{length}
+use Rattle.lists.specs.Filled.{zeros}
+use Rattle.lists.specs.Table.{storageTooShort}
+use Rattle.byte_buffer.specs.Stored.{Fills}
+use Rattle.text_plan.specs.Call.{ReadAnswer}
+use Rattle.call_plan.specs.Limits.{workLength}
+use Rattle.factor_all.specs.Outcome.{Outcome}
+use Rattle.call_open.specs.Calls.{Listed, openFactorsOf}
+use Rattle.print_text.specs.declared.lines.Summary.{Summary}
+use Rattle.print_text.specs.Report.{reportText}
+use Rattle.print_text.specs.Printed.{countedFromOne, printed}
+use Rattle.stages.specs.Stages.{reading, readOutcome, factoredOf, factorOutcome, setIn}
+use Rattle.text_plan.specs.Held.{planOf}
+
+abbrev pub summaryOf : ReadAnswer → Outcome → Summary
+summaryOf x f =
+    record {
+      modulus = x .result .p;
+      slots = x .result .n;
+      words = x .result .m;
+      entries = x .result .count;
+      rank = f .rank;
+      structural = f .structural;
+      lower = length (f .L .vals);
+      upper = length (f .U .vals);
+    }
+
+abbrev pub openListOf : ReadAnswer → Outcome → Listed
+openListOf x f = let r = x .result in openFactorsOf (r .p) (r .n) (r .m) (planOf x) (setIn f) (r .m) workLength
+
+unfoldable pub reportReadOf : ReadAnswer → List ℕ
+reportReadOf x =
+    let f = factoredOf x in
+    printed (readOutcome (x .result))
+    (printed (countedFromOne storageTooShort (factorOutcome f))
+    (printed (openListOf x f .outcome)
+    (reportText (summaryOf x f) (openListOf x f .list))))
+
+unfoldable pub reportOf : List ℕ → List ℕ
+reportOf text = reportReadOf (reading text)
+
+pub record ReportLists (out w : List ℕ) : Type 0 where
+  pub room : 65536 ≤ length out
+  pub work-length : length w ≡ workLength
+
+pub record Reports (text : List ℕ) (size : ℕ) (b₀ b w₀ w : List ℕ) : Type 0 where
+  pub report : Fills b₀ b size (reportOf text)
+  pub cleared : w ≡ zeros (length w₀)

@@ -1,0 +1,234 @@
+// The report of a plan's text.
+ghost use mathlib.Core.Path.{_≡_};
+ghost use lib.ListN.{length};
+ghost use Rattle.sparse.specs.Matrix.{compressed};
+ghost use Rattle.call_open.specs.Calls.{Lists};
+ghost use Rattle.stages.specs.Staged.{Fits};
+ghost use Rattle.print_text.specs.Printed.{Prints};
+ghost use Rattle.report_lib.specs.Held.{heldSummary, heldList, heldText, stagedText, HeldReady, StagedReady};
+ghost use Rattle.report_lib.specs.Reporting.{ReportLists, Reports};
+use call_open::from_factors::open_columns_from_factors;
+use lists::Outcome;
+use print_text::lines::Summary;
+use print_text::report::from_one;
+use print_text::report::write_refusal;
+use print_text::report::write_report;
+use stages::Stages;
+use stages::factor_text;
+
+// The number whose detail is a row of the plan, which counts from 1 in print: lent entry storage is too short.
+const STORAGE_TOO_SHORT: u32 = 7;
+
+// The numbers of a report.
+fn summary(s: Stages) -> Summary
+    ensures { λ z. ⌜ z ≡ heldSummary s ⌝ }
+{
+    let r = s.reading;
+    let f = s.factored;
+    Summary {
+        modulus: r.p,
+        slots: r.n,
+        words: r.m,
+        entries: r.count,
+        rank: f.rank,
+        structural: f.structural,
+        lower: s.lower,
+        upper: s.upper,
+    }
+}
+
+// Lists the open columns from the plan and the set that the stages left in lists.
+fn list_held(
+    s: Stages,
+    starts: &[u32],
+    columns: &[u32],
+    values: &[u32],
+    rows: &[u32],
+    cols: &[u32],
+    ls: &[u32],
+    lc: &[u32],
+    lv: &[u32],
+    us: &[u32],
+    uc: &[u32],
+    uv: &[u32],
+    marks: &mut [u32],
+    work: &mut [u64],
+) -> Outcome
+    requires { ⌜ Fits s (compressed (now starts) (now columns) (now values)) (now rows) (now cols) (compressed (now ls) (now lc) (now lv)) (compressed (now us) (now uc) (now uv)) ⌝ }
+    ensures { λ o. ⌜ Lists (heldList s (compressed (now (starts .entry)) (now (columns .entry)) (now (values .entry))) (now (rows .entry)) (now (cols .entry)) (compressed (now (ls .entry)) (now (lc .entry)) (now (lv .entry))) (compressed (now (us .entry)) (now (uc .entry)) (now (uv .entry))) (length (now (marks .entry))) (length (now (work .entry)))) o (now (marks .entry)) (now (marks .exit)) (now (work .entry)) (now (work .exit)) ⌝ }
+{
+    let r = s.reading;
+    let f = s.factored;
+    let n = r.n as usize;
+    let m = r.m as usize;
+    let count = r.count as usize;
+    let rank = f.rank as usize;
+    let lower = s.lower as usize;
+    let upper = s.upper as usize;
+    open_columns_from_factors(
+        r.p,
+        r.n,
+        r.m,
+        &starts[..n + 1],
+        &columns[..count],
+        &values[..count],
+        f.rank,
+        &rows[..n],
+        &cols[..m],
+        &ls[..n + 1],
+        &lc[..lower],
+        &lv[..lower],
+        &us[..rank + 1],
+        &uc[..upper],
+        &uv[..upper],
+        marks,
+        work,
+    )
+}
+
+// Writes what is printed once reading and factoring were done.
+fn report_held(
+    s: Stages,
+    starts: &[u32],
+    columns: &[u32],
+    values: &[u32],
+    rows: &[u32],
+    cols: &[u32],
+    ls: &[u32],
+    lc: &[u32],
+    lv: &[u32],
+    us: &[u32],
+    uc: &[u32],
+    uv: &[u32],
+    marks: &mut [u32],
+    out: &mut [u8],
+    work: &mut [u64],
+) -> usize
+    requires { ⌜ HeldReady s (compressed (now starts) (now columns) (now values)) (now rows) (now cols) (compressed (now ls) (now lc) (now lv)) (compressed (now us) (now uc) (now uv)) (now marks) (now out) (now work) ⌝ }
+    ensures { λ size. ⌜ Prints (heldText s (compressed (now (starts .entry)) (now (columns .entry)) (now (values .entry))) (now (rows .entry)) (now (cols .entry)) (compressed (now (ls .entry)) (now (lc .entry)) (now (lv .entry))) (compressed (now (us .entry)) (now (uc .entry)) (now (uv .entry)))) size (now (out .entry)) (now (out .exit)) (now (work .entry)) (now (work .exit)) ⌝ }
+{
+    let listed = list_held(
+        s,
+        starts,
+        columns,
+        values,
+        rows,
+        cols,
+        ls,
+        lc,
+        lv,
+        us,
+        uc,
+        uv,
+        marks,
+        work,
+    );
+    if let Outcome::Refused(number, detail) = listed {
+        return write_refusal(number, detail, out);
+    }
+    write_report(summary(s), marks, out)
+}
+
+// Writes what is printed of any stages.
+fn report_staged(
+    s: Stages,
+    starts: &[u32],
+    columns: &[u32],
+    values: &[u32],
+    rows: &[u32],
+    cols: &[u32],
+    ls: &[u32],
+    lc: &[u32],
+    lv: &[u32],
+    us: &[u32],
+    uc: &[u32],
+    uv: &[u32],
+    marks: &mut [u32],
+    out: &mut [u8],
+    work: &mut [u64],
+) -> usize
+    requires { ⌜ StagedReady s (compressed (now starts) (now columns) (now values)) (now rows) (now cols) (compressed (now ls) (now lc) (now lv)) (compressed (now us) (now uc) (now uv)) (now marks) (now out) (now work) ⌝ }
+    ensures { λ size. ⌜ Prints (stagedText s (compressed (now (starts .entry)) (now (columns .entry)) (now (values .entry))) (now (rows .entry)) (now (cols .entry)) (compressed (now (ls .entry)) (now (lc .entry)) (now (lv .entry))) (compressed (now (us .entry)) (now (uc .entry)) (now (uv .entry)))) size (now (out .entry)) (now (out .exit)) (now (work .entry)) (now (work .exit)) ⌝ }
+{
+    let r = s.reading;
+    let f = s.factored;
+    if r.number != 0 {
+        return write_refusal(r.number, r.detail, out);
+    }
+    if f.number != 0 {
+        let detail = from_one(STORAGE_TOO_SHORT, f.number, f.detail);
+        return write_refusal(f.number, detail, out);
+    }
+    let m = r.m as usize;
+    report_held(
+        s,
+        starts,
+        columns,
+        values,
+        rows,
+        cols,
+        ls,
+        lc,
+        lv,
+        us,
+        uc,
+        uv,
+        &mut marks[..m],
+        out,
+        work,
+    )
+}
+
+// Reads a plan's text, factors the plan, and writes what the report program prints.
+//   takes    a text, a buffer of at least 65,536 bytes, which hold any report, and a working row
+//   gives    the length of the report, which stands in the buffer
+//   leaves   the buffer zero past the report, and the working row all zero
+pub fn report(text: &[u8], out: &mut [u8], work: &mut [u64]) -> usize
+    requires { ⌜ ReportLists (now out) (now work) ⌝ }
+    ensures { λ size. ⌜ Reports (now (text .entry)) size (now (out .entry)) (now (out .exit)) (now (work .entry)) (now (work .exit)) ⌝ }
+{
+    let mut starts = [0u32; 2049];
+    let mut columns = [0u32; 16384];
+    let mut values = [0u32; 16384];
+    let mut rows = [0u32; 2048];
+    let mut cols = [0u32; 2048];
+    let mut ls = [0u32; 2049];
+    let mut lc = [0u32; 16384];
+    let mut lv = [0u32; 16384];
+    let mut us = [0u32; 2049];
+    let mut uc = [0u32; 16384];
+    let mut uv = [0u32; 16384];
+    let mut marks = [0u32; 2048];
+    let s = factor_text(
+        text,
+        &mut starts,
+        &mut columns,
+        &mut values,
+        &mut rows,
+        &mut cols,
+        &mut ls,
+        &mut lc,
+        &mut lv,
+        &mut us,
+        &mut uc,
+        &mut uv,
+        work,
+    );
+    report_staged(
+        s,
+        &starts,
+        &columns,
+        &values,
+        &rows,
+        &cols,
+        &ls,
+        &lc,
+        &lv,
+        &us,
+        &uc,
+        &uv,
+        &mut marks,
+        out,
+        work,
+    )
+}

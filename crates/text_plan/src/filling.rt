@@ -1,0 +1,46 @@
+// The lent lists are filled entry by entry.
+ghost use mathlib.Core.Path.{_≡_};
+ghost use mathlib.Core.List.{List, _∷_};
+ghost use Prim.Native.Nat.{_≤_, _<_};
+ghost use lib.ListN.{length};
+ghost use Rattle.text_opening.specs.Limits.{startsLength};
+ghost use Rattle.text_opening.specs.Reading.{Entry, kept};
+ghost use Rattle.text_plan.specs.Stored.{RowsWithin, startsOf, EntriesStored, Storable};
+
+// The starts after the rows `from` + 1 to `to`, which have no entry: all entries stand before them.
+pub fn extend_starts(starts: &mut [u32], from: usize, to: usize, count: u32)
+    requires { ⌜ (from ≤ to) × (to < startsLength) × (length (now starts) ≡ startsLength) ⌝ }
+    ensures { λ _. ⌜ ((es : List Entry) → RowsWithin from es → count ≡ length es → now (starts .entry) ≡ startsOf from es → now (starts .exit) ≡ startsOf to es) ⌝ }
+{
+    let mut k = from;
+    while k < to {
+        k += 1;
+        starts[k] = count;
+    }
+}
+
+// One entry more, in a row that is not before `row`, the last one so far. A value of 0 is not stored.
+pub fn store(
+    starts: &mut [u32],
+    columns: &mut [u32],
+    values: &mut [u32],
+    count: u32,
+    row: u64,
+    i: u64,
+    j: u64,
+    v: u32,
+) -> u32
+    requires { ⌜ Storable (length (now starts)) (length (now columns)) (length (now values)) count row i j v ⌝ }
+    ensures { λ r. ⌜ ((seen : List Entry) → EntriesStored row (length (now (columns .entry))) (kept seen) count (now (starts .entry)) (now (columns .entry)) (now (values .entry)) → EntriesStored i (length (now (columns .entry))) (kept (record { row = i; column = j; value = v } ∷ seen)) r (now (starts .exit)) (now (columns .exit)) (now (values .exit))) ⌝ }
+{
+    let top = i as usize;
+    extend_starts(starts, row as usize, top, count);
+    if v == 0 {
+        return count;
+    }
+    let at = lists::index(count);
+    starts[top] = count + 1;
+    columns[at] = (j - 1) as u32;
+    values[at] = v;
+    count + 1
+}

@@ -1,0 +1,119 @@
+// Reads a plan text (document 01, "Plan text"; triples in any order, document 02, slip 2) into lent lists.
+ghost use mathlib.Core.Path.{_≡_};
+ghost use mathlib.Core.List.{[]};
+ghost use lib.ListN.{length, drop};
+ghost use Rattle.text_fields.specs.Pieces.{pieces};
+ghost use Rattle.text_opening.specs.Reading.{fresh, triples, readOf};
+ghost use Rattle.text_plan.specs.Call.{answerOf, callOf, refusalOf, Gives, Cleared, Begins, Settles};
+use text_lines::Place;
+use text_judge::judge::Sizes;
+use text_opening::opening::Opening;
+use triples::TripleLines;
+
+pub mod collecting;
+pub mod filling;
+pub mod sorting;
+pub mod triples;
+
+// How many row starts a caller lends.
+const STARTS: usize = 2049;
+
+// What reading a text returns: document 01's number and its detail, and on 0 the modulus, the sizes and the number of entries.
+pub struct Reading {
+    pub number: u32,
+    pub detail: u32,
+    pub p: u32,
+    pub n: u32,
+    pub m: u32,
+    pub count: u32,
+}
+
+fn refusal(number: u32, detail: u32) -> Reading
+    ensures { λ r. ⌜ r ≡ refusalOf number detail ⌝ }
+{
+    Reading {
+        number,
+        detail,
+        p: 0,
+        n: 0,
+        m: 0,
+        count: 0,
+    }
+}
+
+// The lines from the third one on, into lists that are all zero. A text whose triples rise is read once, as it stands; only where a triple
+// does not come after the one before are the lines read once more and sorted.
+fn read_lines(
+    text: &[u8],
+    third: Place,
+    s: Sizes,
+    starts: &mut [u32],
+    columns: &mut [u32],
+    values: &mut [u32],
+) -> TripleLines
+    requires { ⌜ Begins (now text) third s (now starts) (now columns) (now values) ⌝ }
+    ensures { λ r. ⌜ Settles (length (now (columns .entry))) (triples fresh s (length (now (columns .entry))) (third .line) [] (pieces 10 (drop (third .at) (now (text .entry))))) r (now (starts .exit)) (now (columns .exit)) (now (values .exit)) ⌝ }
+{
+    match triples::read_triples(text, third, s, starts, columns, values) {
+        TripleLines::Read { count, row } => TripleLines::Read { count, row },
+        TripleLines::Refused { number, line } => {
+            if number != 5 {
+                return TripleLines::Refused { number, line };
+            }
+            lists::clear(starts);
+            lists::clear(columns);
+            lists::clear(values);
+            sorting::read_any_order(text, third, s, starts, columns, values)
+        }
+    }
+}
+
+// Reads into lists of the right lengths that are all zero.
+fn fill(text: &[u8], starts: &mut [u32], columns: &mut [u32], values: &mut [u32]) -> Reading
+    requires { ⌜ Cleared (now starts) (now columns) (now values) ⌝ }
+    ensures { λ r. ⌜ Gives (answerOf (length (now (columns .entry))) (readOf (length (now (columns .entry))) (now (text .entry)))) r (now (starts .exit)) (now (columns .exit)) (now (values .exit)) ⌝ }
+{
+    match text_opening::opening::open(text) {
+        Opening::Refused { number, detail } => refusal(number, detail),
+        Opening::Opened { s, third } => match read_lines(text, third, s, starts, columns, values) {
+            TripleLines::Refused { number, line } => {
+                lists::clear(starts);
+                lists::clear(columns);
+                lists::clear(values);
+                refusal(number, line)
+            }
+            TripleLines::Read { count, row } => {
+                let modulus = s.modulus;
+                let n = s.n;
+                filling::extend_starts(starts, row as usize, n as usize, count);
+                Reading {
+                    number: 0,
+                    detail: 0,
+                    p: modulus.p,
+                    n,
+                    m: s.m,
+                    count,
+                }
+            }
+        },
+    }
+}
+
+// Takes: a plan text, its triples in any order; 2,049 row starts, and columns and values of one length, all lent.
+// Gives: the modulus, the sizes and the number of entries, and the plan in the lent lists, zero past its end.
+// Refuses with: 9 for a wrong length; 2 for a longer text; then the first line at fault: 3, then 1, 2, or 4, 5, 6, 7.
+// Leaves: after a refusal every number 0 and every lent list all zero. The text never changes.
+pub fn read(text: &[u8], starts: &mut [u32], columns: &mut [u32], values: &mut [u32]) -> Reading
+    ensures { λ r. ⌜ Gives (callOf (now (text .entry)) (length (now (starts .entry))) (length (now (columns .entry))) (length (now (values .entry)))) r (now (starts .exit)) (now (columns .exit)) (now (values .exit)) ⌝ }
+{
+    lists::clear(starts);
+    lists::clear(columns);
+    lists::clear(values);
+    if starts.len() != STARTS {
+        return refusal(9, 0);
+    }
+    if columns.len() != values.len() {
+        return refusal(9, 0);
+    }
+    fill(text, starts, columns, values)
+}
