@@ -15,10 +15,10 @@ use Rattle.answer_question.specs.Reducing.{lowestOf}
 use Rattle.answer_question.specs.Answering.{SetReady}
 use Rattle.answer_question.proofs.AnswerLaws.{zeros-take, cleared, restored}
 use Rattle.sparse.specs.Set.{Set}
-use Rattle.answer_open.specs.Opening.{openCell, FactorReady, PivotsReady, Columns, ColumnsReady, AllColumns}
+use Rattle.answer_open.specs.Opening.{openCell, EchelonPassed, PivotsReady, ColumnsListed, ColumnsReady, AllColumns}
 
 -- a set that is ready to answer has a U that is ready
-pub set-factor : (p n m : ℕ) (s : Set) → SetReady p n m s → FactorReady p (s .r) (s .U) (s .C) m
+pub set-factor : (p n m : ℕ) (s : Set) → SetReady p n m s → EchelonPassed p (s .r) (s .U) (s .C) m
 set-factor p n m s d =
     record {
       prime = d .prime;
@@ -42,7 +42,7 @@ module _ (p r : ℕ) (U : Compressed) (C o₀ w₀ : List ℕ) (d : ColumnsReady
   pub columns-ready : PivotsReady p r U C o₀ (take (length o₀) w₀)
   columns-ready = record { factor = d .factor; long = sym row-part; clear = cleared (take (length o₀) w₀) (length o₀) (zeros-take (length o₀) w₀ (d .room) (d .clear)) }
 
-  pub columns-done : (o part : List ℕ) → length part ≡ length (take (length o₀) w₀) → Columns (tabulate (length o₀) (openCell p (length o₀) (vector C) (matrix U) r)) o part
+  pub columns-done : (o part : List ℕ) → length part ≡ length (take (length o₀) w₀) → ColumnsListed (tabulate (length o₀) (openCell p (length o₀) (vector C) (matrix U) r)) o part
       → AllColumns p r C U o (part ++ drop (length o₀) w₀)
   columns-done o part long a =
       record {

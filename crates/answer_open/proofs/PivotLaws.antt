@@ -18,11 +18,11 @@ use Rattle.sparse.proofs.Rows.{form-row}
 use Rattle.pluq.proofs.Orders.{permutation-means}
 use Rattle.pluq.proofs.Shapes.{Upper, upper-means}
 use Rattle.answer_open.specs.Counting.{closedOthers, CountReady}
-use Rattle.answer_open.specs.Opening.{openCell, FactorReady, Known, PivotReady, PivotCell}
+use Rattle.answer_open.specs.Opening.{openCell, EchelonPassed, Known, PivotCellReady, PivotCell}
 use Rattle.answer_open.proofs.Kernel.{open-vanishes, vanishes-open, closed-differs, differs-closed}
 use Rattle.answer_open.proofs.CountLaws.{ZeroAtOpen, count-none, count-one}
 
-module _ (p r : ℕ) (U : Compressed) (C : List ℕ) (m : ℕ) (f : FactorReady p r U C m) where
+module _ (p r : ℕ) (U : Compressed) (C : List ℕ) (m : ℕ) (f : EchelonPassed p r U C m) where
   pub order : Permutation m (vector C)
   order = permutation-means m C (f .long) (f .columns)
 
@@ -78,7 +78,7 @@ module _ (p r : ℕ) (U : Compressed) (C : List ℕ) (m : ℕ) (f : FactorReady 
           ⊙ row-zero z u)))
 
 -- the same, as `pivot_open` meets them
-module _ (p k r : ℕ) (U : Compressed) (C o w : List ℕ) (d : PivotReady p k r U C o w) where
+module _ (p k r : ℕ) (U : Compressed) (C o w : List ℕ) (d : PivotCellReady p k r U C o w) where
   pub count-ready : CountReady p k U o
   count-ready = record { formed = rw (d .long) (d .unit .factor .formed); inside = omega (arith, d .unit .inside, d .unit .factor .rows) }
 

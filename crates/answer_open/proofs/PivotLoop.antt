@@ -16,7 +16,7 @@ use Rattle.algebra.proofs.Finite.{onto}
 use Rattle.sparse.specs.Row.{entry}
 use Rattle.sparse.specs.Matrix.{Compressed, rowOf, matrix}
 use Rattle.sparse.proofs.Entries.{row-columns, values-at, entry-at}
-use Rattle.answer_open.specs.Opening.{openCell, FactorReady, Known, PivotReady, PivotCell, PivotsReady}
+use Rattle.answer_open.specs.Opening.{openCell, EchelonPassed, Known, PivotCellReady, PivotCell, PivotsReady}
 use Rattle.answer_open.proofs.Kernel.{other-closed}
 use Rattle.answer_open.proofs.PivotLaws.{order, shape, pivot-inside, row-of}
 
@@ -34,7 +34,7 @@ module _ (p r : ℕ) (U : Compressed) (C o₀ o w : List ℕ) (d : PivotsReady p
   pub cleared-long : length o ≡ length o₀
   cleared-long = ap length e ∙ length-zeros (length o₀)
 
-  pub cleared-factor : FactorReady p r U C (length o)
+  pub cleared-factor : EchelonPassed p r U C (length o)
   cleared-factor = rw cleared-long (d .factor)
 
   pub opening-starts : Opening p r U C (length o) o w r
@@ -48,7 +48,7 @@ module _ (p r : ℕ) (U : Compressed) (C o₀ o w : List ℕ) (d : PivotsReady p
         row = d .clear;
       }
 
-module _ (p r : ℕ) (U : Compressed) (C : List ℕ) (m : ℕ) (f : FactorReady p r U C m) where
+module _ (p r : ℕ) (U : Compressed) (C : List ℕ) (m : ℕ) (f : EchelonPassed p r U C m) where
   abbrev cell : ℕ → ℕ
   cell c = openCell p m (vector C) (matrix U) r c
 
@@ -86,7 +86,7 @@ module _ (p r : ℕ) (U : Compressed) (C : List ℕ) (m : ℕ) (f : FactorReady 
         column-known c i g e away (λ l. not-before t b i l e) (decLt i r)
         ∙ ap (λ (n : ℕ). openCell p n (vector C) (matrix U) r c) (sym (s .long))
 
-    pub opening-ready : PivotReady p k r U C o w
+    pub opening-ready : PivotCellReady p k r U C o w
     opening-ready =
         record {
           unit = record { factor = rw (s .long-w) f; inside = h; clear = s .row };
@@ -118,7 +118,7 @@ module _ (p r : ℕ) (U : Compressed) (C : List ℕ) (m : ℕ) (f : FactorReady 
             getD-set-other o j (getD C i 0) v 0 (λ q. e (apart i k (omega (arith, f .rank)) (omega (arith, f .rank)) (q ∙ ej))) ∙ s .done i (omega arith) b
 
   -- the loop goes down
-  pub opening-at : (o w : List ℕ) (k : ℕ) → 0 < k → Opening p r U C m o w k → PivotReady p (k - 1) r U C o w
+  pub opening-at : (o w : List ℕ) (k : ℕ) → 0 < k → Opening p r U C m o w k → PivotCellReady p (k - 1) r U C o w
   opening-at o w k h s =
       opening-ready o w (k - 1) (omega (arith, s .inside)) (subst (λ (n : ℕ). Opening p r U C m o w n) (let q : k ≡ suc (k - 1) = omega arith in q) s)
 

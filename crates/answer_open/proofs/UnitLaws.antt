@@ -21,7 +21,7 @@ use Rattle.row_space.proofs.Substitutions.{δ-small}
 use Rattle.answer_question.specs.Reducing.{Eliminated, Remains, lowestOf}
 use Rattle.answer_question.proofs.ReduceLoop.{reducing-turn, residue-cell, lowest-remains}
 use Rattle.answer_question.proofs.AnswerLaws.{unit-cell, cleared}
-use Rattle.answer_open.specs.Opening.{openCell, FromReady, UnitReady, PivotCell}
+use Rattle.answer_open.specs.Opening.{openCell, ReduceFromReady, UnitReady, PivotCell}
 use Rattle.answer_open.proofs.Kernel.{reduced-kept}
 use Rattle.answer_open.proofs.PivotLaws.{order, pivot-inside}
 
@@ -66,7 +66,7 @@ module _ (p k r : ℕ) (U : Compressed) (C w₀ : List ℕ) (d : UnitReady p k r
   small : (t : ℕ) → t < m → δ j t < p
   small t h = δ-small p (d .factor .prime .two) j t
 
-  pub unit-ready : FromReady p k r U C (set w₀ j 1)
+  pub unit-ready : ReduceFromReady p k r U C (set w₀ j 1)
   unit-ready =
       record {
         factor = rw wide (d .factor);

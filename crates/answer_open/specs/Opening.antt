@@ -1,14 +1,14 @@
 -- Which columns are open: the verdicts of the unit questions (document 01's open words).
 --   openCell p m C U r j     1 where the unit question at column j is open, 0 where it is closed
---   FactorReady p r U C m    U with its column order, as a set that passed has them
---   FromReady ..             what the reduction of a working row by rows k to r - 1 of U needs
+--   EchelonPassed p r U C m    U with its column order, as a set that passed has them
+--   ReduceFromReady ..             what the reduction of a working row by rows k to r - 1 of U needs
 --   UnitReady ..             what the unit question of row k's pivot column needs: the working row is all zero
---   PivotReady ..            the same, and the list o has the open columns of the rows after k
+--   PivotCellReady ..            the same, and the list o has the open columns of the rows after k
 --   PivotsReady ..           what all unit questions need, where the working row has a cell for each column
 --   ColumnsReady ..          the same, where it may have more
 --   Known ..                 o has the verdict of each column of row k but its pivot column
 --   PivotCell v r w          the result is v, and the working row is all zero
---   Columns cells o w        the list o has those cells, and the working row is all zero
+--   ColumnsListed cells o w        the list o has those cells, and the working row is all zero
 --   AllColumns ..            the list o is `openColumns` of every set with this column order and this U, and the working row is all zero
 use Prim.Native.Nat.{ℕ, _*_, _≤_, _<_}
 use mathlib.Core.Path.{_≡_}
@@ -32,7 +32,7 @@ use Rattle.answer_question.specs.Reducing.{lowestOf}
 unfoldable pub openCell : (p m : ℕ) (C : Vector) (U : Matrix) (r j : ℕ) → ℕ
 openCell p m C U r j = cond (leb m (lowestOf m (reduced p C U r (δ j)))) 1 0
 
-pub record FactorReady (p r : ℕ) (U : Compressed) (C : List ℕ) (m : ℕ) : Type 0 where
+pub record EchelonPassed (p r : ℕ) (U : Compressed) (C : List ℕ) (m : ℕ) : Type 0 where
   pub prime : Prime p
   pub formed : form p m U ≡ true
   pub rows : r < length (U .starts)
@@ -41,13 +41,13 @@ pub record FactorReady (p r : ℕ) (U : Compressed) (C : List ℕ) (m : ℕ) : T
   pub rank : r ≤ m
   pub shaped : upper r (vector C) (matrix U) ≡ true
 
-pub record FromReady (p k r : ℕ) (U : Compressed) (C w : List ℕ) : Type 0 where
-  pub factor : FactorReady p r U C (length w)
+pub record ReduceFromReady (p k r : ℕ) (U : Compressed) (C w : List ℕ) : Type 0 where
+  pub factor : EchelonPassed p r U C (length w)
   pub inside : k ≤ r
   pub below : Below (p * p) w
 
 pub record UnitReady (p k r : ℕ) (U : Compressed) (C w : List ℕ) : Type 0 where
-  pub factor : FactorReady p r U C (length w)
+  pub factor : EchelonPassed p r U C (length w)
   pub inside : k < r
   pub clear : w ≡ zeros (length w)
 
@@ -56,7 +56,7 @@ Known p r U C k o =
     (t : ℕ) → t < length (rowOf (U .starts) k (U .cols)) → (getD (rowOf (U .starts) k (U .cols)) t 0 ≡ getD C k 0 → ⊥)
     → getD o (getD (rowOf (U .starts) k (U .cols)) t 0) 0 ≡ openCell p (length o) (vector C) (matrix U) r (getD (rowOf (U .starts) k (U .cols)) t 0)
 
-pub record PivotReady (p k r : ℕ) (U : Compressed) (C o w : List ℕ) : Type 0 where
+pub record PivotCellReady (p k r : ℕ) (U : Compressed) (C o w : List ℕ) : Type 0 where
   pub unit : UnitReady p k r U C w
   pub long : length o ≡ length w
   pub known : Known p r U C k o
@@ -66,16 +66,16 @@ pub record PivotCell (v r : ℕ) (w : List ℕ) : Type 0 where
   pub row : w ≡ zeros (length w)
 
 pub record PivotsReady (p r : ℕ) (U : Compressed) (C o w : List ℕ) : Type 0 where
-  pub factor : FactorReady p r U C (length o)
+  pub factor : EchelonPassed p r U C (length o)
   pub long : length o ≡ length w
   pub clear : w ≡ zeros (length w)
 
-pub record Columns (cells o w : List ℕ) : Type 0 where
+pub record ColumnsListed (cells o w : List ℕ) : Type 0 where
   pub list : o ≡ cells
   pub row : w ≡ zeros (length w)
 
 pub record ColumnsReady (p r : ℕ) (U : Compressed) (C o w : List ℕ) : Type 0 where
-  pub factor : FactorReady p r U C (length o)
+  pub factor : EchelonPassed p r U C (length o)
   pub room : length o ≤ length w
   pub clear : w ≡ zeros (length w)
 

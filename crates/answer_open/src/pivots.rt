@@ -4,7 +4,7 @@ ghost use Rattle.lists.specs.Tabulate.{tabulate};
 ghost use Rattle.algebra.specs.Matrix.{vector};
 ghost use Rattle.sparse.specs.Words.{view};
 ghost use Rattle.sparse.specs.Matrix.{viewed, matrix};
-ghost use Rattle.answer_open.specs.Opening.{openCell, PivotReady, PivotCell, PivotsReady, Columns, ColumnsReady, AllColumns};
+ghost use Rattle.answer_open.specs.Opening.{openCell, PivotCellReady, PivotCell, PivotsReady, ColumnsListed, ColumnsReady, AllColumns};
 use crate::count::row_closed;
 use crate::unit::unit_open;
 use lists::clear;
@@ -29,7 +29,7 @@ fn pivot_open(
     r: usize,
     work: &mut [u64],
 ) -> u32
-    requires { ⌜ PivotReady (q .p) k r (viewed (now us) (now usb) (now uc) (now ucb) (now uv) (now uvb)) (view (now co) (now cob)) (now marks) (now work) ⌝ }
+    requires { ⌜ PivotCellReady (q .p) k r (viewed (now us) (now usb) (now uc) (now ucb) (now uv) (now uvb)) (view (now co) (now cob)) (now marks) (now work) ⌝ }
     ensures { λ v. ⌜ PivotCell (openCell (q .p) (length (now (work .entry))) (vector (view (now (co .entry)) (now (cob .entry)))) (matrix (viewed (now (us .entry)) (now (usb .entry)) (now (uc .entry)) (now (ucb .entry)) (now (uv .entry)) (now (uvb .entry)))) r (getD (view (now (co .entry)) (now (cob .entry))) k 0)) v (now (work .exit)) ⌝ }
 {
     let d = word(co, cob, k);
@@ -59,7 +59,7 @@ fn open_pivots(
     work: &mut [u64],
 )
     requires { ⌜ PivotsReady (q .p) r (viewed (now us) (now usb) (now uc) (now ucb) (now uv) (now uvb)) (view (now co) (now cob)) (now marks) (now work) ⌝ }
-    ensures { λ _. ⌜ Columns (tabulate (length (now (marks .entry))) (openCell (q .p) (length (now (marks .entry))) (vector (view (now (co .entry)) (now (cob .entry)))) (matrix (viewed (now (us .entry)) (now (usb .entry)) (now (uc .entry)) (now (ucb .entry)) (now (uv .entry)) (now (uvb .entry)))) r)) (now (marks .exit)) (now (work .exit)) ⌝ }
+    ensures { λ _. ⌜ ColumnsListed (tabulate (length (now (marks .entry))) (openCell (q .p) (length (now (marks .entry))) (vector (view (now (co .entry)) (now (cob .entry)))) (matrix (viewed (now (us .entry)) (now (usb .entry)) (now (uc .entry)) (now (ucb .entry)) (now (uv .entry)) (now (uvb .entry)))) r)) (now (marks .exit)) (now (work .exit)) ⌝ }
 {
     clear(marks);
     let mut k = r;

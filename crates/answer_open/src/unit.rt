@@ -4,7 +4,7 @@ ghost use Rattle.algebra.specs.Matrix.{Vector, vector};
 ghost use Rattle.sparse.specs.Words.{view};
 ghost use Rattle.sparse.specs.Matrix.{viewed, matrix};
 ghost use Rattle.answer_question.specs.Reducing.{Remains};
-ghost use Rattle.answer_open.specs.Opening.{openCell, FromReady, UnitReady, PivotCell};
+ghost use Rattle.answer_open.specs.Opening.{openCell, ReduceFromReady, UnitReady, PivotCell};
 use answer_question::reduce::lowest_nonzero;
 use answer_question::reduce::reduce_by_row;
 use lists::clear_row;
@@ -27,7 +27,7 @@ fn reduce_from(
     r: usize,
     work: &mut [u64],
 )
-    requires { ⌜ FromReady (q .p) k r (viewed (now us) (now usb) (now uc) (now ucb) (now uv) (now uvb)) (view (now co) (now cob)) (now work) ⌝ }
+    requires { ⌜ ReduceFromReady (q .p) k r (viewed (now us) (now usb) (now uc) (now ucb) (now uv) (now uvb)) (view (now co) (now cob)) (now work) ⌝ }
     ensures { λ _. ⌜ ((y : Vector) → Remains (q .p) (vector (view (now (co .entry)) (now (cob .entry)))) (matrix (viewed (now (us .entry)) (now (usb .entry)) (now (uc .entry)) (now (ucb .entry)) (now (uv .entry)) (now (uvb .entry)))) k y (now (work .entry)) → Remains (q .p) (vector (view (now (co .entry)) (now (cob .entry)))) (matrix (viewed (now (us .entry)) (now (usb .entry)) (now (uc .entry)) (now (ucb .entry)) (now (uv .entry)) (now (uvb .entry)))) r y (now (work .exit))) ⌝ }
 {
     let mut i = k;

@@ -10,17 +10,17 @@ use lib.ListN.{length, getD, take, drop}
 use lib.Seq.{slice, slice-empty, length-take-le, take-suc, drop-append-le, drop-cons, drop-length}
 use borrow.Author.Tests.{eq-eqb, ne-eqb, lt-ltb, le-ltb}
 use Rattle.lists.proofs.Steps.{drop-take}
-use Rattle.text_fields.specs.Number.{numberOf}
+use Rattle.text_fields.specs.Number.{numberIn}
 use Rattle.text_fields.specs.declared.numbers.Number.the-variants.{Value}
-use Rattle.ask.specs.Values.{noResidue, valueOf, isSeparator, valuesFrom, endedAt, nextStart, valuesEnd, questionIn, Added}
+use Rattle.ask.specs.Values.{noResidue, valueRead, isSeparator, valuesFrom, endedAt, nextStart, valuesEnd, questionIn, Added}
 use Rattle.ask.proofs.Kept.{none-added, added-then}
 
 -- ---- a value
 
-pub value-small : (v : ℕ) → v < 4294967296 → v ≡ valueOf (Value v)
+pub value-small : (v : ℕ) → v < 4294967296 → v ≡ valueRead (Value v)
 value-small v h = ap (λ (b : Bool). cond b v noResidue) (sym (lt-ltb v 4294967296 h))
 
-pub value-large : (v : ℕ) → 4294967296 ≤ v → 4294967295 ≡ valueOf (Value v)
+pub value-large : (v : ℕ) → 4294967296 ≤ v → 4294967295 ≡ valueRead (Value v)
 value-large v h = ap (λ (b : Bool). cond b v noResidue) (sym (le-ltb v 4294967296 h))
 
 -- ---- a separator
@@ -35,18 +35,18 @@ feed-tested b h = ap (λ (t : Bool). t || eqb b 10) (sym (ne-eqb b 32 h))
 
 -- ---- one field
 
-as-slice : (l : List ℕ) (start i : ℕ) → valueOf (numberOf (take (i - start) (drop start l))) ≡ valueOf (numberOf (slice start i l))
-as-slice l start i = ap (λ (f : List ℕ). valueOf (numberOf f)) (sym (drop-take start i l))
+as-slice : (l : List ℕ) (start i : ℕ) → valueRead (numberIn (take (i - start) (drop start l))) ≡ valueRead (numberIn (slice start i l))
+as-slice l start i = ap (λ (f : List ℕ). valueRead (numberIn f)) (sym (drop-take start i l))
 
-pub field-ended : (l : List ℕ) (start i : ℕ) (y : List ℕ) (k : ℕ) (y′ : List ℕ) (r v : ℕ) → true ≡ isSeparator (getD l i 0) → v ≡ valueOf (numberOf (take (i - start) (drop start l)))
+pub field-ended : (l : List ℕ) (start i : ℕ) (y : List ℕ) (k : ℕ) (y′ : List ℕ) (r v : ℕ) → true ≡ isSeparator (getD l i 0) → v ≡ valueRead (numberIn (take (i - start) (drop start l)))
     → Added y k y′ r (v ∷ []) → Added y k y′ r (endedAt l start i)
 unfolding endedAt
 field-ended l start i y k y′ r v e f a =
-    subst (Added y k y′ r) (ap (λ (x : ℕ). x ∷ []) (f ∙ as-slice l start i) ∙ ap (λ (t : Bool). cond t (valueOf (numberOf (slice start i l)) ∷ []) []) e) a
+    subst (Added y k y′ r) (ap (λ (x : ℕ). x ∷ []) (f ∙ as-slice l start i) ∙ ap (λ (t : Bool). cond t (valueRead (numberIn (slice start i l)) ∷ []) []) e) a
 
 pub no-field-ended : (l : List ℕ) (start i : ℕ) (y : List ℕ) (k : ℕ) → false ≡ isSeparator (getD l i 0) → k ≤ length y → Added y k y k (endedAt l start i)
 unfolding endedAt
-no-field-ended l start i y k e h = subst (Added y k y k) (ap (λ (t : Bool). cond t (valueOf (numberOf (slice start i l)) ∷ []) []) e) (none-added y k h)
+no-field-ended l start i y k e h = subst (Added y k y k) (ap (λ (t : Bool). cond t (valueRead (numberIn (slice start i l)) ∷ []) []) e) (none-added y k h)
 
 pub start-moves : (b start i : ℕ) → true ≡ isSeparator b → i + 1 ≡ nextStart b start i
 start-moves b start i e = ap (λ (t : Bool). cond t (i + 1) start) e
@@ -84,8 +84,8 @@ coming-step l start i h g =
     after : drop (i + 1) l ≡ bs
     after = ap (λ (k : ℕ). drop k l) (add-one i)
 
-    go : (t : Bool) → cond t (valueOf (numberOf f) ∷ []) [] ++ coming l (cond t (i + 1) start) (i + 1) ≡ cond t (valueOf (numberOf f) ∷ valuesFrom [] bs) (valuesFrom (f ++ b ∷ []) bs)
-    go true = (λ j. valueOf (numberOf f) ∷ valuesFrom (slice-empty (i + 1) l j) (after j))
+    go : (t : Bool) → cond t (valueRead (numberIn f) ∷ []) [] ++ coming l (cond t (i + 1) start) (i + 1) ≡ cond t (valueRead (numberIn f) ∷ valuesFrom [] bs) (valuesFrom (f ++ b ∷ []) bs)
+    go true = (λ j. valueRead (numberIn f) ∷ valuesFrom (slice-empty (i + 1) l j) (after j))
     go false = (λ j. valuesFrom (slice-longer l start i h g j) (after j))
 
 pub record Going (l y₀ y : List ℕ) (k start i : ℕ) : Type 0 where
@@ -120,11 +120,11 @@ module _ (l y₀ y : List ℕ) (k start i : ℕ) (g : Going l y₀ y k start i) 
             ∙ g .rest;
       }
 
-  last-field : length l ≤ i → coming l start i ≡ valueOf (numberOf (slice start i l)) ∷ []
+  last-field : length l ≤ i → coming l start i ≡ valueRead (numberIn (slice start i l)) ∷ []
   unfolding valuesFrom
   last-field h = let e : i ≡ length l = omega (arith, g .place) in ap (valuesFrom (slice start i l)) (ap (λ (j : ℕ). drop j l) e ∙ drop-length l)
 
-  pub going-ends : length l ≤ i → (y′ : List ℕ) (r v : ℕ) → v ≡ valueOf (numberOf (take (i - start) (drop start l))) → Added y k y′ r (v ∷ []) → Added y₀ 0 y′ r (valuesFrom [] l)
+  pub going-ends : length l ≤ i → (y′ : List ℕ) (r v : ℕ) → v ≡ valueRead (numberIn (take (i - start) (drop start l))) → Added y k y′ r (v ∷ []) → Added y₀ 0 y′ r (valuesFrom [] l)
   going-ends h y′ r v e a =
       record {
         inside = a .inside;

@@ -1,6 +1,6 @@
 -- A question as text.
 --   noResidue            stands for what is no 32-bit number; no modulus has it as a residue
---   valueOf n            the value that is read
+--   valueRead n            the value that is read
 --   isSeparator b        a space or a line feed
 --   valuesFrom f l       the values of a text l, of whose first field f was read already
 --   endedAt l s i        the value of the field from place s on where a separator at place i ends it; none where there is no separator
@@ -16,29 +16,29 @@ use mathlib.Core.List.{List, [], _∷_, _++_}
 use lib.Dec.{eqb, ltb}
 use lib.ListN.{length, getD, take}
 use lib.Seq.{slice}
-use Rattle.text_fields.specs.Number.{numberOf}
+use Rattle.text_fields.specs.Number.{numberIn}
 use Rattle.text_fields.specs.declared.numbers.Number.{Number}
 use Rattle.text_fields.specs.declared.numbers.Number.the-variants.{Value, NotNumber}
 
 abbrev pub noResidue : ℕ
 noResidue = 4294967295
 
-abbrev pub valueOf : Number → ℕ
-valueOf (Value v) = cond (ltb v 4294967296) v noResidue
-valueOf NotNumber = noResidue
+abbrev pub valueRead : Number → ℕ
+valueRead (Value v) = cond (ltb v 4294967296) v noResidue
+valueRead NotNumber = noResidue
 
 unfoldable pub isSeparator : ℕ → Bool
 isSeparator b = eqb b 32 || eqb b 10
 
 unfoldable pub valuesFrom : List ℕ → List ℕ → List ℕ
-valuesFrom f [] = valueOf (numberOf f) ∷ []
+valuesFrom f [] = valueRead (numberIn f) ∷ []
 valuesFrom f (b ∷ bs) =
     let next = valuesFrom [] bs in
     let longer = valuesFrom (f ++ b ∷ []) bs in
-    cond (isSeparator b) (valueOf (numberOf f) ∷ next) longer
+    cond (isSeparator b) (valueRead (numberIn f) ∷ next) longer
 
 unfoldable pub endedAt : List ℕ → ℕ → ℕ → List ℕ
-endedAt l start i = cond (isSeparator (getD l i 0)) (valueOf (numberOf (slice start i l)) ∷ []) []
+endedAt l start i = cond (isSeparator (getD l i 0)) (valueRead (numberIn (slice start i l)) ∷ []) []
 
 abbrev pub nextStart : ℕ → ℕ → ℕ → ℕ
 nextStart b start i = cond (isSeparator b) (i + 1) start

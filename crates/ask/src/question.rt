@@ -3,8 +3,8 @@ ghost use mathlib.Core.List.{[], _∷_};
 ghost use mathlib.Core.Path.{_≡_};
 ghost use Prim.Native.Nat.{_^_, _≤_, _<_};
 ghost use lib.ListN.{length};
-ghost use Rattle.text_fields.specs.Number.{numberOf};
-ghost use Rattle.ask.specs.Values.{valueOf, isSeparator, valuesFrom, endedAt, nextStart, FieldReady, valuesEnd, questionIn, Added};
+ghost use Rattle.text_fields.specs.Number.{numberIn};
+ghost use Rattle.ask.specs.Values.{valueRead, isSeparator, valuesFrom, endedAt, nextStart, FieldReady, valuesEnd, questionIn, Added};
 use text_fields::numbers::Number;
 use text_fields::numbers::number_of;
 
@@ -16,14 +16,14 @@ const LINE_FEED: u8 = 10;
 const NO_RESIDUE: u32 = 4294967295;
 
 fn small(v: u64) -> u32
-    ensures { λ r. ⌜ r ≡ valueOf (Number.Value v) ⌝ }
+    ensures { λ r. ⌜ r ≡ valueRead (Number.Value v) ⌝ }
 {
     if v < 4294967296 { v as u32 } else { NO_RESIDUE }
 }
 
 // The value that a field says.
 pub fn value(field: &[u8]) -> u32
-    ensures { λ r. ⌜ r ≡ valueOf (numberOf (now (field .entry))) ⌝ }
+    ensures { λ r. ⌜ r ≡ valueRead (numberIn (now (field .entry))) ⌝ }
 {
     match number_of(field) {
         Number::Value(v) => small(v),

@@ -1,6 +1,6 @@
 // A plan's text that a question may follow.
 ghost use mathlib.Core.Path.{_≡_};
-ghost use Rattle.ask.specs.Ending.{isLast, PlanEnds};
+ghost use Rattle.ask.specs.Ending.{isLastLine, PlanEnds};
 use text_fields::pieces::piece;
 
 const ZERO: u8 = 48;
@@ -11,7 +11,7 @@ const LINE_FEED: u8 = 10;
 
 // Whether a line is `0 0 0`.
 fn is_last(line: &[u8]) -> bool
-    ensures { λ r. ⌜ r ≡ isLast (now (line .entry)) ⌝ }
+    ensures { λ r. ⌜ r ≡ isLastLine (now (line .entry)) ⌝ }
 {
     if line.len() != 5 {
         return false;

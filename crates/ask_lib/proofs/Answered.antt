@@ -29,7 +29,7 @@ use Rattle.text_plan.specs.Held.{heldPlan}
 use Rattle.stages.specs.Staged.{heldSet}
 use Rattle.stages.specs.declared.Stages.{Stages}
 use Rattle.ask_lib.specs.Asking.{isOpenAnswer, givenLine}
-use Rattle.ask_lib.specs.Held.{lineOf, heldAnswer, Answerable, AnswerHeld}
+use Rattle.ask_lib.specs.Held.{answerLineOf, heldAnswer, Answerable, AnswerHeld}
 use Rattle.ask_lib.proofs.Details.{question-small}
 
 -- ---- the lists of an answer have their lengths
@@ -54,11 +54,11 @@ solved-sized p n m s y = go (leb m (lowest p m s y))
 -- ---- the line
 
 module _ (n m : ℕ) (a : Solved) (sized : Sized n m a) where
-  verdict-line : (v : Verdict) → lineOf (answerOf v) (filled n (a .x)) (filled m (a .z)) ≡ answerText (isOpenAnswer (answerOf v)) (a .x) (a .z)
+  verdict-line : (v : Verdict) → answerLineOf (answerOf v) (filled n (a .x)) (filled m (a .z)) ≡ answerText (isOpenAnswer (answerOf v)) (a .x) (a .z)
   verdict-line Verdict.Open = ap (answerLine true) (filled-whole n (a .x) (sized .0))
   verdict-line Verdict.Closed = ap (answerLine false) (filled-whole m (a .z) (sized .1))
 
-  given-line : (o : Outcome) → lineOf (given o a .answer) (filled n (given o a .x)) (filled m (given o a .z)) ≡ givenLine (given o a)
+  given-line : (o : Outcome) → answerLineOf (given o a .answer) (filled n (given o a .x)) (filled m (given o a .z)) ≡ givenLine (given o a)
   unfolding givenLine
   given-line Outcome.Passed = verdict-line (a .verdict)
   given-line (Outcome.Refused k d) = refl
@@ -68,7 +68,7 @@ given-detail Outcome.Passed a = refl
 given-detail (Outcome.Refused k d) a = refl
 
 module _ (p n m : ℕ) (A : Compressed) (s : Set) (y : List ℕ) where
-  factors-line : let g = answerFactorsOf p n m A s y n m workLength in lineOf (g .answer) (filled n (g .x)) (filled m (g .z)) ≡ givenLine g
+  factors-line : let g = answerFactorsOf p n m A s y n m workLength in answerLineOf (g .answer) (filled n (g .x)) (filled m (g .z)) ≡ givenLine g
   unfolding answerFactorsOf
   factors-line = given-line n m (solve p n m s (vector y)) (solved-sized p n m s (vector y)) (questionAfter (checkFactorsOf p n m A s workLength) p n m y n m)
 
@@ -121,10 +121,10 @@ module _ (s : Stages) (A : Compressed) (R C : List ℕ) (L U : Compressed) (y x 
     z-cut : take m (z′ ++ drop m z) ≡ z′
     z-cut = take-at z′ (drop m z) m (z-same ∙ z-part)
 
-    the-line : lineOf a (take n (x′ ++ drop n x)) (take m (z′ ++ drop m z)) ≡ givenLine (heldAnswer s A R C L U y)
+    the-line : answerLineOf a (take n (x′ ++ drop n x)) (take m (z′ ++ drop m z)) ≡ givenLine (heldAnswer s A R C L U y)
     the-line =
         let g = heldAnswer s A R C L U y in
-        (λ t. lineOf (held .answer t) ((x-cut ∙ held .x-is ∙ ap (λ (k : ℕ). filled k (g .x)) x-part) t) ((z-cut ∙ held .z-is ∙ ap (λ (k : ℕ). filled k (g .z)) z-part) t))
+        (λ t. answerLineOf (held .answer t) ((x-cut ∙ held .x-is ∙ ap (λ (k : ℕ). filled k (g .x)) x-part) t) ((z-cut ∙ held .z-is ∙ ap (λ (k : ℕ). filled k (g .z)) z-part) t))
         ∙ factors-line p n m plan set y
 
     pub answered : AnswerHeld (heldAnswer s A R C L U y) a n m (x′ ++ drop n x) (z′ ++ drop m z) w w′

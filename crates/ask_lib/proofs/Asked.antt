@@ -27,7 +27,7 @@ use Rattle.stages.specs.Stages.{reading, readOutcome, factoredOf, factorOutcome
 use Rattle.stages.specs.Staged.{FactorsHeld, Staged}
 use Rattle.stages.specs.declared.Stages.{Stages}
 use Rattle.ask_lib.specs.Asking.{answerFor, givenLine, askReadOf, askOf, AskLists, Asks}
-use Rattle.ask_lib.specs.Held.{lineOf, LineReady, heldAnswer, Answerable, AnswerHeld, stagesRefusal, stagedLine, StagedReady}
+use Rattle.ask_lib.specs.Held.{answerLineOf, LineReady, heldAnswer, Answerable, AnswerHeld, stagesRefusal, stagedLine, AskStagedReady}
 
 -- ---- the refusal that the stages ended with
 
@@ -74,7 +74,7 @@ printed-then : (o next : Outcome) (text : List ℕ) → printed o (printed next 
 printed-then Passed next text = refl
 printed-then (Refused k d) next text = refl
 
-module _ (s : Stages) (A : Compressed) (R C : List ℕ) (L U : Compressed) (y out w : List ℕ) (d : StagedReady s A R C L U y out w) (o : Outcome) (told-is : o ≡ stagesRefusal s) where
+module _ (s : Stages) (A : Compressed) (R C : List ℕ) (L U : Compressed) (y out w : List ℕ) (d : AskStagedReady s A R C L U y out w) (o : Outcome) (told-is : o ≡ stagesRefusal s) where
   abbrev answer : List ℕ
   answer = givenLine (heldAnswer s A R C L U y)
 
@@ -115,7 +115,7 @@ module _ (s : Stages) (A : Compressed) (R C : List ℕ) (L U : Compressed) (y ou
             room = d .asked .room;
           }
 
-      pub answered : (size : ℕ) (b : List ℕ) → Fills out b size (lineOf a (take (s .reading .n) x) (take (s .reading .m) z)) → Prints (stagedLine s A R C L U y) size out b w w′
+      pub answered : (size : ℕ) (b : List ℕ) → Fills out b size (answerLineOf a (take (s .reading .n) x) (take (s .reading .m) z)) → Prints (stagedLine s A R C L U y) size out b w w′
       answered size b g =
           record {
             text-is = subst (Fills out b size) (h .line-is ∙ ap (λ (u : Outcome). printed u answer) (sym passed) ∙ staged-is) g;
@@ -172,7 +172,7 @@ module _ (text y : List ℕ) (s : Stages) (A : Compressed) (R C : List ℕ) (L U
   asks size b₀ b w′ g = record { answer = subst (Fills b₀ b size) same-line (g .text-is); cleared = g .cleared ∙ ap zeros work-length }
 
   -- what writing the line needs
-  pub staged-ready : (out : List ℕ) → AskLists y out w₀ → length R ≡ largestSize → length C ≡ largestSize → StagedReady s A R C L U y out w
+  pub staged-ready : (out : List ℕ) → AskLists y out w₀ → length R ≡ largestSize → length C ≡ largestSize → AskStagedReady s A R C L U y out w
   staged-ready out d R-length C-length =
       record {
         countable = record { detail-small = λ done. factors done .detail-small };

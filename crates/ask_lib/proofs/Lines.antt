@@ -13,7 +13,7 @@ use Rattle.print_text.specs.Answer.{answerLine}
 use Rattle.print_text.specs.Report.{refusalText}
 use Rattle.print_text.specs.Printed.{detailFromOne}
 use Rattle.print_text.proofs.Room.{refusal-room, answer-room}
-use Rattle.ask_lib.specs.Held.{lineOf, LineReady}
+use Rattle.ask_lib.specs.Held.{answerLineOf, LineReady}
 
 module _ (a : Answer) (n m : ℕ) (x z out : List ℕ) (d : LineReady a n m x z out) where
   pub detail-counts : (k e : ℕ) → a ≡ Answer.Refused k e → e < 4294967295
@@ -42,11 +42,11 @@ module _ (a : Answer) (n m : ℕ) (x z out : List ℕ) (d : LineReady a n m x z 
 
 -- what was written is the line
 module _ (a : Answer) (x z out out′ : List ℕ) (size : ℕ) where
-  pub line-refused : (k e counted : ℕ) → a ≡ Answer.Refused k e → counted ≡ detailFromOne 15 k e → Fills out out′ size (refusalText k counted) → Fills out out′ size (lineOf a x z)
-  line-refused k e counted h c f = subst (Fills out out′ size) (ap (refusalText k) c ∙ ap (λ (b : Answer). lineOf b x z) (sym h)) f
+  pub line-refused : (k e counted : ℕ) → a ≡ Answer.Refused k e → counted ≡ detailFromOne 15 k e → Fills out out′ size (refusalText k counted) → Fills out out′ size (answerLineOf a x z)
+  line-refused k e counted h c f = subst (Fills out out′ size) (ap (refusalText k) c ∙ ap (λ (b : Answer). answerLineOf b x z) (sym h)) f
 
-  pub line-open : a ≡ Answer.Open → Fills out out′ size (answerLine true x) → Fills out out′ size (lineOf a x z)
-  line-open h f = subst (Fills out out′ size) (ap (λ (b : Answer). lineOf b x z) (sym h)) f
+  pub line-open : a ≡ Answer.Open → Fills out out′ size (answerLine true x) → Fills out out′ size (answerLineOf a x z)
+  line-open h f = subst (Fills out out′ size) (ap (λ (b : Answer). answerLineOf b x z) (sym h)) f
 
-  pub line-closed : a ≡ Answer.Closed → Fills out out′ size (answerLine false z) → Fills out out′ size (lineOf a x z)
-  line-closed h f = subst (Fills out out′ size) (ap (λ (b : Answer). lineOf b x z) (sym h)) f
+  pub line-closed : a ≡ Answer.Closed → Fills out out′ size (answerLine false z) → Fills out out′ size (answerLineOf a x z)
+  line-closed h f = subst (Fills out out′ size) (ap (λ (b : Answer). answerLineOf b x z) (sym h)) f

@@ -21,11 +21,11 @@ use Rattle.call_answer.specs.Calls.{Given, answerFactorsOf}
 use Rattle.call_answer.specs.declared.Answer.{Answer}
 use Rattle.print_text.specs.Answer.{answerText}
 use Rattle.print_text.specs.Printed.{countedFromOne, printed}
-use Rattle.stages.specs.Stages.{reading, readOutcome, factoredOf, factorOutcome, setIn}
+use Rattle.stages.specs.Stages.{reading, readOutcome, factoredOf, factorOutcome, setFactored}
 use Rattle.text_plan.specs.Held.{planOf}
 
 abbrev pub answerFor : ReadAnswer → Outcome → List ℕ → Given
-answerFor x f y = let r = x .result in answerFactorsOf (r .p) (r .n) (r .m) (planOf x) (setIn f) y (r .n) (r .m) workLength
+answerFor x f y = let r = x .result in answerFactorsOf (r .p) (r .n) (r .m) (planOf x) (setFactored f) y (r .n) (r .m) workLength
 
 abbrev pub isOpenAnswer : Answer → Bool
 isOpenAnswer (Answer.Refused number detail) = false

@@ -1,13 +1,13 @@
 -- The answer from what the stages left in lists.
---   lineOf a x z           the line of an answer with its lists
+--   answerLineOf a x z           the line of an answer with its lists
 --   LineReady a n m ..     what writing it needs: a detail that can be counted from 1, n and m values within the limit, and room
 --   heldAnswer s ..        the answer from the plan and the set that stand in lists
 --   Answerable s ..        what that needs: the lists have the plan and the set, and room for x and z
 --   AnswerHeld g a n m ..  what it leaves: with the first n values of x and m of z, the answer's line is that of g
 --   stagesRefusal s        the refusal that the stages ended with, as it is printed
---   Countable s            its row can be counted from 1
+--   RowCountable s            its row can be counted from 1
 --   stagedLine s ..        the line of what the stages came to: of a refusal by reading or by factoring, else of the answer
---   StagedReady s ..       what writing it needs, and that the working row is all zero
+--   AskStagedReady s ..       what writing it needs, and that the working row is all zero
 use Prim.Native.Nat.{ℕ, _≤_}
 use mathlib.Core.Path.{_≡_}
 use mathlib.Core.Bool.{true, false}
@@ -33,10 +33,10 @@ use Rattle.ask_lib.specs.Asking.{givenLine, AskLists}
 
 -- ---- the line
 
-abbrev pub lineOf : Answer → List ℕ → List ℕ → List ℕ
-lineOf (Answer.Refused number detail) x z = refusalText number (detailFromOne questionTooLarge number detail)
-lineOf Answer.Open x z = answerLine true x
-lineOf Answer.Closed x z = answerLine false z
+abbrev pub answerLineOf : Answer → List ℕ → List ℕ → List ℕ
+answerLineOf (Answer.Refused number detail) x z = refusalText number (detailFromOne questionTooLarge number detail)
+answerLineOf Answer.Open x z = answerLine true x
+answerLineOf Answer.Closed x z = answerLine false z
 
 pub record LineReady (a : Answer) (n m : ℕ) (x z out : List ℕ) : Type 0 where
   pub detail-small : answerDetail a ≤ 2049
@@ -63,7 +63,7 @@ pub record Answerable (s : Stages) (A : Compressed) (R C : List ℕ) (L U : Comp
   pub work-length : length w ≡ workLength
 
 pub record AnswerHeld (g : Given) (a : Answer) (n m : ℕ) (x z w₀ w : List ℕ) : Type 0 where
-  pub line-is : lineOf a (take n x) (take m z) ≡ givenLine g
+  pub line-is : answerLineOf a (take n x) (take m z) ≡ givenLine g
   pub detail-small : answerDetail a ≤ 2049
   pub cleared : w ≡ zeros (length w₀)
 
@@ -72,7 +72,7 @@ pub record AnswerHeld (g : Given) (a : Answer) (n m : ℕ) (x z w₀ w : List �
 unfoldable pub stagesRefusal : Stages → Outcome
 stagesRefusal s = let f = s .factored in readOutcome (s .reading) ▷ countedFromOne storageTooShort (unless (eqb (f .number) 0) (f .number) (f .detail))
 
-pub record Countable (s : Stages) : Type 0 where
+pub record RowCountable (s : Stages) : Type 0 where
   pub detail-small : s .reading .number ≡ 0 → s .factored .detail ≤ largestSize
 
 unfoldable pub stagedLine : Stages → Compressed → (R C : List ℕ) (L U : Compressed) → List ℕ → List ℕ
@@ -82,8 +82,8 @@ stagedLine s A R C L U y =
     (printed (countedFromOne storageTooShort (unless (eqb (f .number) 0) (f .number) (f .detail)))
     (givenLine (heldAnswer s A R C L U y)))
 
-pub record StagedReady (s : Stages) (A : Compressed) (R C : List ℕ) (L U : Compressed) (y out w : List ℕ) : Type 0 where
-  pub countable : Countable s
+pub record AskStagedReady (s : Stages) (A : Compressed) (R C : List ℕ) (L U : Compressed) (y out w : List ℕ) : Type 0 where
+  pub countable : RowCountable s
   pub fits : s .reading .number ≡ 0 → Fits s A R C L U
   pub rows-small : s .reading .number ≡ 0 → s .reading .n ≤ largestSize
   pub columns-small : s .reading .number ≡ 0 → s .reading .m ≤ largestSize

@@ -5,7 +5,7 @@ ghost use Rattle.byte_buffer.specs.Stored.{Fills};
 ghost use Rattle.sparse.specs.Matrix.{compressed};
 ghost use Rattle.ask_lib.specs.Asking.{AskLists, Asks};
 ghost use Rattle.print_text.specs.Printed.{Prints};
-ghost use Rattle.ask_lib.specs.Held.{lineOf, LineReady, heldAnswer, Answerable, AnswerHeld, Countable, stagesRefusal, stagedLine, StagedReady};
+ghost use Rattle.ask_lib.specs.Held.{answerLineOf, LineReady, heldAnswer, Answerable, AnswerHeld, RowCountable, stagesRefusal, stagedLine, AskStagedReady};
 use call_answer::Answer;
 use call_answer::from_factors::answer_from_factors;
 use lists::Outcome;
@@ -18,7 +18,7 @@ use stages::factor_text;
 // Writes the line of an answer: of a refusal, whose index counts from 1 in print, or the verdict with the n values of x or the m of z.
 fn write_line(answer: Answer, n: u32, m: u32, xs: &[u32], zs: &[u32], out: &mut [u8]) -> usize
     requires { ⌜ LineReady answer n m (now xs) (now zs) (now out) ⌝ }
-    ensures { λ size. ⌜ Fills (now (out .entry)) (now (out .exit)) size (lineOf answer (take n (now (xs .entry))) (take m (now (zs .entry)))) ⌝ }
+    ensures { λ size. ⌜ Fills (now (out .entry)) (now (out .exit)) size (answerLineOf answer (take n (now (xs .entry))) (take m (now (zs .entry)))) ⌝ }
 {
     let x = &xs[..n as usize];
     let z = &zs[..m as usize];
@@ -34,7 +34,7 @@ fn write_line(answer: Answer, n: u32, m: u32, xs: &[u32], zs: &[u32], out: &mut 
 
 // The refusal that the stages ended with, if any, as it is printed: a row counts from 1.
 fn refusal(s: Stages) -> Outcome
-    requires { ⌜ Countable s ⌝ }
+    requires { ⌜ RowCountable s ⌝ }
     ensures { λ o. ⌜ o ≡ stagesRefusal s ⌝ }
 {
     if s.reading.number != 0 {
@@ -116,7 +116,7 @@ fn ask_staged(
     out: &mut [u8],
     work: &mut [u64],
 ) -> usize
-    requires { ⌜ StagedReady s (compressed (now starts) (now columns) (now values)) (now rows) (now cols) (compressed (now ls) (now lc) (now lv)) (compressed (now us) (now uc) (now uv)) (now y) (now out) (now work) ⌝ }
+    requires { ⌜ AskStagedReady s (compressed (now starts) (now columns) (now values)) (now rows) (now cols) (compressed (now ls) (now lc) (now lv)) (compressed (now us) (now uc) (now uv)) (now y) (now out) (now work) ⌝ }
     ensures { λ size. ⌜ Prints (stagedLine s (compressed (now (starts .entry)) (now (columns .entry)) (now (values .entry))) (now (rows .entry)) (now (cols .entry)) (compressed (now (ls .entry)) (now (lc .entry)) (now (lv .entry))) (compressed (now (us .entry)) (now (uc .entry)) (now (uv .entry))) (now (y .entry))) size (now (out .entry)) (now (out .exit)) (now (work .entry)) (now (work .exit)) ⌝ }
 {
     let refused = refusal(s);

@@ -8,7 +8,7 @@
 --   given o a                     a refusal with no list, or the answer a
 --   answerFactorsOf ..            the answer from stored factors
 --   answerCertificateOf ..        the answer from a certificate
---   PartsReady ..                 what the answer from the parts of a certificate needs
+--   AnswerPartsReady ..                 what the answer from the parts of a certificate needs
 --   Answers g r x₀ x z₀ z w₀ w    the contract of such a call: its result, every cell of x and z, and the working row left all zero
 use Prim.Native.Nat.{ℕ}
 use mathlib.Core.Path.{_≡_}
@@ -83,6 +83,6 @@ pub record Answers (g : Given) (r : Answer) (x₀ x z₀ z w₀ w : List ℕ) : 
   pub z-is : z ≡ filled (length z₀) (g .z)
   pub cleared : w ≡ zeros (length w₀)
 
-pub record PartsReady (p n m : ℕ) (cert y x z w : List ℕ) : Type 0 where
+pub record AnswerPartsReady (p n m : ℕ) (cert y x z w : List ℕ) : Type 0 where
   pub long : length cert ≡ placesIn n m cert .end
   pub ready : AnswerReady p (setOfCertificate n m cert) y x z w

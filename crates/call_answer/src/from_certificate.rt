@@ -6,7 +6,7 @@ ghost use Rattle.row_space.specs.Solve.{solve};
 ghost use Rattle.answer_question.specs.Answering.{Answered};
 ghost use Rattle.certificate.specs.Reading.{setOfCertificate};
 ghost use Rattle.call_check.specs.Calls.{checkCertificateOf, Checks};
-ghost use Rattle.call_answer.specs.Calls.{questionAfter, answerCertificateOf, PartsReady, Answers};
+ghost use Rattle.call_answer.specs.Calls.{questionAfter, answerCertificateOf, AnswerPartsReady, Answers};
 use crate::Answer;
 use crate::answer_of;
 use crate::question::question_lengths;
@@ -59,7 +59,7 @@ fn answer_parts(
     z: &mut [u32],
     work: &mut [u64],
 ) -> Verdict
-    requires { ⌜ PartsReady (q .p) n m (now cert) (now y) (now x) (now z) (now work) ⌝ }
+    requires { ⌜ AnswerPartsReady (q .p) n m (now cert) (now y) (now x) (now z) (now work) ⌝ }
     ensures { λ v. ⌜ Answered (solve (q .p) (length (now (x .entry))) (length (now (z .entry))) (setOfCertificate n m (now (cert .entry))) (vector (now (y .entry)))) v (now (x .exit)) (now (z .exit)) (now (work .exit)) ⌝ }
 {
     let places = places_in(cert, n, m);

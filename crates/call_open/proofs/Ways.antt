@@ -15,7 +15,7 @@ use Rattle.lists.proofs.Refusals.{fails, holds}
 use Rattle.sparse.specs.Matrix.{Compressed}
 use Rattle.sparse.specs.Set.{Set}
 use Rattle.row_space.specs.Solve.{openColumns}
-use Rattle.answer_open.specs.Opening.{FactorReady, Columns, ColumnsReady, AllColumns}
+use Rattle.answer_open.specs.Opening.{EchelonPassed, ColumnsListed, ColumnsReady, AllColumns}
 use Rattle.answer_open.proofs.AllColumns.{set-factor}
 use Rattle.call_check.specs.Calls.{Checks}
 use Rattle.call_answer.proofs.Checked.{Checked, checked-ready}
@@ -27,7 +27,7 @@ pub columns-ready : (p n m : ℕ) (A : Compressed) (s : Set) (l w : List ℕ) (w
 columns-ready p n m A s l w width long c clear =
     let wide : length w ≡ width = ap length clear ∙ length-zeros width in
     record {
-      factor = subst (FactorReady p (s .r) (s .U) (s .C)) (sym long) (set-factor p n m s (checked-ready p n m A s width c));
+      factor = subst (EchelonPassed p (s .r) (s .U) (s .C)) (sym long) (set-factor p n m s (checked-ready p n m A s width c));
       room = omega (arith, c .room);
       clear = clear ∙ ap zeros (sym wide);
     }
@@ -37,7 +37,7 @@ pub ready-by : (p : ℕ) (s s′ : Set) (l w : List ℕ) → s ≡ s′ → Colu
 ready-by p s s′ l w e h = subst (λ (t : Set). ColumnsReady p (t .r) (t .U) (t .C) l w) (sym e) h
 
 -- the columns of U and C are those of every set that has them
-pub columns-of : (p : ℕ) (s s′ : Set) (b : ℕ) (l w : List ℕ) → s ≡ s′ → length l ≡ b → AllColumns p (s .r) (s .C) (s .U) l w → Columns (openColumns p b s′) l w
+pub columns-of : (p : ℕ) (s s′ : Set) (b : ℕ) (l w : List ℕ) → s ≡ s′ → length l ≡ b → AllColumns p (s .r) (s .C) (s .U) l w → ColumnsListed (openColumns p b s′) l w
 columns-of p s s′ b l w e long a = record { list = a .list (s .R) (s .L) ∙ (λ j. openColumns p (long j) (e j)); row = a .row }
 
 -- the number and the detail follow from the outcome
@@ -52,7 +52,7 @@ module _ (after : Outcome) (cells l₀ l w₀ w : List ℕ) where
       leaves (listed after cells) o l₀ l w₀ w (f ∙ ap (λ (u : Outcome). listed u cells .outcome) same)
       (el ∙ sym (filled-none (length l₀)) ∙ ap (λ (u : Outcome). filled (length l₀) (listed u cells .list)) same) ew
 
-  passed-leaves : Passed ≡ after → length l ≡ length l₀ → length w ≡ length w₀ → Columns cells l w → Lists (listed after cells) Passed l₀ l w₀ w
+  passed-leaves : Passed ≡ after → length l ≡ length l₀ → length w ≡ length w₀ → ColumnsListed cells l w → Lists (listed after cells) Passed l₀ l w₀ w
   passed-leaves e ll lw a =
       leaves (listed after cells) Passed l₀ l w₀ w (ap (λ (u : Outcome). listed u cells .outcome) e)
       (sym (filled-whole (length l₀) l ll) ∙ ap (filled (length l₀)) (a .list) ∙ ap (λ (u : Outcome). filled (length l₀) (listed u cells .list)) e)
@@ -75,7 +75,7 @@ module _ (check : Outcome) (p m : ℕ) (s : Set) (l₀ w₀ : List ℕ) where
     pub refuses : (k d : ℕ) → o ≡ Refused k d → (l : List ℕ) → l ≡ zeros (length l₀) → Lists (listed after (openColumns p m s)) o l₀ l w₀ w₁
     refuses k d f l el = refused-leaves after (openColumns p m s) l₀ l w₀ w₁ o k d f next el (q .cleared)
 
-    pub lists : o ≡ Passed → (l w : List ℕ) → length l ≡ length l₀ → length w ≡ length w₁ → Columns (openColumns p (length l₀) s) l w → Lists (listed after (openColumns p m s)) Passed l₀ l w₀ w
+    pub lists : o ≡ Passed → (l w : List ℕ) → length l ≡ length l₀ → length w ≡ length w₁ → ColumnsListed (openColumns p (length l₀) s) l w → Lists (listed after (openColumns p m s)) Passed l₀ l w₀ w
     lists f l w ll lw a =
         passed-leaves after (openColumns p m s) l₀ l w₀ w (sym f ∙ next) ll (lw ∙ ap length (q .cleared) ∙ length-zeros (length w₀))
-        (subst (λ (b : ℕ). Columns (openColumns p b s) l w) long a)
+        (subst (λ (b : ℕ). ColumnsListed (openColumns p b s) l w) long a)

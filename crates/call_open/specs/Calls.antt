@@ -4,7 +4,7 @@
 --   listed o l                 a refusal with no list, or the list l
 --   openFactorsOf ..           the open columns from stored factors
 --   openCertificateOf ..       the open columns from a certificate
---   PartsReady ..              what the open columns from the parts of a certificate need
+--   OpenPartsReady ..              what the open columns from the parts of a certificate need
 --   Lists g r l₀ l w₀ w        the contract of such a call: its result, with document 01's number and detail, every cell of the list, and the
 --                              working row left all zero
 use Prim.Native.Nat.{ℕ}
@@ -42,7 +42,7 @@ unfoldable pub openCertificateOf : (p n m : ℕ) → Compressed → (cert : List
 openCertificateOf p n m A cert b w =
     listed (columnsAfter (checkCertificateOf p n m A cert w) m b) (openColumns p m (setOfCertificate n m cert))
 
-pub record PartsReady (p n m : ℕ) (cert l w : List ℕ) : Type 0 where
+pub record OpenPartsReady (p n m : ℕ) (cert l w : List ℕ) : Type 0 where
   pub long : length cert ≡ placesIn n m cert .end
   pub ready : let s = setOfCertificate n m cert in ColumnsReady p (s .r) (s .U) (s .C) l w
 

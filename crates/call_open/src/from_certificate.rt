@@ -2,9 +2,9 @@
 ghost use lib.ListN.{length};
 ghost use Rattle.sparse.specs.Matrix.{compressed};
 ghost use Rattle.row_space.specs.Solve.{openColumns};
-ghost use Rattle.answer_open.specs.Opening.{Columns};
+ghost use Rattle.answer_open.specs.Opening.{ColumnsListed};
 ghost use Rattle.certificate.specs.Reading.{setOfCertificate};
-ghost use Rattle.call_open.specs.Calls.{openCertificateOf, PartsReady, Lists};
+ghost use Rattle.call_open.specs.Calls.{openCertificateOf, OpenPartsReady, Lists};
 use certificate::parts::number;
 use certificate::parts::places_in;
 use call_check::from_certificate::check_bytes;
@@ -23,8 +23,8 @@ fn open_columns_of_parts(
     marks: &mut [u32],
     work: &mut [u64],
 )
-    requires { ⌜ PartsReady (q .p) n m (now cert) (now marks) (now work) ⌝ }
-    ensures { λ _. ⌜ Columns (openColumns (q .p) (length (now (marks .entry))) (setOfCertificate n m (now (cert .entry)))) (now (marks .exit)) (now (work .exit)) ⌝ }
+    requires { ⌜ OpenPartsReady (q .p) n m (now cert) (now marks) (now work) ⌝ }
+    ensures { λ _. ⌜ ColumnsListed (openColumns (q .p) (length (now (marks .entry))) (setOfCertificate n m (now (cert .entry)))) (now (marks .exit)) (now (work .exit)) ⌝ }
 {
     let places = places_in(cert, n, m);
     let r = number(cert, 3);

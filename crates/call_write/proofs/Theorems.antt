@@ -30,7 +30,7 @@ use Rattle.call_plan.specs.Limits.{workLength}
 use Rattle.call_plan.specs.Accepted.{GoodPlan}
 use Rattle.call_check.specs.Calls.{checkFactorsOf, checkCertificateOf, Checks}
 use Rattle.call_check.proofs.Theorems.{factors-exactly, factors-numbers, factors-none, certificate-exactly, stored-certificate, bytes-pass}
-use Rattle.call_write.specs.Call.{writeOutcome, kept, WritesCertificate}
+use Rattle.call_write.specs.Call.{writeOutcome, bytesGiven, WritesCertificate}
 use Rattle.call_write.specs.Accepted.{CanWrite}
 use Rattle.call_write.specs.declared.Written.{Written}
 
@@ -88,7 +88,7 @@ module _ (p n m : ℕ) (A : Compressed) (s : Set) (z : Written) (b₀ b w₀ w :
   pub written-bytes : numberOf (z .outcome) ≡ 0 → (b ≡ filled (length b₀) (certificateOf p n m s)) × (z .length ≡ length (certificateOf p n m s))
   written-bytes e =
       let done = passed-exactly .0 e in
-      (call .buffer ∙ ap (λ (o : Outcome). filled (length b₀) (kept o (certificateOf p n m s))) done, call .size ∙ ap (λ (o : Outcome). length (kept o (certificateOf p n m s))) done)
+      (call .buffer ∙ ap (λ (o : Outcome). filled (length b₀) (bytesGiven o (certificateOf p n m s))) done, call .size ∙ ap (λ (o : Outcome). length (bytesGiven o (certificateOf p n m s))) done)
 
   -- the bytes that were written
   pub written-checked : numberOf (z .outcome) ≡ 0 → (r : Outcome) (w₁ w₂ : List ℕ) → Checks (checkCertificateOf p n m A (take (z .length) b) (length w₁)) r w₁ w₂ → length w₁ ≡ workLength → numberOf r ≡ 0
@@ -117,6 +117,6 @@ module _ (p n m : ℕ) (A : Compressed) (s : Set) (z : Written) (b₀ b w₀ w :
       go : (o : Outcome) → outcome ≡ o → (b ≡ zeros (length b₀)) × (z .length ≡ 0)
       go Passed e = absurd (f (passed-exactly .1 e))
       go (Refused k d) e = (
-        call .buffer ∙ ap (λ (o : Outcome). filled (length b₀) (kept o (certificateOf p n m s))) e ∙ filled-none (length b₀),
-        call .size ∙ ap (λ (o : Outcome). length (kept o (certificateOf p n m s))) e,
+        call .buffer ∙ ap (λ (o : Outcome). filled (length b₀) (bytesGiven o (certificateOf p n m s))) e ∙ filled-none (length b₀),
+        call .size ∙ ap (λ (o : Outcome). length (bytesGiven o (certificateOf p n m s))) e,
       )

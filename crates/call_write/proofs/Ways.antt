@@ -22,7 +22,7 @@ use Rattle.certificate.proofs.Counts.{entries-below}
 use Rattle.call_check.specs.Calls.{checkFactorsOf}
 use Rattle.call_check.specs.Passing.{StoredPasses}
 use Rattle.call_check.proofs.Theorems.{factors-exactly}
-use Rattle.call_write.specs.Call.{writeOutcome, kept, WritesCertificate}
+use Rattle.call_write.specs.Call.{writeOutcome, bytesGiven, WritesCertificate}
 use Rattle.call_write.specs.declared.Written.{Written}
 
 module _ (p n m : ℕ) (A : Compressed) (s : Set) (w : ℕ) (h : checkFactorsOf p n m A s w ≡ Passed) where
@@ -47,14 +47,14 @@ written-fits room cert e = go (leb (length cert) room) e
     go true q = refl
     go false q = absurd (let z : _≡_ {A = ℕ} 0 1 = cc in omega arith)
 
-kept-refused : (o : Outcome) (cert : List ℕ) (k d : ℕ) → o ≡ Refused k d → kept o cert ≡ []
-kept-refused o cert k d e = ap (λ (u : Outcome). kept u cert) e
+kept-refused : (o : Outcome) (cert : List ℕ) (k d : ℕ) → o ≡ Refused k d → bytesGiven o cert ≡ []
+kept-refused o cert k d e = ap (λ (u : Outcome). bytesGiven u cert) e
 
 abbrev result : Outcome → ℕ → Written
 result o size = record { outcome = o; length = size }
 
 -- the number and the detail follow from the outcome
-leaves : (o : Outcome) (cert : List ℕ) (r : Written) (b₀ b w₀ w : List ℕ) → r .outcome ≡ o → r .length ≡ length (kept o cert) → b ≡ filled (length b₀) (kept o cert)
+leaves : (o : Outcome) (cert : List ℕ) (r : Written) (b₀ b w₀ w : List ℕ) → r .outcome ≡ o → r .length ≡ length (bytesGiven o cert) → b ≡ filled (length b₀) (bytesGiven o cert)
     → w ≡ zeros (length w₀) → WritesCertificate o cert r b₀ b w₀ w
 leaves o cert r b₀ b w₀ w e size buffer cleared = record { outcome = e; number = ap numberOf e; detail = ap detailOf e; size = size; buffer = buffer; cleared = cleared }
 
@@ -71,7 +71,7 @@ module _ (p n m : ℕ) (A : Compressed) (s : Set) (w₀ w b₀ b : List ℕ) (cl
   -- a refusal leaves the buffer all zero
   none : (o : Outcome) (k d : ℕ) → o ≡ Refused k d → o ≡ whole → b ≡ zeros (length b₀) → WritesCertificate whole cert (result o 0) b₀ b w₀ w
   none o k d f e z =
-      let nothing : kept whole cert ≡ [] = kept-refused whole cert k d (sym e ∙ f) in
+      let nothing : bytesGiven whole cert ≡ [] = kept-refused whole cert k d (sym e ∙ f) in
       leaves whole cert (result o 0) b₀ b w₀ w e (sym (ap length nothing)) (z ∙ sym (ap (filled (length b₀)) nothing ∙ filled-none (length b₀))) cleared
 
   pub refuses : (o : Outcome) (k d : ℕ) → o ≡ Refused k d → o ≡ check → b ≡ zeros (length b₀) → WritesCertificate whole cert (result o 0) b₀ b w₀ w
@@ -95,7 +95,7 @@ module _ (p n m : ℕ) (A : Compressed) (s : Set) (w₀ w b₀ b : List ℕ) (cl
     done z =
         let room : roomFor (length b₀) cert ≡ Passed = written-passed p n m (length b₀) s (λ q. z (r .size-is ∙ q)) in
         let all : Passed ≡ whole = passed o check (roomFor (length b₀) cert) Passed f e (sym room) in
-        let same : written (length b₀) cert ≡ kept whole cert = fits room ∙ ap (λ (u : Outcome). kept u cert) all in
+        let same : written (length b₀) cert ≡ bytesGiven whole cert = fits room ∙ ap (λ (u : Outcome). bytesGiven u cert) all in
         leaves whole cert (result Passed size) b₀ b w₀ w all (r .size-is ∙ ap length same) (r .buffer-is ∙ ap (filled (length b₀)) same) cleared
       where
         fits : roomFor (length b₀) cert ≡ Passed → written (length b₀) cert ≡ cert

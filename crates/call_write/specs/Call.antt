@@ -1,6 +1,6 @@
 -- The call that writes a certificate: the check of the stored factors first, a buffer that is too short last.
 --   writeOutcome ..          9, 1, 2, 8, 11 to 14, then 9 for the buffer
---   kept o cert              what the buffer is given: the certificate where the outcome is passed, else nothing
+--   bytesGiven o cert              what the buffer is given: the certificate where the outcome is passed, else nothing
 --   WritesCertificate ..     the contract: outcome with document 01's number and detail, length, every byte of the buffer, and the working row
 --                            left all zero
 use Prim.Native.Nat.{ℕ}
@@ -21,14 +21,14 @@ use Rattle.call_write.specs.declared.Written.{Written}
 unfoldable pub writeOutcome : (p n m : ℕ) → Compressed → Set → (w room : ℕ) → Outcome
 writeOutcome p n m A s w room = checkFactorsOf p n m A s w ▷ roomFor room (certificateOf p n m s)
 
-abbrev pub kept : Outcome → List ℕ → List ℕ
-kept Passed cert = cert
-kept (Refused number detail) cert = []
+abbrev pub bytesGiven : Outcome → List ℕ → List ℕ
+bytesGiven Passed cert = cert
+bytesGiven (Refused number detail) cert = []
 
 pub record WritesCertificate (o : Outcome) (cert : List ℕ) (r : Written) (b₀ b w₀ w : List ℕ) : Type 0 where
   pub outcome : r .outcome ≡ o
   pub number : numberOf (r .outcome) ≡ numberOf o
   pub detail : detailOf (r .outcome) ≡ detailOf o
-  pub size : r .length ≡ length (kept o cert)
-  pub buffer : b ≡ filled (length b₀) (kept o cert)
+  pub size : r .length ≡ length (bytesGiven o cert)
+  pub buffer : b ≡ filled (length b₀) (bytesGiven o cert)
   pub cleared : w ≡ zeros (length w₀)

@@ -33,8 +33,8 @@ use Rattle.row_space.specs.Solve.{lowest, solve}
 use Rattle.row_space.specs.declared.Verdict.the-variants.{Open, Closed}
 use Rattle.elimination.specs.Structural.{leads, prefer, chosen, leading}
 use Rattle.elimination.specs.Chains.{chain, closes}
-use Rattle.elimination.specs.Selection.{pairAt, lower as lowerOf, without, unfit, extended, extendedTo, free, lowest as lowestOf, ordered, selected, structural}
-use Rattle.elimination.specs.Pivots.{columnsOf, uppersOf, coefficients, withPivot, withDependent, placed, turn, turns}
+use Rattle.elimination.specs.Selection.{pairAt, lowerPair as lowerOf, without, unfit, extended, extendedTo, free, lowest as lowestOf, ordered, selected, structural}
+use Rattle.elimination.specs.Pivots.{columnsOf, uppersOf, coefficients, withPivot, withDependent, placedRow, turn, turns}
 use Rattle.elimination.specs.Members.{isIn}
 use Rattle.elimination.specs.Factoring.{rest, schedule, rowsOf, lowersOf, factored, factorFrom, factor}
 use Rattle.elimination.proofs.Theorem.{factor-rank}
@@ -95,7 +95,7 @@ unfolding isPrime dividedBelow
 two = true-prime 2 refl
 
 pub table : Table
-unfolding zeros tabulate all first sum dot δ place reduced invMod inverseBelow startsFrom starts risesFrom rowsFrom values wellFormed weigh columnsFrom nonzeros startsAfter allColumns allValues compress among below distinct permutation lowerRow lower upperRow upper agrees productOutcome judgeFactors judge backL backU lowest solve leads prefer chosen leading chain closes lowerOf without unfit extended extendedTo free lowestOf ordered selected structural columnsOf uppersOf coefficients withPivot withDependent placed turn turns isIn rest schedule rowsOf lowersOf factored factorFrom factor words bytes mark version factorNumbers numbersOf certificateOf placesOf field setIn setOfCertificate begins lengthOk sizesOk headerOk isPrime dividedBelow isModulus planLengths setLengths limitsOk planOutcome certificateOutcome checkCertificateOf
+unfolding zeros tabulate all first sum dot δ place reduced invMod inverseBelow startsFrom starts risesFrom rowsFrom values wellFormed weigh columnsFrom nonzeros startsAfter allColumns allValues compress among below distinct permutation lowerRow lower upperRow upper agrees productOutcome judgeFactors judge backL backU lowest solve leads prefer chosen leading chain closes lowerOf without unfit extended extendedTo free lowestOf ordered selected structural columnsOf uppersOf coefficients withPivot withDependent placedRow turn turns isIn rest schedule rowsOf lowersOf factored factorFrom factor words bytes mark version factorNumbers numbersOf certificateOf placesOf field setIn setOfCertificate begins lengthOk sizesOk headerOk isPrime dividedBelow isModulus planLengths setLengths limitsOk planOutcome certificateOutcome checkCertificateOf
 table =
     record {
       empty-rank = factor-rank 7 0 0 silent seven refl refl;

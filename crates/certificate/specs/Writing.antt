@@ -3,7 +3,7 @@
 --   written n cert            what a buffer of n bytes is given: the certificate, or nothing where it is refused
 --   Writes cert b₀ b size     the contract of writing: the length returned, and every byte of the buffer
 --   Writable n m s            a set that can be written: its lists have their lengths, and the entry counts are 32-bit numbers
---   Room p n m s b            such a set, and a buffer that holds its certificate
+--   CertificateRoom p n m s b            such a set, and a buffer that holds its certificate
 use Prim.Native.Nat.{ℕ, _≤_, _<_, _^_}
 use mathlib.Core.Bool.{cond}
 use mathlib.Core.List.{List, []}
@@ -32,6 +32,6 @@ pub record Writable (n m : ℕ) (s : Set) : Type 0 where
   pub lcount : length (s .L .cols) < 2 ^ 32
   pub ucount : length (s .U .cols) < 2 ^ 32
 
-pub record Room (p n m : ℕ) (s : Set) (b : List ℕ) : Type 0 where
+pub record CertificateRoom (p n m : ℕ) (s : Set) (b : List ℕ) : Type 0 where
   pub writable : Writable n m s
   pub room : length (certificateOf p n m s) ≤ length b

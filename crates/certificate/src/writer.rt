@@ -8,7 +8,7 @@ ghost use Rattle.sparse.specs.Matrix.{compressed};
 ghost use Rattle.sparse.specs.Set.{setOf};
 ghost use Rattle.byte_buffer.specs.Stored.{Stored};
 ghost use Rattle.certificate.specs.Layout.{bytes, mark, version, headerNumbers, factorNumbers, certificateOf};
-ghost use Rattle.certificate.specs.Writing.{Writes, Writable, Room};
+ghost use Rattle.certificate.specs.Writing.{Writes, Writable, CertificateRoom};
 use crate::parts::places_of;
 use byte_buffer::put_bytes;
 use lists::clear_bytes;
@@ -76,7 +76,7 @@ fn put_certificate(
     uvals: &[u32],
     buffer: &mut [u8],
 ) -> usize
-    requires { ⌜ Room p n m (setOf r (now rows) (now cols) (compressed (now lstarts) (now lcols) (now lvals)) (compressed (now ustarts) (now ucols) (now uvals))) (now buffer) ⌝ }
+    requires { ⌜ CertificateRoom p n m (setOf r (now rows) (now cols) (compressed (now lstarts) (now lcols) (now lvals)) (compressed (now ustarts) (now ucols) (now uvals))) (now buffer) ⌝ }
     ensures { λ z. ⌜ Stored (now (buffer .entry)) (now (buffer .exit)) 0 z (certificateOf p n m (setOf r (now (rows .entry)) (now (cols .entry)) (compressed (now (lstarts .entry)) (now (lcols .entry)) (now (lvals .entry))) (compressed (now (ustarts .entry)) (now (ucols .entry)) (now (uvals .entry))))) ⌝ }
 {
     let after_header = put_header(p, n, m, r, lcols.len() as u32, ucols.len() as u32, buffer);

@@ -2,7 +2,7 @@
 --   clean w cols            the cells of these columns are all 0: none of them is marked
 --   Rows p width r h        a matrix of width columns and at least r rows
 --   AtRow p k h w           row k of a matrix with as many columns as the working row has cells
---   Columns p r h C w       rows of such a matrix, their pivot columns, and a working row that is all zero
+--   ColumnsTestable p r h C w       rows of such a matrix, their pivot columns, and a working row that is all zero
 use Prim.Native.Nat.{ℕ, _+_, _≤_, _<_}
 use mathlib.Core.Path.{_≡_}
 use mathlib.Core.Bool.{Bool, true, _&&_}
@@ -25,7 +25,7 @@ pub record AtRow (p k : ℕ) (h : Compressed) (w : List ℕ) : Type 0 where
   pub formed : form p (length w) h ≡ true
   pub inside : k + 1 < length (h .starts)
 
-pub record Columns (p r : ℕ) (h : Compressed) (C w : List ℕ) : Type 0 where
+pub record ColumnsTestable (p r : ℕ) (h : Compressed) (C w : List ℕ) : Type 0 where
   pub formed : form p (length w) h ≡ true
   pub many : r < length (h .starts)
   pub order : r ≤ length C

@@ -10,7 +10,7 @@ ghost use Rattle.sparse.specs.Words.{view};
 ghost use Rattle.sparse.specs.Row.{entry, Row};
 ghost use Rattle.sparse.specs.Matrix.{viewed, matrix, rowOf};
 ghost use Rattle.pluq.specs.Shape.{upper};
-ghost use Rattle.check_shape.specs.Needs.{clean, AtRow, Columns};
+ghost use Rattle.check_shape.specs.Needs.{clean, AtRow, ColumnsTestable};
 use lists::clear_row;
 use lists::index;
 use sparse::words::word;
@@ -95,7 +95,7 @@ fn upper_rows(
     r: usize,
     work: &mut [u64],
 ) -> bool
-    requires { ⌜ Columns p r (viewed (now ss) (now sb) (now cols) (now cb) (now vals) (now vb)) (view (now co) (now cob)) (now work) ⌝ }
+    requires { ⌜ ColumnsTestable p r (viewed (now ss) (now sb) (now cols) (now cb) (now vals) (now vb)) (view (now co) (now cob)) (now work) ⌝ }
     ensures { λ z. ⌜ (z ≡ upper r (vector (view (now (co .entry)) (now (cob .entry)))) (matrix (viewed (now (ss .entry)) (now (sb .entry)) (now (cols .entry)) (now (cb .entry)) (now (vals .entry)) (now (vb .entry))))) × (length (now (work .exit)) ≡ length (now (work .entry))) ⌝ }
 {
     let mut k = 0;
@@ -125,7 +125,7 @@ pub fn upper_ok(
     r: usize,
     work: &mut [u64],
 ) -> bool
-    requires { ⌜ Columns p r (viewed (now ss) (now sb) (now cols) (now cb) (now vals) (now vb)) (view (now co) (now cob)) (now work) ⌝ }
+    requires { ⌜ ColumnsTestable p r (viewed (now ss) (now sb) (now cols) (now cb) (now vals) (now vb)) (view (now co) (now cob)) (now work) ⌝ }
     ensures { λ z. ⌜ (z ≡ upper r (vector (view (now (co .entry)) (now (cob .entry)))) (matrix (viewed (now (ss .entry)) (now (sb .entry)) (now (cols .entry)) (now (cb .entry)) (now (vals .entry)) (now (vb .entry))))) × (now (work .exit) ≡ now (work .entry)) ⌝ }
 {
     let ok = upper_rows(ss, sb, cols, cb, vals, vb, co, cob, p, r, work);

@@ -20,7 +20,7 @@ use Rattle.sparse.specs.Dense.{columnsFrom, nonzeros, compress}
 use Rattle.sparse.proofs.DenseLaws.{values-same, columns-same, compress-same}
 use Rattle.elimination.specs.Structural.{Pair}
 use Rattle.elimination.specs.Pairs.{Pairs}
-use Rattle.elimination.specs.Pivots.{Found, columnsOf, uppersOf, upper, rankOf, reducedBy, coefficients, turns}
+use Rattle.elimination.specs.Pivots.{Found, columnsOf, uppersOf, upperOf, rankOf, reducedBy, coefficients, turns}
 use Rattle.elimination.specs.Factoring.{schedule, nothing, rowsOf, lowersOf, factored, factorFrom}
 use Rattle.elimination.proofs.Echelon.{cells, Echelon}
 use Rattle.elimination.proofs.Invariant.{uppers-many, Lower, Invariant, Remainder}
@@ -64,8 +64,8 @@ module _ (p n m : ℕ) (A : Matrix) (prime : Prime p) (f : Found) (v : Invariant
 
   -- both combine the row at the pivot columns, where nothing remains
   both : (l : ℕ) → l < length (uppersOf f)
-      → dot (length (uppersOf f)) (vector ls) (λ k. upper f k (getD (columnsOf f) l 0))
-      ≈⟨ p ⟩ dot (length (uppersOf f)) (vector (coefficients p f (A i))) (λ k. upper f k (getD (columnsOf f) l 0))
+      → dot (length (uppersOf f)) (vector ls) (λ k. upperOf f k (getD (columnsOf f) l 0))
+      ≈⟨ p ⟩ dot (length (uppersOf f)) (vector (coefficients p f (A i))) (λ k. upperOf f k (getD (columnsOf f) l 0))
   both l b =
       let c = v .echelon .rows l b .inside in
       turn (h .product (getD (columnsOf f) l 0) c) ⊙ remainder .split (getD (columnsOf f) l 0) c ⊙ exact (omega (arith, remainder .clear l b))
@@ -76,7 +76,7 @@ module _ (p n m : ℕ) (A : Matrix) (prime : Prime p) (f : Found) (v : Invariant
       go : Dec (k < length (uppersOf f)) → getD ls k 0 ≡ getD (coefficients p f (A i)) k 0
       go (yes b) =
           equal-residues (h .residues k) (coefficient-residue p n m A prime f v i small k)
-          (combination-unique p (length (uppersOf f)) prime (λ k l. upper f k (getD (columnsOf f) l 0)) (echelon-triangular p m prime (columnsOf f) (uppersOf f) (v .echelon)) (vector ls) (vector (coefficients p f (A i))) both k b)
+          (combination-unique p (length (uppersOf f)) prime (λ k l. upperOf f k (getD (columnsOf f) l 0)) (echelon-triangular p m prime (columnsOf f) (uppersOf f) (v .echelon)) (vector ls) (vector (coefficients p f (A i))) both k b)
       go (no b) =
           List·getD-eq-default ls 0 {n = k} (omega (arith, h .narrow))
           ∙ sym (List·getD-eq-default (coefficients p f (A i)) 0 {n = k} (omega (arith, remainder .long)))

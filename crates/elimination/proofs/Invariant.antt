@@ -13,7 +13,7 @@ use Rattle.algebra.specs.Prime.{Prime}
 use Rattle.algebra.specs.Matrix.{Vector, Matrix, vector}
 use Rattle.algebra.proofs.Congruence.{exact, turn, _⊙_, _⊕_, same-refl}
 use Rattle.residue.specs.Inverse.{invMod}
-use Rattle.elimination.specs.Pivots.{Pivot, Dependent, Found, columnsOf, uppersOf, upper, rankOf, withPivot, withDependent}
+use Rattle.elimination.specs.Pivots.{Pivot, Dependent, Found, columnsOf, uppersOf, upperOf, rankOf, withPivot, withDependent}
 use Rattle.elimination.specs.Factoring.{nothing}
 use Rattle.elimination.proofs.Listed.{snoc-length, snoc-each, map-append}
 use Rattle.elimination.proofs.Echelon.{cells, Echelon, echelon-more, scaled-row, scaled-back, combination-more, combination-last}
@@ -84,7 +84,7 @@ module _ (p n m : ℕ) (A : Matrix) where
     pub residues : (k : ℕ) → getD ls k 0 < p
     pub small : (j : ℕ) → j < m → w j < p
     pub clear : (k : ℕ) → k < length (uppersOf f) → w (getD (columnsOf f) k 0) ≡ 0
-    pub split : (j : ℕ) → j < m → A i j ≈⟨ p ⟩ w j + dot (length (uppersOf f)) (vector ls) (λ k. upper f k j)
+    pub split : (j : ℕ) → j < m → A i j ≈⟨ p ⟩ w j + dot (length (uppersOf f)) (vector ls) (λ k. upperOf f k j)
 
   -- nothing remains: the row is dependent
   pub dependent-holds : (f : Found) (i : ℕ) (ls : List ℕ) (w : Vector) → Invariant f → Remainder f i ls w → ((j : ℕ) → j < m → w j ≡ 0) → Invariant (withDependent f i ls)
@@ -134,7 +134,7 @@ module _ (p n m : ℕ) (A : Matrix) where
           residues = λ k. small-more k (decLt k (length (ls ++ (w c ∷ []))));
           product = λ j l.
               h .split j l
-              ⊙ turn (scaled-back prime m w (h .small) c inside here j l) ⊕ same-refl (dot (length (uppersOf f)) (vector ls) (λ k. upper f k j))
+              ⊙ turn (scaled-back prime m w (h .small) c inside here j l) ⊕ same-refl (dot (length (uppersOf f)) (vector ls) (λ k. upperOf f k j))
               ⊙ exact (omega (arith, combination-last ls (w c) (uppersOf f) u j (h .long)));
         }
       where

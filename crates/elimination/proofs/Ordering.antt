@@ -19,7 +19,7 @@ use Rattle.lists.proofs.Bools.{and-both, and-left, and-right}
 use Rattle.elimination.specs.Structural.{Pair}
 use Rattle.elimination.proofs.Pairs.{noPair}
 use Rattle.elimination.specs.Members.{In}
-use Rattle.elimination.specs.Selection.{lower, without, free, lowest, ordered, Free, Next, Obeys, Apart, Ordering}
+use Rattle.elimination.specs.Selection.{lowerPair, without, free, lowest, ordered, Free, Next, Obeys, Apart, Ordering}
 use Rattle.elimination.proofs.Members.{in-at, apart-same}
 
 -- ---- without one row
@@ -120,8 +120,8 @@ module _ (has : ℕ → ℕ → Bool) where
         go b (inl s) f = absurd (true≢false (sym f ∙ ap (free has ws) s ∙ e))
         go b (inr m) f = h .least b m f
 
-    lowest-taken : (o : Option Pair) → free has ws q ≡ true → Lowest ws qs o → Lowest ws (q ∷ qs) (lower q o)
-    unfolding lower In
+    lowest-taken : (o : Option Pair) → free has ws q ≡ true → Lowest ws qs o → Lowest ws (q ∷ qs) (lowerPair q o)
+    unfolding lowerPair In
     lowest-taken none e h = record { inside = inl refl; isFree = e; least = go }
       where
         go : (b : Pair) → (b ≡ q) ⊎ In b qs → free has ws b ≡ true → q .row ≤ b .row
@@ -146,7 +146,7 @@ module _ (has : ℕ → ℕ → Bool) where
   lowest-right ws [] = λ b m. absurd m
   lowest-right ws (q ∷ qs) = go (free has ws q) refl (lowest-right ws qs)
     where
-      go : (t : Bool) → free has ws q ≡ t → Lowest ws qs (lowest has ws qs) → Lowest ws (q ∷ qs) (cond t (lower q (lowest has ws qs)) (lowest has ws qs))
+      go : (t : Bool) → free has ws q ≡ t → Lowest ws qs (lowest has ws qs) → Lowest ws (q ∷ qs) (cond t (lowerPair q (lowest has ws qs)) (lowest has ws qs))
       go true e ih = lowest-taken ws q qs (lowest has ws qs) e ih
       go false e ih = lowest-passed ws q qs (lowest has ws qs) e ih
 

@@ -19,13 +19,13 @@ use Rattle.algebra.proofs.Congruence.{exact, _⊙_}
 use Rattle.algebra.proofs.Dot.{dot-vanish, dot-eq}
 use Rattle.algebra.proofs.Reduction.{taken, reduced-small, reduced-split, reduced-pivot}
 use Rattle.elimination.specs.Structural.{Pair}
-use Rattle.elimination.specs.Pivots.{Found, columnsOf, uppersOf, upper, rankOf, reducedBy, coefficients, withPivot, withDependent, placed, pair, other, turn}
+use Rattle.elimination.specs.Pivots.{Found, columnsOf, uppersOf, upperOf, rankOf, reducedBy, coefficients, withPivot, withDependent, placedRow, pair, other, turn}
 use Rattle.elimination.proofs.Invariant.{uppers-many, Invariant, Remainder, dependent-holds, pivot-holds}
 
 -- another row becomes a dependent row or a pivot row
 pub other-either : (p m : ℕ) (A : Matrix) (f : Found) (i : ℕ) (P : Found → Type 0) → P (withDependent f i (coefficients p f (A i)))
     → ((c : ℕ) → P (withPivot p m f i c (coefficients p f (A i)) (reducedBy p f (rankOf f) (A i)))) → P (turn p m A f (other i))
-unfolding turn placed
+unfolding turn placedRow
 other-either p m A f i P dependent pivot = go (leb m c)
   where
     c : ℕ
@@ -48,7 +48,7 @@ module _ (p n m : ℕ) (A : Matrix) (prime : Prime p) (f : Found) (v : Invariant
   remains = reducedBy p f (rankOf f) (A i)
 
   abbrev multiples : Vector
-  multiples = taken p pos m (rankOf f) (vector (columnsOf f)) (upper f) inside (A i) small
+  multiples = taken p pos m (rankOf f) (vector (columnsOf f)) (upperOf f) inside (A i) small
 
   pub coefficient-at : (k : ℕ) → k < rankOf f → getD (coefficients p f (A i)) k 0 ≡ reducedBy p f k (A i) (getD (columnsOf f) k 0)
   unfolding coefficients
@@ -62,7 +62,7 @@ module _ (p n m : ℕ) (A : Matrix) (prime : Prime p) (f : Found) (v : Invariant
   coefficient-residue k = go (decLt k (rankOf f))
     where
       go : Dec (k < rankOf f) → getD (coefficients p f (A i)) k 0 < p
-      go (yes h) = rw (coefficient-at k h) (reduced-small p pos m (rankOf f) (vector (columnsOf f)) (upper f) inside (A i) small k (vector (columnsOf f) k) (inside k h))
+      go (yes h) = rw (coefficient-at k h) (reduced-small p pos m (rankOf f) (vector (columnsOf f)) (upperOf f) inside (A i) small k (vector (columnsOf f) k) (inside k h))
       go (no h) = omega (arith, pos, List·getD-eq-default (coefficients p f (A i)) 0 {n = k} (omega (arith, coefficients-long)))
 
   pub reduced-remainder : i < n → Remainder p n m A f i (coefficients p f (A i)) remains
@@ -72,26 +72,26 @@ module _ (p n m : ℕ) (A : Matrix) (prime : Prime p) (f : Found) (v : Invariant
         row = row;
         long = coefficients-long ∙ sym (uppers-many f);
         residues = coefficient-residue;
-        small = reduced-small p pos m (rankOf f) (vector (columnsOf f)) (upper f) inside (A i) small (rankOf f);
-        clear = λ k h. reduced-pivot p pos m (rankOf f) (vector (columnsOf f)) (upper f) inside (A i) small
+        small = reduced-small p pos m (rankOf f) (vector (columnsOf f)) (upperOf f) inside (A i) small (rankOf f);
+        clear = λ k h. reduced-pivot p pos m (rankOf f) (vector (columnsOf f)) (upperOf f) inside (A i) small
             (λ k j l b. v .echelon .rows k (omega (arith, uppers-many f)) .left j l)
             (λ k b. v .echelon .rows k (omega (arith, uppers-many f)) .unit)
             k (omega (arith, uppers-many f));
         split = λ j l.
-            reduced-split p pos m (rankOf f) (vector (columnsOf f)) (upper f) inside (A i) small (rankOf f) (omega arith) j
+            reduced-split p pos m (rankOf f) (vector (columnsOf f)) (upperOf f) inside (A i) small (rankOf f) (omega arith) j
             ⊙ exact (ap (λ (x : ℕ). remains j + x) (whole j));
       }
     where
-      whole : (j : ℕ) → dot (rankOf f) multiples (λ k. upper f k j) ≡ dot (length (uppersOf f)) (vector (coefficients p f (A i))) (λ k. upper f k j)
+      whole : (j : ℕ) → dot (rankOf f) multiples (λ k. upperOf f k j) ≡ dot (length (uppersOf f)) (vector (coefficients p f (A i))) (λ k. upperOf f k j)
       whole j =
-          dot-eq (rankOf f) {u = multiples} {u′ = vector (coefficients p f (A i))} {v = λ k. upper f k j} (λ k h. sym (coefficient-at k h)) (λ k h. refl)
-          ∙ ap (λ (r : ℕ). dot r (vector (coefficients p f (A i))) (λ k. upper f k j)) (sym (uppers-many f))
+          dot-eq (rankOf f) {u = multiples} {u′ = vector (coefficients p f (A i))} {v = λ k. upperOf f k j} (λ k h. sym (coefficient-at k h)) (λ k h. refl)
+          ∙ ap (λ (r : ℕ). dot r (vector (coefficients p f (A i))) (λ k. upperOf f k j)) (sym (uppers-many f))
 
 -- ---- the two turns
 
 module _ (p n m : ℕ) (A : Matrix) (prime : Prime p) (small : (i j : ℕ) → i < n → j < m → A i j < p) (f : Found) (v : Invariant p n m A f) where
   pub other-holds : (i : ℕ) → i < n → Invariant p n m A (turn p m A f (other i))
-  unfolding turn placed
+  unfolding turn placedRow
   other-holds i row = go (leb m c) refl
     where
       w : Vector
@@ -124,5 +124,5 @@ module _ (p n m : ℕ) (A : Matrix) (prime : Prime p) (small : (i j : ℕ) → i
             residues = λ k. omega (arith, zeros-at (rankOf f) k, prime .two);
             small = λ j l. small (q .row) j row l;
             clear = λ k b. clear k (omega (arith, uppers-many f));
-            split = λ j l. exact (omega (arith, dot-vanish (length (uppersOf f)) {u = vector (zeros (rankOf f))} (λ k. upper f k j) (λ k b. zeros-at (rankOf f) k)));
+            split = λ j l. exact (omega (arith, dot-vanish (length (uppersOf f)) {u = vector (zeros (rankOf f))} (λ k. upperOf f k j) (λ k b. zeros-at (rankOf f) k)));
           }

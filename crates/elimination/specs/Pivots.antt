@@ -2,12 +2,12 @@
 --   Pivot              a pivot: its row and column, its row of L up to the diagonal, and its row of U
 --   Dependent          a row that is a combination of the pivot rows before it, and its row of L
 --   Found              what is found so far, in order
---   columnsOf, upper   the pivot columns, and the rows of U as a matrix
+--   columnsOf, upperOf   the pivot columns, and the rows of U as a matrix
 --   uppersOf, rankOf   the rows of U as dense rows, and how many there are
 --   reducedBy p f k y  y less multiples of the first k rows of U
 --   coefficients       the multiples that were taken away, one for each pivot
 --   withPivot, withDependent   what is found, and one pivot row or one dependent row more
---   placed             a row by its remainder: dependent where that is zero, else a pivot row
+--   placedRow             a row by its remainder: dependent where that is zero, else a pivot row
 --   Turn               what is done next: a structural pivot, or another row
 --   turn p m A f t     what is found after that
 --   turns              the same of a list of turns, in order
@@ -45,15 +45,15 @@ unfoldable pub uppersOf : Found → List (List ℕ)
 uppersOf f = map (λ q. q .upper) (f .pivots)
 
 -- the rows of U found so far, as a matrix
-abbrev pub upper : Found → Matrix
-upper f = λ k j. getD (getD (uppersOf f) k []) j 0
+abbrev pub upperOf : Found → Matrix
+upperOf f = λ k j. getD (getD (uppersOf f) k []) j 0
 
 abbrev pub rankOf : Found → ℕ
 rankOf f = length (f .pivots)
 
 -- y less multiples of the first k rows of U (document 01: reduced by the U rows found so far, in order)
 abbrev pub reducedBy : ℕ → Found → ℕ → Vector → Vector
-reducedBy p f k y = reduced p (vector (columnsOf f)) (upper f) k y
+reducedBy p f k y = reduced p (vector (columnsOf f)) (upperOf f) k y
 
 -- the multiples that were taken away, one for each pivot
 unfoldable pub coefficients : ℕ → Found → Vector → List ℕ
@@ -71,8 +71,8 @@ unfoldable pub withDependent : Found → ℕ → List ℕ → Found
 withDependent f i cs = record { pivots = f .pivots; dependents = f .dependents ++ (record { row = i; lower = cs } ∷ []) }
 
 -- row i by its remainder w, of which c is the lowest-numbered column that is not 0, or m where all are 0
-unfoldable pub placed : ℕ → ℕ → Found → ℕ → List ℕ → Vector → ℕ → Found
-placed p m f i cs w c = cond (leb m c) (withDependent f i cs) (withPivot p m f i c cs w)
+unfoldable pub placedRow : ℕ → ℕ → Found → ℕ → List ℕ → Vector → ℕ → Found
+placedRow p m f i cs w c = cond (leb m c) (withDependent f i cs) (withPivot p m f i c cs w)
 
 pub data Turn : Type 0 where
   pair : Pair → Turn
@@ -81,7 +81,7 @@ pub data Turn : Type 0 where
 unfoldable pub turn : (p m : ℕ) (A : Matrix) → Found → Turn → Found
 turn p m A f (pair q) = withPivot p m f (q .row) (q .column) (zeros (rankOf f)) (A (q .row))
 turn p m A f (other i) =
-    placed p m f i (coefficients p f (A i)) (reducedBy p f (rankOf f) (A i)) (first m (λ j. eqb (reducedBy p f (rankOf f) (A i) j) 0))
+    placedRow p m f i (coefficients p f (A i)) (reducedBy p f (rankOf f) (A i)) (first m (λ j. eqb (reducedBy p f (rankOf f) (A i) j) 0))
 
 unfoldable pub turns : (p m : ℕ) (A : Matrix) → Found → List Turn → Found
 turns p m A f [] = f

@@ -6,7 +6,7 @@
 --   extendedTo has m ps n   the same for the rows below n, by number
 --   selected A n m          the pairs of document 01's rule, and those added
 --   free has waiting q      no other waiting row has an entry in q's column
---   lower a o               of the pair a and the choice o the one with the lower row
+--   lowerPair a o               of the pair a and the choice o the one with the lower row
 --   lowest has waiting qs   of the pairs qs that are free the one with the lowest row
 --   without i ps            ps without the pair of row i
 --   ordered has k waiting   k times the lowest-numbered free row, which then waits no more
@@ -41,9 +41,9 @@ nonzero A i j = not (eqb (A i j) 0)
 abbrev pub pairAt : ℕ → ℕ → Pair
 pairAt i c = record { row = i; column = c }
 
-unfoldable pub lower : Pair → Option Pair → Option Pair
-lower a none = some a
-lower a (some b) = cond (leb (a .row) (b .row)) (some a) (some b)
+unfoldable pub lowerPair : Pair → Option Pair → Option Pair
+lowerPair a none = some a
+lowerPair a (some b) = cond (leb (a .row) (b .row)) (some a) (some b)
 
 unfoldable pub without : ℕ → List Pair → List Pair
 without i [] = []
@@ -83,7 +83,7 @@ module _ (has : ℕ → ℕ → Bool) where
 
   unfoldable pub lowest : List Pair → List Pair → Option Pair
   lowest waiting [] = none
-  lowest waiting (q ∷ qs) = let o = lowest waiting qs in cond (free waiting q) (lower q o) o
+  lowest waiting (q ∷ qs) = let o = lowest waiting qs in cond (free waiting q) (lowerPair q o) o
 
   unfoldable pub ordered : ℕ → List Pair → List Pair
   ordered zero waiting = []

@@ -8,7 +8,7 @@ use lib.ListN.{length}
 use Rattle.lists.specs.Filled.{zeros}
 use Rattle.sparse.specs.Matrix.{Compressed}
 use Rattle.factor_turn.specs.Passing.{Cleared}
-use Rattle.factor_passes.specs.Needs.{Lists}
+use Rattle.factor_passes.specs.Needs.{PassLists}
 
 pub record AllClear (R C : List ℕ) (L U : Compressed) (w : List ℕ) : Type 0 where
   pub R-clear : R ≡ zeros (length R)
@@ -18,7 +18,7 @@ pub record AllClear (R C : List ℕ) (L U : Compressed) (w : List ℕ) : Type 0 
   pub w-clear : w ≡ zeros (length w)
 
 pub record FactorReady (p n m : ℕ) (A : Compressed) (R C : List ℕ) (L U : Compressed) (w : List ℕ) : Type 0 where
-  pub lists : Lists p A R C L U w
+  pub lists : PassLists p A R C L U w
   pub n-rows : length R ≡ n
   pub m-columns : length C ≡ m
   pub clear : AllClear R C L U w

@@ -21,10 +21,10 @@ use Rattle.sparse.proofs.Rows.{form-row}
 use Rattle.elimination.specs.Structural.{Pair}
 use Rattle.elimination.specs.Selection.{nonzero, pairAt, leadsTo, degree}
 use Rattle.factor_names.specs.Named.{Named}
-use Rattle.factor_names.specs.Sized.{Sized}
+use Rattle.factor_names.specs.Sized.{SmallMatrix}
 use Rattle.factor_names.proofs.RowEntries.{row-inside, row-has, has-row}
-use Rattle.factor_arrange.specs.Waiting.{waitingTo, waiting, Counted}
-use Rattle.factor_arrange.specs.Needs.{CountReady, RowReady}
+use Rattle.factor_arrange.specs.Waiting.{waitingTo, waiting, DegreesCounted}
+use Rattle.factor_arrange.specs.Needs.{DegreesReady, DegreeRowReady}
 use Rattle.factor_arrange.proofs.Cells.{cell-inside, named}
 use Rattle.factor_arrange.proofs.Waits.{waiting-more, waiting-same, waiting-short}
 
@@ -77,7 +77,7 @@ pub record Passed (has : ℕ → ℕ → Bool) (k : ℕ) (w row : List ℕ) (t :
 pub passed-starts : (has : ℕ → ℕ → Bool) (k : ℕ) (w row degrees : List ℕ) → Passed has k w row 0 degrees degrees
 passed-starts has k w row degrees = record { inside = omega arith; done = λ s i l. absurd (omega arith); rest = λ c i e f. refl }
 
-module _ (p n : ℕ) (A : Compressed) (w v : List ℕ) (z : Sized p n (length w) A) (g : Named A n (length w) n w v) where
+module _ (p n : ℕ) (A : Compressed) (w v : List ℕ) (z : SmallMatrix p n (length w) A) (g : Named A n (length w) n w v) where
   pub named-there : (c i : ℕ) → getD w c 0 ≡ suc i → getD v i 0 ≡ suc c
   named-there c i e = g .by-row .all (pairAt i c) (g .by-column .right c i e)
 
@@ -162,7 +162,7 @@ module _ (p n : ℕ) (A : Compressed) (w v : List ℕ) (z : Sized p n (length w)
 
 -- ---- counting row k
 
-module _ (p n k : ℕ) (A : Compressed) (w v degrees₀ : List ℕ) (s : RowReady p n k A w v degrees₀) where
+module _ (p n k : ℕ) (A : Compressed) (w v degrees₀ : List ℕ) (s : DegreeRowReady p n k A w v degrees₀) where
   -- a pair's degree so far is at most the number of rows passed
   module _ (t x : ℕ) (turn : t < length (rowOf (A .starts) k (A .cols))) (at : x ≡ getD (rowOf (A .starts) k (A .cols)) t 0) (degrees : List ℕ)
       (h : Passed (nonzero (matrix A)) k w (rowOf (A .starts) k (A .cols)) t degrees₀ degrees) where
@@ -193,7 +193,7 @@ module _ (p n k : ℕ) (A : Compressed) (w v degrees₀ : List ℕ) (s : RowRead
         (λ i d. (refl, getD-set-other degrees q i (getD degrees q 0 + 1) 0 d))
 
   pub count-ends : (t : ℕ) (degrees : List ℕ) → length (rowOf (A .starts) k (A .cols)) ≤ t → Passed (nonzero (matrix A)) k w (rowOf (A .starts) k (A .cols)) t degrees₀ degrees
-      → Counted A w (waitingTo v (k + 1)) degrees
+      → DegreesCounted A w (waitingTo v (k + 1)) degrees
   count-ends t degrees l h =
       let c = named (getD v k 0) (s .chosen) in
       record {
@@ -209,9 +209,9 @@ module _ (p n k : ℕ) (A : Compressed) (w v degrees₀ : List ℕ) (s : RowRead
 pub record CountedTo (n : ℕ) (A : Compressed) (w v degrees : List ℕ) (k : ℕ) : Type 0 where
   pub inside : k ≤ n
   pub long : length degrees ≡ n
-  pub rows : Counted A w (waitingTo v k) degrees
+  pub rows : DegreesCounted A w (waitingTo v k) degrees
 
-module _ (p n : ℕ) (A : Compressed) (w v degrees₀ : List ℕ) (r : CountReady p n A w v degrees₀) where
+module _ (p n : ℕ) (A : Compressed) (w v degrees₀ : List ℕ) (r : DegreesReady p n A w v degrees₀) where
   pub counted-starts : CountedTo n A w v degrees₀ 0
   unfolding waitingTo degree
   counted-starts =
@@ -222,11 +222,11 @@ module _ (p n : ℕ) (A : Compressed) (w v degrees₀ : List ℕ) (r : CountRead
       }
 
   module _ (degrees : List ℕ) (k : ℕ) (s : CountedTo n A w v degrees k) where
-    pub counted-ready : k < n → ¬ (getD v k 0 ≡ 0) → RowReady p n k A w v degrees
+    pub counted-ready : k < n → ¬ (getD v k 0 ≡ 0) → DegreeRowReady p n k A w v degrees
     counted-ready h d = record { sized = r .sized; named = r .named; row = h; chosen = d; degrees-long = s .long; before = s .rows }
 
     pub counted-over : k < n → getD v k 0 ≡ 0 → CountedTo n A w v degrees (k + 1)
-    counted-over h e = record { inside = omega arith; long = s .long; rows = subst (λ (ws : List Pair). Counted A w ws degrees) (sym (waiting-same v k e)) (s .rows) }
+    counted-over h e = record { inside = omega arith; long = s .long; rows = subst (λ (ws : List Pair). DegreesCounted A w ws degrees) (sym (waiting-same v k e)) (s .rows) }
 
-    pub counted-ends : n ≤ k → Counted A w (waiting v) degrees
-    counted-ends h = subst (λ (j : ℕ). Counted A w (waitingTo v j) degrees) (let e : k ≡ length v = omega (arith, s .inside, r .named .rows-long) in e) (s .rows)
+    pub counted-ends : n ≤ k → DegreesCounted A w (waiting v) degrees
+    counted-ends h = subst (λ (j : ℕ). DegreesCounted A w (waitingTo v j) degrees) (let e : k ≡ length v = omega (arith, s .inside, r .named .rows-long) in e) (s .rows)

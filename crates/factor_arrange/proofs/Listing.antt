@@ -27,8 +27,8 @@ use Rattle.elimination.proofs.Pairs.{noPair}
 use Rattle.elimination.proofs.Ordering.{Least, without-one}
 use Rattle.elimination.proofs.Steps.{free-degree, ordered-step, ordered-none, ordered-same}
 use Rattle.elimination.proofs.Selected.{selected-sound, structural-pairs, pairs-short}
-use Rattle.factor_arrange.specs.Waiting.{waiting, Counted, Ready}
-use Rattle.factor_arrange.specs.Needs.{Arranged, CountReady, MarkReady, Stage, ReleaseReady, Released, ListReady, OrderReady}
+use Rattle.factor_arrange.specs.Waiting.{waiting, DegreesCounted, Ready}
+use Rattle.factor_arrange.specs.Needs.{Arranged, DegreesReady, MarkReady, Stage, ReleaseReady, Released, ListReady, OrderReady}
 use Rattle.factor_arrange.proofs.Cells.{cell-inside, named}
 use Rattle.factor_arrange.proofs.Waits.{in-waiting, waiting-in, waiting-apart, waiting-without}
 use Rattle.factor_arrange.proofs.Counting.{named-there, named-back}
@@ -236,7 +236,7 @@ module _ (p n : ℕ) (A : Compressed) (w v waits₀ degrees₀ ready₀ R C : Li
   pub order-copy : length waits₀ ≡ length v
   order-copy = o .waits-long ∙ sym (o .pairs .named .rows-long)
 
-  pub order-count : CountReady p n A w v degrees₀
+  pub order-count : DegreesReady p n A w v degrees₀
   order-count = record { sized = o .pairs .sized; named = o .pairs .named; clear = o .degrees-clear }
 
   ready-rows : (ready : List ℕ) → length ready ≡ length ready₀ → length ready ≡ n
@@ -254,7 +254,7 @@ module _ (p n : ℕ) (A : Compressed) (w v waits₀ degrees₀ ready₀ R C : Li
 
     module _ (ready : List ℕ) (marks : length ready ≡ length ready₀) where
       -- all selected pairs wait
-      pub order-list : (waits : List ℕ) → waits ≡ v → Counted A w (waiting v) degrees → Ready v degrees ready → ListReady p (length ready) A w v waits degrees ready R C
+      pub order-list : (waits : List ℕ) → waits ≡ v → DegreesCounted A w (waiting v) degrees → Ready v degrees ready → ListReady p (length ready) A w v waits degrees ready R C
       order-list waits same counted marked = subst (λ (j : ℕ). ListReady p j A w v waits degrees ready R C) (sym (ready-rows ready marks)) whole
         where
           whole : ListReady p n A w v waits degrees ready R C
@@ -269,7 +269,7 @@ module _ (p n : ℕ) (A : Compressed) (w v waits₀ degrees₀ ready₀ R C : Li
                       ready-long = ready-rows ready marks;
                       part = λ i f. ap (λ (u : List ℕ). getD u i 0) same;
                       gone = λ c i e z. absurd (omega (arith, named-there p n A w v (o .pairs .sized) (o .pairs .named) c i e, ap (λ (u : List ℕ). getD u i 0) same));
-                      counted = subst (λ (u : List ℕ). Counted A w (waiting u) degrees) (sym same) counted;
+                      counted = subst (λ (u : List ℕ). DegreesCounted A w (waiting u) degrees) (sym same) counted;
                       marked = subst (λ (u : List ℕ). Ready u degrees ready) (sym same) marked;
                     };
                 same = same;

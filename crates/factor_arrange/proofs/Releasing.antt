@@ -15,14 +15,14 @@ use Rattle.elimination.specs.Selection.{nonzero, pairAt, leadsTo, degree}
 use Rattle.elimination.proofs.Steps.{degree-without}
 use Rattle.factor_names.proofs.RowEntries.{row-has}
 use Rattle.factor_arrange.specs.Waiting.{waiting, Ready}
-use Rattle.factor_arrange.specs.Needs.{LowerReady, Lowered, ReleaseReady, Released}
+use Rattle.factor_arrange.specs.Needs.{DegreeFallsReady, Lowered, ReleaseReady, Released}
 use Rattle.factor_arrange.proofs.Cells.{named, set-cells}
 use Rattle.factor_arrange.proofs.Waits.{waiting-in, waiting-apart, waiting-without}
 use Rattle.factor_arrange.proofs.Counting.{leads-other, named-row, Passed, passed-starts, passed-new, passed-over, passed-turn, passed-ends}
 
 -- ---- one degree falls
 
-module _ (q low : ℕ) (d s d′ s′ : List ℕ) (r : ℕ) (h : LowerReady q d s) (l : Lowered q low d s d′ s′ r) where
+module _ (q low : ℕ) (d s d′ s′ : List ℕ) (r : ℕ) (h : DegreeFallsReady q d s) (l : Lowered q low d s d′ s′ r) where
   less-here : getD d q 0 ≡ 1 + getD d′ q 0
   less-here = omega (arith, ap (λ (x : List ℕ). getD x q 0) (l .less) ∙ getD-set-same d q (getD d q 0 - 1) 0 (h .counted), h .led)
 
@@ -144,7 +144,7 @@ module _ (p n k : ℕ) (A : Compressed) (w v₀ v d₀ s₀ : List ℕ) (r : Rel
             leads-other has k (pairAt q x) (λ y. other (sym y)) (ap (has k) at ∙ row-has p n (length w) A (r .stage .sized) k t turn),
           ))
 
-      pub releasing-ready : LowerReady q d s
+      pub releasing-ready : DegreeFallsReady q d s
       releasing-ready =
           let row = named-row p n A w v₀ (r .stage .sized) (r .stage .named) x q e in
           record {

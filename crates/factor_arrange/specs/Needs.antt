@@ -1,11 +1,11 @@
 -- What the order of the selected pivots starts from and comes to.
 --   ArrangeReady p n A w v R C    w and v name the selected pairs; the orders are all zero
 --   Arranged n m A s R C          the s structural pivots are in the orders R and C, which are 0 past them
---   CountReady p n A w v degrees  what counting the degrees starts from
---   RowReady p n k A ..           the rows below k are counted, and row k waits
+--   DegreesReady p n A w v degrees  what counting the degrees starts from
+--   DegreeRowReady p n k A ..           the rows below k are counted, and row k waits
 --   MarkReady v degrees ready     what marking the ready rows starts from
 --   Stage p n A w v₀ v ..         where the order stands: v names what waits of the selected pairs v₀, with their degrees and the ready rows
---   LowerReady q degrees ready    some row leads to row q
+--   DegreeFallsReady q degrees ready    some row leads to row q
 --   Lowered q low ..              one row less leads to row q, which becomes ready where none does; r is at most `low`, and at most q where it does
 --   ReleaseReady p n k A ..       row k is ready
 --   Released p n k A ..           it waits no more; r is at most k, and of the rows below r none became ready
@@ -20,11 +20,11 @@ use Rattle.sparse.specs.Matrix.{Compressed}
 use Rattle.elimination.specs.Pairs.{pairRows, pairColumns}
 use Rattle.elimination.specs.Selection.{structural}
 use Rattle.factor_names.specs.Named.{Named}
-use Rattle.factor_names.specs.Sized.{Sized}
-use Rattle.factor_arrange.specs.Waiting.{waitingTo, waiting, Counted, Ready}
+use Rattle.factor_names.specs.Sized.{SmallMatrix}
+use Rattle.factor_arrange.specs.Waiting.{waitingTo, waiting, DegreesCounted, Ready}
 
 pub record ArrangeReady (p n : ℕ) (A : Compressed) (w v R C : List ℕ) : Type 0 where
-  pub sized : Sized p n (length w) A
+  pub sized : SmallMatrix p n (length w) A
   pub named : Named A n (length w) n w v
   pub R-clear : R ≡ zeros n
   pub C-clear : C ≡ zeros (length w)
@@ -36,19 +36,19 @@ pub record Arranged (n m : ℕ) (A : Compressed) (s : ℕ) (R C : List ℕ) : Ty
 
 -- ---- the degrees
 
-pub record CountReady (p n : ℕ) (A : Compressed) (w v degrees : List ℕ) : Type 0 where
-  pub sized : Sized p n (length w) A
+pub record DegreesReady (p n : ℕ) (A : Compressed) (w v degrees : List ℕ) : Type 0 where
+  pub sized : SmallMatrix p n (length w) A
   pub named : Named A n (length w) n w v
   pub clear : degrees ≡ zeros n
 
 -- the rows below k are counted, and row k waits
-pub record RowReady (p n k : ℕ) (A : Compressed) (w v degrees : List ℕ) : Type 0 where
-  pub sized : Sized p n (length w) A
+pub record DegreeRowReady (p n k : ℕ) (A : Compressed) (w v degrees : List ℕ) : Type 0 where
+  pub sized : SmallMatrix p n (length w) A
   pub named : Named A n (length w) n w v
   pub row : k < n
   pub chosen : ¬ (getD v k 0 ≡ 0)
   pub degrees-long : length degrees ≡ n
-  pub before : Counted A w (waitingTo v k) degrees
+  pub before : DegreesCounted A w (waitingTo v k) degrees
 
 pub record MarkReady (v degrees ready : List ℕ) : Type 0 where
   pub degrees-long : length degrees ≡ length v
@@ -58,17 +58,17 @@ pub record MarkReady (v degrees ready : List ℕ) : Type 0 where
 
 -- to a selected row that waits no more none leads
 pub record Stage (p n : ℕ) (A : Compressed) (w v₀ v degrees ready : List ℕ) : Type 0 where
-  pub sized : Sized p n (length w) A
+  pub sized : SmallMatrix p n (length w) A
   pub named : Named A n (length w) n w v₀
   pub v-long : length v ≡ n
   pub degrees-long : length degrees ≡ n
   pub ready-long : length ready ≡ n
   pub part : (i : ℕ) → ¬ (getD v i 0 ≡ 0) → getD v i 0 ≡ getD v₀ i 0
   pub gone : (c i : ℕ) → getD w c 0 ≡ suc i → getD v i 0 ≡ 0 → getD degrees i 0 ≡ 0
-  pub counted : Counted A w (waiting v) degrees
+  pub counted : DegreesCounted A w (waiting v) degrees
   pub marked : Ready v degrees ready
 
-pub record LowerReady (q : ℕ) (degrees ready : List ℕ) : Type 0 where
+pub record DegreeFallsReady (q : ℕ) (degrees ready : List ℕ) : Type 0 where
   pub counted : q < length degrees
   pub marked : q < length ready
   pub led : ¬ (getD degrees q 0 ≡ 0)

@@ -2,7 +2,7 @@
 --   pairNamed i x            the pair of row i that its cell x names, if it names one
 --   waitingTo v k            the pairs that the first k cells of v name, by rising row
 --   waiting v                all of them
---   Counted A w ws degrees   the degrees of all selected pairs, which w names, where the pairs ws wait
+--   DegreesCounted A w ws degrees   the degrees of all selected pairs, which w names, where the pairs ws wait
 --   Ready v degrees ready    the cells that are not 0 are those of the waiting rows to which none leads
 use Prim.Native.Nat.{ℕ, zero, suc}
 use mathlib.Core.Path.{_≡_}
@@ -24,7 +24,7 @@ abbrev pub waiting : List ℕ → List Pair
 waiting v = waitingTo v (length v)
 
 -- w names the selected pairs by column
-pub record Counted (A : Compressed) (w : List ℕ) (ws : List Pair) (degrees : List ℕ) : Type 0 where
+pub record DegreesCounted (A : Compressed) (w : List ℕ) (ws : List Pair) (degrees : List ℕ) : Type 0 where
   pub cells : (c i : ℕ) → getD w c 0 ≡ suc i → getD degrees i 0 ≡ degree (nonzero (matrix A)) ws (pairAt i c)
 
 pub record Ready (v degrees ready : List ℕ) : Type 0 where

@@ -3,8 +3,8 @@ ghost use mathlib.Core.Path.{_≡_};
 ghost use Prim.Native.Nat.{_+_};
 ghost use lib.ListN.{length};
 ghost use Rattle.sparse.specs.Matrix.{compressed};
-ghost use Rattle.factor_arrange.specs.Waiting.{waitingTo, waiting, Counted, Ready};
-ghost use Rattle.factor_arrange.specs.Needs.{CountReady, RowReady, MarkReady};
+ghost use Rattle.factor_arrange.specs.Waiting.{waitingTo, waiting, DegreesCounted, Ready};
+ghost use Rattle.factor_arrange.specs.Needs.{DegreesReady, DegreeRowReady, MarkReady};
 use lists::index;
 use factor_names::columns_of;
 
@@ -32,8 +32,8 @@ fn count_row(
     chosen: &[u32],
     degrees: &mut [u32],
 )
-    requires { ⌜ RowReady p n k (compressed (now ss) (now cols) (now vals)) (now work) (now chosen) (now degrees) ⌝ }
-    ensures { λ _. ⌜ Counted (compressed (now (ss .entry)) (now (cols .entry)) (now (vals .entry))) (now (work .entry)) (waitingTo (now (chosen .entry)) (k + 1)) (now (degrees .exit)) ⌝ }
+    requires { ⌜ DegreeRowReady p n k (compressed (now ss) (now cols) (now vals)) (now work) (now chosen) (now degrees) ⌝ }
+    ensures { λ _. ⌜ DegreesCounted (compressed (now (ss .entry)) (now (cols .entry)) (now (vals .entry))) (now (work .entry)) (waitingTo (now (chosen .entry)) (k + 1)) (now (degrees .exit)) ⌝ }
 {
     let row = columns_of(ss, cols, k);
     let own = k as u64 + 1;
@@ -61,8 +61,8 @@ pub fn count(
     chosen: &[u32],
     degrees: &mut [u32],
 )
-    requires { ⌜ CountReady p n (compressed (now ss) (now cols) (now vals)) (now work) (now chosen) (now degrees) ⌝ }
-    ensures { λ _. ⌜ Counted (compressed (now (ss .entry)) (now (cols .entry)) (now (vals .entry))) (now (work .entry)) (waiting (now (chosen .entry))) (now (degrees .exit)) ⌝ }
+    requires { ⌜ DegreesReady p n (compressed (now ss) (now cols) (now vals)) (now work) (now chosen) (now degrees) ⌝ }
+    ensures { λ _. ⌜ DegreesCounted (compressed (now (ss .entry)) (now (cols .entry)) (now (vals .entry))) (now (work .entry)) (waiting (now (chosen .entry))) (now (degrees .exit)) ⌝ }
 {
     let mut k = 0;
     while k < n {

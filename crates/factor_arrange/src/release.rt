@@ -2,13 +2,13 @@
 ghost use mathlib.Core.Path.{_≡_};
 ghost use lib.ListN.{length, set};
 ghost use Rattle.sparse.specs.Matrix.{compressed};
-ghost use Rattle.factor_arrange.specs.Needs.{LowerReady, Lowered, ReleaseReady, Released};
+ghost use Rattle.factor_arrange.specs.Needs.{DegreeFallsReady, Lowered, ReleaseReady, Released};
 use lists::index;
 use factor_names::columns_of;
 
 // Row q has one row less that leads to it; where none leads to it any more it becomes ready. Gives the lower of `low` and the row that became ready.
 fn lower(q: usize, low: usize, degrees: &mut [u32], ready: &mut [u64]) -> usize
-    requires { ⌜ LowerReady q (now degrees) (now ready) ⌝ }
+    requires { ⌜ DegreeFallsReady q (now degrees) (now ready) ⌝ }
     ensures { λ r. ⌜ Lowered q low (now (degrees .entry)) (now (ready .entry)) (now (degrees .exit)) (now (ready .exit)) r ⌝ }
 {
     let left = degrees[q] - 1;

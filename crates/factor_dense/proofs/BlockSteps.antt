@@ -15,7 +15,7 @@ use Rattle.sparse.specs.WorkingRow.{Subtracted}
 use Rattle.factor_reduce.specs.InPlace.{RemainderRow, multiples}
 use Rattle.factor_reduce.proofs.Multiples.{reduced-next}
 use Rattle.factor_dense.specs.Block.{cellsOf}
-use Rattle.factor_dense.specs.Taking.{residuesOf, ReduceReady, BlockReduced}
+use Rattle.factor_dense.specs.Taking.{residuesOf, BlockReduceReady, BlockReduced}
 
 pub record Going (p b : ℕ) (ks : List ℕ) (block : List (List ℕ)) (row₀ row xs : List ℕ) (t : ℕ) : Type 0 where
   pub inside : t ≤ b
@@ -23,7 +23,7 @@ pub record Going (p b : ℕ) (ks : List ℕ) (block : List (List ℕ)) (row₀ r
   pub long : length xs ≡ 32
   pub taken : (i : ℕ) → i < t → getD xs i 0 ≡ reduced p (vector ks) (cellsOf block) i (residuesOf p row₀) (getD ks i 0)
 
-module _ (p b : ℕ) (ks : List ℕ) (block : List (List ℕ)) (row₀ : List ℕ) (h : ReduceReady p b ks block row₀) where
+module _ (p b : ℕ) (ks : List ℕ) (block : List (List ℕ)) (row₀ : List ℕ) (h : BlockReduceReady p b ks block row₀) where
   pub going-start : (xs : List ℕ) → length row₀ ≡ 32 → length xs ≡ 32 → Going p b ks block row₀ row₀ xs 0
   unfolding reduced
   going-start xs e f =

@@ -15,7 +15,7 @@ use Rattle.lists.proofs.Tests.{first-all, first-fails, first-before, first-here
 use Rattle.lists.proofs.Tabulate.{tabulate-ext}
 use Rattle.algebra.specs.Matrix.{Vector}
 use Rattle.sparse.specs.Dense.{columnsFrom, nonzeros}
-use Rattle.factor_dense.specs.Block.{LeftColumns, chosen}
+use Rattle.factor_dense.specs.Block.{LeftColumns, whereNonzero}
 
 -- js goes through the columns from `low` up to low + n at which w may be other than 0
 record Through (w : Vector) (low n width : ℕ) (js : Vector) : Type 0 where
@@ -53,7 +53,7 @@ next w low n width js h e =
 
 -- the cells that are stored, in order: as many of the row itself as of its cells at js
 record Same (low : ℕ) (row cs vs : List ℕ) : Type 0 where
-  columns : columnsFrom low row ≡ chosen cs vs
+  columns : columnsFrom low row ≡ whereNonzero cs vs
   values : nonzeros row ≡ nonzeros vs
 
 same-skip : (low v : ℕ) (row cs vs : List ℕ) → v ≡ 0 → Same (suc low) row cs vs → Same low (v ∷ row) cs vs
@@ -62,7 +62,7 @@ same-skip low zero row cs vs e s = record { columns = s .columns; values = s .va
 same-skip low (suc v) row cs vs e s = absurd (omega arith)
 
 same-next : (low v : ℕ) (row cs vs : List ℕ) → Same (suc low) row cs vs → Same low (v ∷ row) (low ∷ cs) (v ∷ vs)
-unfolding columnsFrom nonzeros chosen
+unfolding columnsFrom nonzeros whereNonzero
 same-next low zero row cs vs s = record { columns = s .columns; values = s .values }
 same-next low (suc v) row cs vs s = record { columns = ap (λ (l : List ℕ). low ∷ l) (s .columns); values = ap (λ (l : List ℕ). suc v ∷ l) (s .values) }
 
@@ -74,7 +74,7 @@ add-none a = omega arith
 
 walk : (w : Vector) (n low width : ℕ) (js : Vector) → Through w low n width js
     → Same low (tabulate n (λ i. w (low + i))) (tabulate width js) (tabulate width (λ l. w (js l)))
-unfolding tabulate columnsFrom nonzeros chosen
+unfolding tabulate columnsFrom nonzeros whereNonzero
 walk w zero low zero js h = record { columns = refl; values = refl }
 walk w zero low (suc width) js h = let i = h .inside 0 (omega arith) in absurd (omega arith)
 walk w (suc n) low zero js h =
@@ -126,7 +126,7 @@ module _ (m s : ℕ) (C : Vector) (width : ℕ) (js : Vector) (left : LeftColumn
   same = rw (tabulate-ext m w (λ i. w (0 + i)) (λ i g. ap w (sym (zero-add i)))) (walk w m 0 width js through)
 
   -- what is stored of the row is what is stored of the block row, under the columns js
-  pub row-columns : columnsFrom 0 (tabulate m w) ≡ chosen (tabulate width js) (tabulate width (λ l. w (js l)))
+  pub row-columns : columnsFrom 0 (tabulate m w) ≡ whereNonzero (tabulate width js) (tabulate width (λ l. w (js l)))
   row-columns = same .columns
 
   pub row-values : nonzeros (tabulate m w) ≡ nonzeros (tabulate width (λ l. w (js l)))

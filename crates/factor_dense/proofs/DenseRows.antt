@@ -20,17 +20,17 @@ use Rattle.algebra.specs.Reduction.{reduced}
 use Rattle.residue.specs.Inverse.{invMod}
 use Rattle.sparse.specs.Matrix.{Compressed, matrix}
 use Rattle.sparse.specs.Dense.{columnsFrom, nonzeros}
-use Rattle.sparse.specs.Storing.{Stored}
+use Rattle.sparse.specs.Storing.{DenseStored}
 use Rattle.sparse.proofs.Nonzeros.{count-append, nonzeros-one, stored-then, stored-columns, stored-values}
 use Rattle.sparse.proofs.Rows.{form-below}
 use Rattle.factor_reduce.specs.InPlace.{multiples}
 use Rattle.factor_row.specs.Gathering.{cut, multiplesBy, remainderBy}
-use Rattle.factor_row.specs.Taking.{upperRow}
+use Rattle.factor_row.specs.Taking.{nextUpperRow}
 use Rattle.factor_row.proofs.GatheredRows.{same-room}
 use Rattle.factor_row.proofs.TakenRows.{first-most}
-use Rattle.factor_dense.specs.Block.{cellsOf, Upper, chosen}
+use Rattle.factor_dense.specs.Block.{cellsOf, Upper, whereNonzero}
 use Rattle.factor_dense.specs.Taking.{residuesOf, BlockReduced}
-use Rattle.factor_dense.specs.Turn.{LeftRowReady, LeftRowFound, LowerReady, LowerFound, UpperReady, UpperFound, NextRow, DenseReady, DenseTaken}
+use Rattle.factor_dense.specs.Turn.{LeftRowReady, LeftRowFound, DenseLowerReady, LowerFound, DenseUpperReady, UpperFound, NextRow, DenseReady, DenseTaken}
 use Rattle.factor_dense.proofs.Reduction.{tabulate-add}
 use Rattle.factor_dense.proofs.InBlock.{Begun, block-cell, lower-stored, lower-count, found-within, block-pivot, block-dependent, scaled-cell, scaled-past, upper-columns, upper-values}
 
@@ -131,7 +131,7 @@ module _ (p i s front r at l total : ℕ) (A : Compressed) (columns us js : List
       record {
         taken = record {
           pivot = λ g. record {
-            fit = ap (λ (x : Bool). x && leb (at + length (nonzeros (upperRow p m c rest))) (length uc))
+            fit = ap (λ (x : Bool). x && leb (at + length (nonzeros (nextUpperRow p m c rest))) (length uc))
                 (lt-leb (total + length (nonzeros (cs ++ (rest c ∷ [])))) (length lc) (omega (arith, count-append cs (rest c ∷ []))));
             lower = λ z. absurd (true≢false z);
             upper = λ z. absurd (true≢false z);
@@ -164,7 +164,7 @@ module _ (p i s front r at l total : ℕ) (A : Compressed) (columns us js : List
         fewer-rows = rw whole at (fewer p s (r - s) C U y)
 
     module _ (e : over₁ ≡ false) where
-      stored₁ : Stored 0 l cs₀ lc lv lc₁ lv₁ next₁
+      stored₁ : DenseStored 0 l cs₀ lc lv lc₁ lv₁ next₁
       stored₁ = g .stored e
 
       enough₁ : total + length (nonzeros cs₀) ≤ length lc
@@ -193,7 +193,7 @@ module _ (p i s front r at l total : ℕ) (A : Compressed) (columns us js : List
       -- ---- and by the block
 
       module _ (limit : ℕ) (el : limit ≡ l + (length lc₁ - total)) where
-        pub lower-ready : LowerReady p s (r - s) next₁ limit ks block row₀ lc₁ lv₁
+        pub lower-ready : DenseLowerReady p s (r - s) next₁ limit ks block row₀ lc₁ lv₁
         lower-ready =
             record {
               reduce = record {
@@ -235,10 +235,10 @@ module _ (p i s front r at l total : ℕ) (A : Compressed) (columns us js : List
               too-many (omega (arith, count, stored₁ .place, enough₁, long-columns))
 
           module _ (e₂ : over₂ ≡ false) where
-            stored₂ : Stored 0 l cs lc lv lc₂ lv₂ next₂
+            stored₂ : DenseStored 0 l cs lc lv lc₂ lv₂ next₂
             stored₂ =
-                let a : Stored 0 l (multiples p s C U y) lc lv lc₁ lv₁ next₁ = rw begins at stored₁ in
-                let z : Stored s next₁ (take (r - s) ms) lc₁ lv₁ lc₂ lv₂ next₂ = rw (done .taken) (d .taken .stored e₂) in
+                let a : DenseStored 0 l (multiples p s C U y) lc lv lc₁ lv₁ next₁ = rw begins at stored₁ in
+                let z : DenseStored s next₁ (take (r - s) ms) lc₁ lv₁ lc₂ lv₂ next₂ = rw (done .taken) (d .taken .stored e₂) in
                 rw whole at
                 (lower-stored p m s (r - s) width (vector js) C ks U block y row₀ row₁ ms all-rows small (h .left) (h .narrow) (h .holds) begun done l lc lv lc₁ lv₁ lc₂ lv₂ next₁ next₂ a z)
 
@@ -261,7 +261,7 @@ module _ (p i s front r at l total : ℕ) (A : Compressed) (columns us js : List
                       pivot = λ z. absurd (omega (arith, none));
                       dependent = λ z. record {
                         fit = le-leb (total + length (nonzeros cs)) (length lc) enough;
-                        lower = λ z. subst (λ (n : ℕ). Stored 0 l cs lc lv lc₂ lv₂ n) next-place stored₂;
+                        lower = λ z. subst (λ (n : ℕ). DenseStored 0 l cs lc lv lc₂ lv₂ n) next-place stored₂;
                         upper = λ z. (refl, refl);
                         place = λ z. (refl, refl);
                         count = λ z. omega (arith, next-place);
@@ -290,7 +290,7 @@ module _ (p i s front r at l total : ℕ) (A : Compressed) (columns us js : List
                     rw ek
                     (found-within p m s (r - s) width (vector js) C ks U block y row₀ row₁ ms all-rows small (h .left) (h .narrow) (h .holds) begun done (rw ek at inside))
 
-                pub upper-ready : UpperReady p r k at next₂ limit width js row₁ lc₂ lv₂ uc uv
+                pub upper-ready : DenseUpperReady p r k at next₂ limit width js row₁ lc₂ lv₂ uc uv
                 upper-ready =
                     record {
                       prime = h .prime;
@@ -334,21 +334,21 @@ module _ (p i s front r at l total : ℕ) (A : Compressed) (columns us js : List
                   abbrev cells : List ℕ
                   cells = tabulate m (λ j. v * rest j % p)
 
-                  row-of-U : cells ≡ upperRow p m c rest
-                  unfolding upperRow
+                  row-of-U : cells ≡ nextUpperRow p m c rest
+                  unfolding nextUpperRow
                   row-of-U = ap (λ (x : ℕ). tabulate m (λ j. invMod p x * rest j % p)) value
 
                   new-cells : take width new ≡ tabulate width (vector new)
                   new-cells = cut-tabulate width new (omega (arith, h .narrow, u .scaled .long))
 
-                  columns-of-U : length js ≡ 32 → columnsFrom 0 (upperRow p m c rest) ≡ chosen (take width js) (take width new)
+                  columns-of-U : length js ≡ 32 → columnsFrom 0 (nextUpperRow p m c rest) ≡ whereNonzero (take width js) (take width new)
                   columns-of-U long =
                       ap (columnsFrom 0) (sym row-of-U)
                       ∙ rw whole at
                       (upper-columns p m s (r - s) width (vector js) C ks U block y row₀ row₁ ms all-rows small (h .left) (h .narrow) (h .holds) begun done v new (u .scaled))
-                      ∙ ap₂ chosen (sym (cut-tabulate width js (omega (arith, h .narrow)))) (sym new-cells)
+                      ∙ ap₂ whereNonzero (sym (cut-tabulate width js (omega (arith, h .narrow)))) (sym new-cells)
 
-                  values-of-U : nonzeros (upperRow p m c rest) ≡ nonzeros (take width new)
+                  values-of-U : nonzeros (nextUpperRow p m c rest) ≡ nonzeros (take width new)
                   values-of-U =
                       ap nonzeros (sym row-of-U)
                       ∙ rw whole at
@@ -356,7 +356,7 @@ module _ (p i s front r at l total : ℕ) (A : Compressed) (columns us js : List
                       ∙ ap nonzeros (sym new-cells)
 
                   next-row : NextRow p m width js rest (getD js k 0) k new
-                  unfolding upperRow
+                  unfolding nextUpperRow
                   next-row =
                       record {
                         within = within;
@@ -402,5 +402,5 @@ module _ (p i s front r at l total : ℕ) (A : Compressed) (columns us js : List
                           sym (same-room l total (length (nonzeros (cs ++ (rest c ∷ [])))) (length lc) (h .lists .L-room))
                           ∙ ap₂ leb (sym places) (ap (λ (n : ℕ). l + (n - total)) (sym long-columns) ∙ sym el)
 
-                      last : Stored r next₂ (getD row₁ k 0 % p ∷ []) lc₂ lv₂ lc₃ lv₃ l₃ → Stored (0 + length cs) next₂ (rest c ∷ []) lc₂ lv₂ lc₃ lv₃ l₃
+                      last : DenseStored r next₂ (getD row₁ k 0 % p ∷ []) lc₂ lv₂ lc₃ lv₃ l₃ → DenseStored (0 + length cs) next₂ (rest c ∷ []) lc₂ lv₂ lc₃ lv₃ l₃
                       last z = rw (zero-add, multiples-long p r C U y, sym value) z

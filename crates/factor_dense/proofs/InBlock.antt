@@ -17,10 +17,10 @@ use Rattle.algebra.specs.Matrix.{Vector, Matrix, vector}
 use Rattle.algebra.specs.Reduction.{reduced}
 use Rattle.algebra.proofs.Reduction.{reduced-pivot}
 use Rattle.sparse.specs.Dense.{columnsFrom, nonzeros}
-use Rattle.sparse.specs.Storing.{Stored}
+use Rattle.sparse.specs.Storing.{DenseStored}
 use Rattle.sparse.proofs.Nonzeros.{count-append, stored-then}
 use Rattle.factor_reduce.specs.InPlace.{multiples, RemainderRow}
-use Rattle.factor_dense.specs.Block.{cellsOf, LeftColumns, BlockHolds, Upper, chosen}
+use Rattle.factor_dense.specs.Block.{cellsOf, LeftColumns, BlockHolds, Upper, whereNonzero}
 use Rattle.factor_dense.specs.Taking.{residuesOf, LeftCells, BlockReduced}
 use Rattle.factor_dense.specs.Storing.{RowScaled}
 use Rattle.factor_dense.proofs.Reduction.{reduced-block, reduced-past, multiples-block}
@@ -71,8 +71,8 @@ module _ (p m s b width : ℕ) (js C : Vector) (ks : List ℕ) (U : Matrix) (blo
       ∙ ap (λ (l : List ℕ). multiples p s C U y ++ l) (sym (done .taken))
 
   -- stored in two parts
-  pub lower-stored : (l : ℕ) (lc₀ lv₀ lc₁ lv₁ lc₂ lv₂ : List ℕ) (next₁ next₂ : ℕ) → Stored 0 l (multiples p s C U y) lc₀ lv₀ lc₁ lv₁ next₁
-      → Stored s next₁ (take b xs) lc₁ lv₁ lc₂ lv₂ next₂ → Stored 0 l (multiples p (s + b) C U y) lc₀ lv₀ lc₂ lv₂ next₂
+  pub lower-stored : (l : ℕ) (lc₀ lv₀ lc₁ lv₁ lc₂ lv₂ : List ℕ) (next₁ next₂ : ℕ) → DenseStored 0 l (multiples p s C U y) lc₀ lv₀ lc₁ lv₁ next₁
+      → DenseStored s next₁ (take b xs) lc₁ lv₁ lc₂ lv₂ next₂ → DenseStored 0 l (multiples p (s + b) C U y) lc₀ lv₀ lc₂ lv₂ next₂
   unfolding multiples
   lower-stored l lc₀ lv₀ lc₁ lv₁ lc₂ lv₂ next₁ next₂ a d =
       rw block-lower (stored-then 0 l (multiples p s C U y) (take b xs) lc₀ lv₀ lc₁ lv₁ lc₂ lv₂ next₁ next₂ a (rw passed d))
@@ -129,8 +129,8 @@ module _ (p m s b width : ℕ) (js C : Vector) (ks : List ℕ) (U : Matrix) (blo
     same-cells : tabulate width (λ l. c * w (js l) % p) ≡ tabulate width (λ l. getD r l 0)
     same-cells = tabulate-ext width (λ l. c * w (js l) % p) (λ l. getD r l 0) (λ l h. sym (scaled-cell l h))
 
-    pub upper-columns : columnsFrom 0 (tabulate m (λ j. c * w j % p)) ≡ chosen (tabulate width js) (tabulate width (λ l. getD r l 0))
-    upper-columns = row-columns m s C width js cols (λ j. c * w j % p) clear ∙ ap (chosen (tabulate width js)) same-cells
+    pub upper-columns : columnsFrom 0 (tabulate m (λ j. c * w j % p)) ≡ whereNonzero (tabulate width js) (tabulate width (λ l. getD r l 0))
+    upper-columns = row-columns m s C width js cols (λ j. c * w j % p) clear ∙ ap (whereNonzero (tabulate width js)) same-cells
 
     pub upper-values : nonzeros (tabulate m (λ j. c * w j % p)) ≡ nonzeros (tabulate width (λ l. getD r l 0))
     upper-values = row-values m s C width js cols (λ j. c * w j % p) clear ∙ ap nonzeros same-cells

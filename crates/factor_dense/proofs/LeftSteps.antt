@@ -9,24 +9,24 @@ use lib.Seq.{sets, length-sets, length-take-le, take-suc}
 use borrow.Author.Tests.{leb-true, leb-false, le-leb, lt-leb}
 use Rattle.lists.proofs.Steps.{sets-append}
 use Rattle.sparse.specs.Dense.{nonzeros, columnsFrom}
-use Rattle.sparse.specs.Storing.{Stored}
+use Rattle.sparse.specs.Storing.{DenseStored}
 use Rattle.sparse.proofs.Nonzeros.{count-append, nonzeros-append}
-use Rattle.factor_dense.specs.Block.{chosen}
-use Rattle.factor_dense.specs.Storing.{EntryReady, EntryStored, LeftReady, ChosenStored, LeftStored}
+use Rattle.factor_dense.specs.Block.{whereNonzero}
+use Rattle.factor_dense.specs.Storing.{PlaceReady, EntryStored, LeftReady, ChosenStored, LeftStored}
 use Rattle.factor_dense.proofs.StoringSteps.{count-take}
 
 -- ---- in parts
 
-chosen-append : (cs vs cs′ vs′ : List ℕ) → length cs ≡ length vs → chosen (cs ++ cs′) (vs ++ vs′) ≡ chosen cs vs ++ chosen cs′ vs′
-unfolding chosen
+chosen-append : (cs vs cs′ vs′ : List ℕ) → length cs ≡ length vs → whereNonzero (cs ++ cs′) (vs ++ vs′) ≡ whereNonzero cs vs ++ whereNonzero cs′ vs′
+unfolding whereNonzero
 chosen-append [] [] cs′ vs′ e = refl
 chosen-append [] (v ∷ vs) cs′ vs′ e = absurd (omega arith)
 chosen-append (c ∷ cs) [] cs′ vs′ e = absurd (omega arith)
 chosen-append (c ∷ cs) (zero ∷ vs) cs′ vs′ e = chosen-append cs vs cs′ vs′ (omega arith)
 chosen-append (c ∷ cs) (suc v ∷ vs) cs′ vs′ e = ap (λ (l : List ℕ). c ∷ l) (chosen-append cs vs cs′ vs′ (omega arith))
 
-length-chosen : (cs vs : List ℕ) → length cs ≡ length vs → length (chosen cs vs) ≡ length (nonzeros vs)
-unfolding chosen nonzeros
+length-chosen : (cs vs : List ℕ) → length cs ≡ length vs → length (whereNonzero cs vs) ≡ length (nonzeros vs)
+unfolding whereNonzero nonzeros
 length-chosen [] [] e = refl
 length-chosen [] (v ∷ vs) e = absurd (omega arith)
 length-chosen (c ∷ cs) [] e = absurd (omega arith)
@@ -34,11 +34,11 @@ length-chosen (c ∷ cs) (zero ∷ vs) e = length-chosen cs vs (omega arith)
 length-chosen (c ∷ cs) (suc v ∷ vs) e = ap suc (length-chosen cs vs (omega arith))
 
 pub chosen-none : (at : ℕ) (lc lv : List ℕ) → ChosenStored at [] [] lc lv lc lv at
-unfolding chosen nonzeros
+unfolding whereNonzero nonzeros
 chosen-none at lc lv = record { place = omega arith; columns = refl; values = refl }
 
-chosen-one : (k x : ℕ) → columnsFrom k (x ∷ []) ≡ chosen (k ∷ []) (x ∷ [])
-unfolding chosen columnsFrom
+chosen-one : (k x : ℕ) → columnsFrom k (x ∷ []) ≡ whereNonzero (k ∷ []) (x ∷ [])
+unfolding whereNonzero columnsFrom
 chosen-one k zero = refl
 chosen-one k (suc x) = refl
 
@@ -49,8 +49,8 @@ chosen-then at cs vs cs′ vs′ lc₀ lv₀ lc₁ lv₁ lc₂ lv₂ next₁ nex
       place = omega (arith, a .place, b .place, count-append vs vs′);
       columns =
           b .columns
-          ∙ (λ i. sets (a .columns i) ((a .place ∙ ap (λ (n : ℕ). at + n) (sym (length-chosen cs vs e))) i) (chosen cs′ vs′))
-          ∙ sym (ap (sets lc₀ at) (chosen-append cs vs cs′ vs′ e) ∙ sets-append lc₀ at (chosen cs vs) (chosen cs′ vs′));
+          ∙ (λ i. sets (a .columns i) ((a .place ∙ ap (λ (n : ℕ). at + n) (sym (length-chosen cs vs e))) i) (whereNonzero cs′ vs′))
+          ∙ sym (ap (sets lc₀ at) (chosen-append cs vs cs′ vs′ e) ∙ sets-append lc₀ at (whereNonzero cs vs) (whereNonzero cs′ vs′));
       values =
           b .values
           ∙ (λ i. sets (a .values i) (a .place i) (nonzeros vs′))
@@ -70,7 +70,7 @@ module _ (width l limit : ℕ) (js row lc₀ lv₀ : List ℕ) (h : LeftReady wi
 
   module _ (lc lv : List ℕ) (next t : ℕ) (g : LeftSoFar width l limit js row lc₀ lv₀ lc lv next t) where
     pub left-columns : length lc ≡ length lc₀
-    left-columns = ap length (g .stored .columns) ∙ length-sets lc₀ l (chosen (take t js) (take t row))
+    left-columns = ap length (g .stored .columns) ∙ length-sets lc₀ l (whereNonzero (take t js) (take t row))
 
     pub left-values : length lv ≡ length lv₀
     left-values = ap length (g .stored .values) ∙ length-sets lv₀ l (nonzeros (take t row))
@@ -86,7 +86,7 @@ module _ (width l limit : ℕ) (js row lc₀ lv₀ : List ℕ) (h : LeftReady wi
         stored = rw all (g .stored)
 
     module _ (lt : t < width) (j : ℕ) (ej : j ≡ getD js t 0) where
-      pub left-ready : EntryReady j next limit lc lv
+      pub left-ready : PlaceReady j next limit lc lv
       left-ready =
           record {
             narrow = omega (arith, ej, h .narrow t lt);

@@ -10,10 +10,10 @@ use lib.ListN.{length, getD, take, set, length-set}
 use lib.Seq.{getD-set-same, getD-set-other, length-take-le, take-suc}
 use borrow.Author.Tests.{leb-true, leb-false, le-leb, lt-leb}
 use Rattle.sparse.specs.Dense.{nonzeros}
-use Rattle.sparse.specs.Storing.{Stored}
+use Rattle.sparse.specs.Storing.{DenseStored}
 use Rattle.sparse.proofs.Nonzeros.{count-append, nonzeros-zero, nonzeros-one, stored-none, stored-zero, stored-one, stored-then, stored-columns, stored-values}
 use Rattle.residue.specs.Arithmetic.{Residue}
-use Rattle.factor_dense.specs.Storing.{EntryReady, EntryStored, MultiplesReady, MultiplesStored, RowScaled}
+use Rattle.factor_dense.specs.Storing.{PlaceReady, EntryStored, StoreMultiplesReady, MultiplesStored, RowScaled}
 
 -- ---- one entry
 
@@ -52,9 +52,9 @@ count-take (suc t) (suc b) (x ∷ xs) h =
 pub record StoringSoFar (s b l limit : ℕ) (xs lc₀ lv₀ lc lv : List ℕ) (next t : ℕ) : Type 0 where
   pub inside : t ≤ b
   pub room : next ≤ limit
-  pub stored : Stored s l (take t xs) lc₀ lv₀ lc lv next
+  pub stored : DenseStored s l (take t xs) lc₀ lv₀ lc lv next
 
-module _ (s b l limit : ℕ) (xs lc₀ lv₀ : List ℕ) (h : MultiplesReady s b l limit lc₀ lv₀) (wide : length xs ≡ 32) where
+module _ (s b l limit : ℕ) (xs lc₀ lv₀ : List ℕ) (h : StoreMultiplesReady s b l limit lc₀ lv₀) (wide : length xs ≡ 32) where
   pub storing-starts : StoringSoFar s b l limit xs lc₀ lv₀ lc₀ lv₀ l 0
   storing-starts = record { inside = omega arith; room = h .lists .place; stored = stored-none s l lc₀ lv₀ }
 
@@ -72,11 +72,11 @@ module _ (s b l limit : ℕ) (xs lc₀ lv₀ : List ℕ) (h : MultiplesReady s b
         all : b ≡ t
         all = omega (arith, g .inside)
 
-        stored : Stored s l (take b xs) lc₀ lv₀ lc lv next
+        stored : DenseStored s l (take b xs) lc₀ lv₀ lc lv next
         stored = rw all (g .stored)
 
     module _ (lt : t < b) where
-      pub storing-ready : EntryReady (s + t) next limit lc lv
+      pub storing-ready : PlaceReady (s + t) next limit lc lv
       storing-ready =
           record {
             narrow = omega (arith, h .narrow);

@@ -10,11 +10,11 @@ use Rattle.residue.specs.Arithmetic.{Residue}
 use Rattle.residue.specs.Inverse.{invMod, Invertible}
 use Rattle.sparse.specs.Dense.{nonzeros}
 use Rattle.sparse.proofs.Nonzeros.{nonzeros-one}
-use Rattle.factor_dense.specs.Storing.{EntryReady, EntryStored, LeftReady, LeftStored, RowScaled}
-use Rattle.factor_dense.specs.Turn.{UpperReady, UpperFound}
+use Rattle.factor_dense.specs.Storing.{PlaceReady, EntryStored, LeftReady, LeftStored, RowScaled}
+use Rattle.factor_dense.specs.Turn.{DenseUpperReady, UpperFound}
 
-module _ (p r k at next limit width : ℕ) (js row lc₀ lv₀ uc₀ uv₀ : List ℕ) (h : UpperReady p r k at next limit width js row lc₀ lv₀ uc₀ uv₀) where
-  pub entry-ready : EntryReady r next limit lc₀ lv₀
+module _ (p r k at next limit width : ℕ) (js row lc₀ lv₀ uc₀ uv₀ : List ℕ) (h : DenseUpperReady p r k at next limit width js row lc₀ lv₀ uc₀ uv₀) where
+  pub entry-ready : PlaceReady r next limit lc₀ lv₀
   entry-ready = record { narrow = h .rank; lists = h .lower }
 
   pub upper-ready : LeftReady width at (length uc₀) js uc₀ uv₀

@@ -4,7 +4,7 @@
 --   BlockHolds s b width ..     for t < b row t of the block is row s + t of U at the columns js, and 0 past them; its pivot
 --                               column C (s + t) is js (ks t)
 --   Upper p m r C U             r rows of U with their pivot columns C: residues, 1 at the own column, 0 at those before
---   chosen cs vs                those of cs whose number in vs is not 0
+--   whereNonzero cs vs                those of cs whose number in vs is not 0
 use Prim.Native.Nat.{ℕ, zero, suc, _+_, _≤_, _<_}
 use mathlib.Core.Path.{_≡_}
 use mathlib.Core.Logic.{_⊎_}
@@ -33,8 +33,8 @@ pub record Upper (p m r : ℕ) (C : Vector) (U : Matrix) : Type 0 where
   pub left : (k j : ℕ) → j < k → k < r → U k (C j) ≡ 0
   pub unit : (k : ℕ) → k < r → U k (C k) ≡ 1
 
-unfoldable pub chosen : List ℕ → List ℕ → List ℕ
-chosen [] vs = []
-chosen (c ∷ cs) [] = []
-chosen (c ∷ cs) (zero ∷ vs) = chosen cs vs
-chosen (c ∷ cs) (suc v ∷ vs) = c ∷ chosen cs vs
+unfoldable pub whereNonzero : List ℕ → List ℕ → List ℕ
+whereNonzero [] vs = []
+whereNonzero (c ∷ cs) [] = []
+whereNonzero (c ∷ cs) (zero ∷ vs) = whereNonzero cs vs
+whereNonzero (c ∷ cs) (suc v ∷ vs) = c ∷ whereNonzero cs vs

@@ -3,7 +3,7 @@
 --   CellsReady width js w        the first columns of js are inside the working row
 --   LeftCells width js w r       r has the cells of the working row at the first columns of js, and 0 past them
 --   TakeReady p t c block row    what taking row t of the block away c times needs
---   ReduceReady p b ks ..        what reducing a row by the first b rows of the block needs; ks has the place of each row's pivot
+--   BlockReduceReady p b ks ..        what reducing a row by the first b rows of the block needs; ks has the place of each row's pivot
 --   BlockReduced p b ks ..       the cells stand for what remains, and xs begins with the multiples that were taken away
 use Prim.Native.Nat.{ℕ, _*_, _%_, _≤_, _<_}
 use mathlib.Core.Path.{_≡_}
@@ -23,7 +23,7 @@ pub record TakeReady (p t c : ℕ) (block : List (List ℕ)) (row : List ℕ) : 
   pub cells : (l : ℕ) → l < 32 → cellsOf block t l < p
   pub below : Below (p * p) row
 
-pub record ReduceReady (p b : ℕ) (ks : List ℕ) (block : List (List ℕ)) (row : List ℕ) : Type 0 where
+pub record BlockReduceReady (p b : ℕ) (ks : List ℕ) (block : List (List ℕ)) (row : List ℕ) : Type 0 where
   pub positive : 0 < p
   pub rows : b ≤ 32
   pub places : (t : ℕ) → t < b → getD ks t 0 < 32

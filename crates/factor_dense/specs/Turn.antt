@@ -3,9 +3,9 @@
 --   LeftRowReady p i s first l ..     row i can be reduced by the first s rows of U, which have `first` entries, and its cells at the columns js copied
 --   LeftRowFound p m l total cs w ..  the multiples cs are stored at place l, the cells stand for what remains, w, at the columns js, and the working row is
 --                                     cleared, unless they do not fit
---   LowerReady p s b next limit ..    cells can be reduced by the first b rows of the block, and the multiples stored from place `next` on
+--   DenseLowerReady p s b next limit ..    cells can be reduced by the first b rows of the block, and the multiples stored from place `next` on
 --   LowerFound p s b next limit ..    they are, unless they do not fit
---   UpperReady p r k at next ..       cells that are not 0 at place k can be stored as row r of U, and that value as an entry of L
+--   DenseUpperReady p r k at next ..       cells that are not 0 at place k can be stored as row r of U, and that value as an entry of L
 --   UpperFound p r k at next ..       they are, unless they do not fit; `new` is the cells divided by their value at place k
 --   NextRow p m width js w c ..       row r of U in the block: its cells at the columns js, 0 past them, and the place of its pivot column c
 --   DenseReady p i s first r at ..    what taking row i in the block needs: r rows of U with `at` entries, of which the block holds those after the first s
@@ -24,15 +24,15 @@ use Rattle.residue.specs.Inverse.{invMod}
 use Rattle.sparse.specs.Row.{Below}
 use Rattle.sparse.specs.Matrix.{Compressed, matrix}
 use Rattle.sparse.specs.Dense.{nonzeros}
-use Rattle.sparse.specs.Storing.{Stored}
+use Rattle.sparse.specs.Storing.{DenseStored}
 use Rattle.factor_reduce.specs.Gathering.{RoomTo}
 use Rattle.factor_reduce.specs.InPlace.{RemainderRow, multiples}
 use Rattle.factor_row.specs.Gathering.{cut, multiplesBy, remainderBy, GatherReadyFrom}
 use Rattle.factor_row.specs.PivotRow.{ListsReady}
-use Rattle.factor_row.specs.Taking.{upperRow, RowFound}
+use Rattle.factor_row.specs.Taking.{nextUpperRow, RowFound}
 use Rattle.factor_dense.specs.Block.{cellsOf, LeftColumns, BlockHolds, Upper}
-use Rattle.factor_dense.specs.Taking.{residuesOf, ReduceReady}
-use Rattle.factor_dense.specs.Storing.{MultiplesReady, MultiplesStored, RowScaled, ChosenStored}
+use Rattle.factor_dense.specs.Taking.{residuesOf, BlockReduceReady}
+use Rattle.factor_dense.specs.Storing.{StoreMultiplesReady, MultiplesStored, RowScaled, ChosenStored}
 
 -- ---- reduced by the first s rows of U
 
@@ -43,7 +43,7 @@ pub record LeftRowReady (p i s first l total : ℕ) (A : Compressed) (columns us
 
 pub record LeftRowFound (p m l total : ℕ) (cs : List ℕ) (w : Vector) (width : ℕ) (js lc₀ lv₀ lc lv work : List ℕ) (over : Bool) (next : ℕ) (row : List ℕ) : Type 0 where
   pub fit : leb (total + length (nonzeros cs)) (length lc₀) ≡ not over
-  pub stored : over ≡ false → Stored 0 l cs lc₀ lv₀ lc lv next
+  pub stored : over ≡ false → DenseStored 0 l cs lc₀ lv₀ lc lv next
   pub cells : over ≡ false → (k : ℕ) → k < width → getD row k 0 % p ≡ w (getD js k 0)
   pub past : (k : ℕ) → width ≤ k → getD row k 0 ≡ 0
   pub below : over ≡ false → Below (p * p) row
@@ -52,9 +52,9 @@ pub record LeftRowFound (p m l total : ℕ) (cs : List ℕ) (w : Vector) (width 
 
 -- ---- reduced by the rows of the block
 
-pub record LowerReady (p s b next limit : ℕ) (ks : List ℕ) (block : List (List ℕ)) (row lc lv : List ℕ) : Type 0 where
-  pub reduce : ReduceReady p b ks block row
-  pub store : MultiplesReady s b next limit lc lv
+pub record DenseLowerReady (p s b next limit : ℕ) (ks : List ℕ) (block : List (List ℕ)) (row lc lv : List ℕ) : Type 0 where
+  pub reduce : BlockReduceReady p b ks block row
+  pub store : StoreMultiplesReady s b next limit lc lv
 
 pub record LowerFound (p s b next limit : ℕ) (ks : List ℕ) (block : List (List ℕ)) (row₀ lc₀ lv₀ lc lv : List ℕ) (over : Bool) (next′ : ℕ) (row : List ℕ) : Type 0 where
   pub taken : MultiplesStored s next limit (multiples p b (vector ks) (cellsOf block) (residuesOf p row₀)) lc₀ lv₀ lc lv over next′
@@ -62,7 +62,7 @@ pub record LowerFound (p s b next limit : ℕ) (ks : List ℕ) (block : List (Li
 
 -- ---- stored as a row of U
 
-pub record UpperReady (p r k at next limit width : ℕ) (js row lc lv uc uv : List ℕ) : Type 0 where
+pub record DenseUpperReady (p r k at next limit width : ℕ) (js row lc lv uc uv : List ℕ) : Type 0 where
   pub prime : Prime p
   pub place : k < width
   pub narrow : width ≤ 32
@@ -75,7 +75,7 @@ pub record UpperReady (p r k at next limit width : ℕ) (js row lc lv uc uv : Li
 pub record UpperFound (p r k at next limit width : ℕ) (js row lc₀ lv₀ uc₀ uv₀ lc lv uc uv : List ℕ) (over : Bool) (at′ l′ : ℕ) (new : List ℕ) : Type 0 where
   pub scaled : RowScaled p (invMod p (getD row k 0 % p)) row new
   pub fit : (leb (next + 1) limit && leb (at + length (nonzeros (take width new))) (length uc₀)) ≡ not over
-  pub lower : over ≡ false → Stored r next (getD row k 0 % p ∷ []) lc₀ lv₀ lc lv l′
+  pub lower : over ≡ false → DenseStored r next (getD row k 0 % p ∷ []) lc₀ lv₀ lc lv l′
   pub upper : over ≡ false → ChosenStored at (take width js) (take width new) uc₀ uv₀ uc uv at′
 
 -- ---- the whole turn
@@ -83,7 +83,7 @@ pub record UpperFound (p r k at next limit width : ℕ) (js row lc₀ lv₀ uc�
 pub record NextRow (p m width : ℕ) (js : List ℕ) (w : Vector) (c place : ℕ) (row : List ℕ) : Type 0 where
   pub within : place < width
   pub pivot : getD js place 0 ≡ c
-  pub cells : (k : ℕ) → k < width → getD row k 0 ≡ getD (upperRow p m c w) (getD js k 0) 0
+  pub cells : (k : ℕ) → k < width → getD row k 0 ≡ getD (nextUpperRow p m c w) (getD js k 0) 0
   pub past : (k : ℕ) → width ≤ k → getD row k 0 ≡ 0
 
 pub record DenseReady (p i s first r at l total : ℕ) (A : Compressed) (columns us js : List ℕ) (width : ℕ) (ks : List ℕ) (block : List (List ℕ)) (w lc lv uc uv : List ℕ) : Type 0 where

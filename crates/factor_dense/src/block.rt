@@ -2,7 +2,7 @@
 ghost use Prim.Native.Nat.{_*_};
 ghost use Rattle.sparse.specs.WorkingRow.{Subtracted};
 ghost use Rattle.factor_dense.specs.Block.{cellsOf};
-ghost use Rattle.factor_dense.specs.Taking.{CellsReady, LeftCells, TakeReady, ReduceReady, BlockReduced};
+ghost use Rattle.factor_dense.specs.Taking.{CellsReady, LeftCells, TakeReady, BlockReduceReady, BlockReduced};
 use lists::index;
 use residue::Modulus;
 use sparse::kernel::minus;
@@ -56,7 +56,7 @@ pub fn reduce_in_block(
     b: usize,
     row: [u64; 32],
 ) -> InBlock
-    requires { ⌜ ReduceReady (q .p) b (now ks) (now block) row ⌝ }
+    requires { ⌜ BlockReduceReady (q .p) b (now ks) (now block) row ⌝ }
     ensures { λ r. ⌜ BlockReduced (q .p) b (now (ks .entry)) (now (block .entry)) row (r .row) (r .multiples) ⌝ }
 {
     let mut rest = row;

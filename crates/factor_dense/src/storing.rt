@@ -4,7 +4,7 @@ ghost use Prim.Native.Nat.{_%_, _<_};
 ghost use lib.Dec.{eqb};
 ghost use lib.ListN.{getD, take};
 ghost use Rattle.lists.specs.Tests.{first};
-ghost use Rattle.factor_dense.specs.Storing.{EntryReady, EntryStored, MultiplesReady, MultiplesStored, LeftReady, LeftStored, RowScaled};
+ghost use Rattle.factor_dense.specs.Storing.{PlaceReady, EntryStored, StoreMultiplesReady, MultiplesStored, LeftReady, LeftStored, RowScaled};
 use lists::index;
 use factor_reduce::gather::Gathered;
 use residue::Modulus;
@@ -19,7 +19,7 @@ pub fn store_entry(
     lc: &mut [u32],
     lv: &mut [u32],
 ) -> Gathered
-    requires { ⌜ EntryReady k at limit (now lc) (now lv) ⌝ }
+    requires { ⌜ PlaceReady k at limit (now lc) (now lv) ⌝ }
     ensures { λ g. ⌜ EntryStored k x at limit (now (lc .entry)) (now (lv .entry)) (now (lc .exit)) (now (lv .exit)) (g .over) (g .next) ⌝ }
 {
     if x == 0 {
@@ -52,7 +52,7 @@ pub fn store_multiples(
     lc: &mut [u32],
     lv: &mut [u32],
 ) -> Gathered
-    requires { ⌜ MultiplesReady s b l limit (now lc) (now lv) ⌝ }
+    requires { ⌜ StoreMultiplesReady s b l limit (now lc) (now lv) ⌝ }
     ensures { λ g. ⌜ MultiplesStored s l limit (take b xs) (now (lc .entry)) (now (lv .entry)) (now (lc .exit)) (now (lv .exit)) (g .over) (g .next) ⌝ }
 {
     let mut next = l;

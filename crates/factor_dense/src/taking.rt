@@ -3,7 +3,7 @@
 ghost use lib.ListN.{length};
 ghost use Rattle.sparse.specs.Matrix.{compressed, matrix};
 ghost use Rattle.factor_row.specs.Gathering.{cut, multiplesBy, remainderBy};
-ghost use Rattle.factor_dense.specs.Turn.{LeftRowReady, LeftRowFound, LowerReady, LowerFound, UpperReady, UpperFound, DenseReady, DenseTaken};
+ghost use Rattle.factor_dense.specs.Turn.{LeftRowReady, LeftRowFound, DenseLowerReady, LowerFound, DenseUpperReady, UpperFound, DenseReady, DenseTaken};
 use crate::block::left_cells;
 use crate::block::reduce_in_block;
 use crate::storing::first_left;
@@ -103,7 +103,7 @@ fn lower_left(
     lc: &mut [u32],
     lv: &mut [u32],
 ) -> LeftRow
-    requires { ⌜ LowerReady (q .p) s b next limit (now ks) (now block) row (now lc) (now lv) ⌝ }
+    requires { ⌜ DenseLowerReady (q .p) s b next limit (now ks) (now block) row (now lc) (now lv) ⌝ }
     ensures { λ d. ⌜ LowerFound (q .p) s b next limit (now (ks .entry)) (now (block .entry)) row (now (lc .entry)) (now (lv .entry)) (now (lc .exit)) (now (lv .exit)) (d .over) (d .next) (d .row) ⌝ }
 {
     let done = reduce_in_block(q, block, ks, b, row);
@@ -133,7 +133,7 @@ fn upper_left(
     uc: &mut [u32],
     uv: &mut [u32],
 ) -> PivotStored
-    requires { ⌜ UpperReady (q .p) r k at next limit width js row (now lc) (now lv) (now uc) (now uv) ⌝ }
+    requires { ⌜ DenseUpperReady (q .p) r k at next limit width js row (now lc) (now lv) (now uc) (now uv) ⌝ }
     ensures { λ d. ⌜ UpperFound (q .p) r k at next limit width js row (now (lc .entry)) (now (lv .entry)) (now (uc .entry)) (now (uv .entry)) (now (lc .exit)) (now (lv .exit)) (now (uc .exit)) (now (uv .exit)) (d .over) (d .at) (d .l) (d .row) ⌝ }
 {
     let v = q.reduce_cell(row[k]);

@@ -7,10 +7,10 @@ use native.Mathlib.Omega.{arith}
 use lib.ListN.{length, getD, take, set, List·getD-append}
 use lib.Seq.{take-append-le, getD-set-other, getD-at}
 use Rattle.algebra.specs.Matrix.{Vector, Matrix, vector}
-use Rattle.elimination.specs.Pivots.{Found, columnsOf, uppersOf, upper, rankOf, withPivot, withDependent}
+use Rattle.elimination.specs.Pivots.{Found, columnsOf, uppersOf, upperOf, rankOf, withPivot, withDependent}
 use Rattle.elimination.specs.Factoring.{entries}
 use Rattle.elimination.proofs.Invariant.{columns-many, uppers-many}
-use Rattle.factor_row.specs.Taking.{upperRow}
+use Rattle.factor_row.specs.Taking.{nextUpperRow}
 use Rattle.factor_dense.specs.Block.{LeftColumns, BlockHolds}
 use Rattle.factor_dense.specs.Turn.{NextRow}
 use Rattle.factor_dense.proofs.Growing.{holds-same, holds-more}
@@ -49,7 +49,7 @@ module _ (s first width : ℕ) (js ks : List ℕ) (block : List (List ℕ)) (m :
         low = d .low;
         start = d .start;
         left = d .left;
-        holds = rw er (holds-beside s (rankOf f - s) width place (vector js) ks (vector (columnsOf f)) (upper f) block row (d .holds));
+        holds = rw er (holds-beside s (rankOf f - s) width place (vector js) ks (vector (columnsOf f)) (upperOf f) block row (d .holds));
       }
 
   -- it is a pivot row
@@ -58,7 +58,7 @@ module _ (s first width : ℕ) (js ks : List ℕ) (block : List (List ℕ)) (m :
     after = withPivot p m f i c cs w
 
     abbrev u : List ℕ
-    u = upperRow p m c w
+    u = nextUpperRow p m c w
 
     many : rankOf after ≡ suc (rankOf f)
     many = rank-more p m f i c cs w
@@ -72,7 +72,7 @@ module _ (s first width : ℕ) (js ks : List ℕ) (block : List (List ℕ)) (m :
     columns-before : (k : ℕ) → k < rankOf f → getD (columnsOf f) k 0 ≡ getD (columnsOf after) k 0
     columns-before k b = sym (ap (λ (z : List ℕ). getD z k 0) columns-are ∙ List·getD-append (columnsOf f) (c ∷ []) 0 k (omega (arith, columns-many f)))
 
-    rows-before : (k j : ℕ) → k < rankOf f → upper f k j ≡ upper after k j
+    rows-before : (k j : ℕ) → k < rankOf f → upperOf f k j ≡ upperOf after k j
     rows-before k j b =
         ap (λ (z : List ℕ). getD z j 0) (sym (ap (λ (z : List (List ℕ)). getD z k []) uppers-are ∙ List·getD-append (uppersOf f) (u ∷ []) [] k (omega (arith, uppers-many f))))
 
@@ -85,9 +85,9 @@ module _ (s first width : ℕ) (js ks : List ℕ) (block : List (List ℕ)) (m :
     row-next : u ≡ getD (uppersOf after) (s + (r - s)) []
     row-next = sym (ap (λ (z : List (List ℕ)). getD z (s + (r - s)) []) uppers-are ∙ getD-at (uppersOf f) u [] [] (s + (r - s)) (omega (arith, uppers-many f, place-is)))
 
-    held : BlockHolds s (r - s) width (vector js) (vector ks) (vector (columnsOf after)) (upper after) block
+    held : BlockHolds s (r - s) width (vector js) (vector ks) (vector (columnsOf after)) (upperOf after) block
     held =
-        holds-same s (r - s) width (vector js) (vector ks) (vector (columnsOf f)) (vector (columnsOf after)) (upper f) (upper after) block
+        holds-same s (r - s) width (vector js) (vector ks) (vector (columnsOf f)) (vector (columnsOf after)) (upperOf f) (upperOf after) block
         (λ t b. columns-before (s + t) (omega (arith, place-is))) (λ t j b. rows-before (s + t) j (omega (arith, place-is))) (rw er (d .holds))
 
     pub block-more : DenseState s first width js (set ks (r - s) place) (set block (r - s) row) m after
@@ -96,8 +96,8 @@ module _ (s first width : ℕ) (js ks : List ℕ) (block : List (List ℕ)) (m :
           low = omega (arith, d .low, many);
           start = d .start ∙ ap entries (sym (ap (take s) uppers-are ∙ take-append-le s (uppersOf f) (u ∷ []) (omega (arith, d .low, uppers-many f))));
           left = left-same m s (vector (columnsOf f)) (vector (columnsOf after)) width (vector js) (λ k b. columns-before k (omega (arith, d .low))) (d .left);
-          holds = subst (λ (b : ℕ). BlockHolds s b width (vector js) (vector (set ks (r - s) place)) (vector (columnsOf after)) (upper after) (set block (r - s) row))
+          holds = subst (λ (b : ℕ). BlockHolds s b width (vector js) (vector (set ks (r - s) place)) (vector (columnsOf after)) (upperOf after) (set block (r - s) row))
               (let e : suc (r - s) ≡ rankOf after - s = omega (arith, d .low, many) in e)
-              (holds-more s (r - s) width place (vector js) ks (vector (columnsOf after)) (upper after) block row held room places (n .within) (n .pivot ∙ column-next)
+              (holds-more s (r - s) width place (vector js) ks (vector (columnsOf after)) (upperOf after) block row held room places (n .within) (n .pivot ∙ column-next)
               (λ l b. n .cells l b ∙ ap (λ (z : List ℕ). getD z (getD js l 0) 0) row-next) (n .past));
         }

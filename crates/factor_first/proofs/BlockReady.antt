@@ -9,7 +9,7 @@ use Rattle.algebra.specs.Matrix.{vector}
 use Rattle.sparse.specs.Matrix.{Compressed, matrix}
 use Rattle.sparse.specs.Dense.{compress}
 use Rattle.sparse.proofs.DenseLaws.{compress-matrix}
-use Rattle.elimination.specs.Pivots.{Found, columnsOf, uppersOf, upper, rankOf}
+use Rattle.elimination.specs.Pivots.{Found, columnsOf, uppersOf, upperOf, rankOf}
 use Rattle.elimination.specs.Factoring.{entries}
 use Rattle.elimination.proofs.Room.{entries-append}
 use Rattle.elimination.proofs.Invariant.{uppers-many}
@@ -100,7 +100,7 @@ module _ (p i s first width : ℕ) (js ks : List ℕ) (block : List (List ℕ)) 
   block-holds =
       subst₂ (λ (c : List ℕ) (u : Compressed). BlockHolds s (r - s) width (vector js) (vector ks) (vector c) (matrix u) block) (sym (held .columns)) (sym all-cut)
       (subst (λ (k : ℕ). BlockHolds s (k - s) width (vector js) (vector ks) (vector (columnsOf f)) (matrix (compress (uppersOf f))) block) (sym (held .rank))
-      (holds-same s (rankOf f - s) width (vector js) (vector ks) (vector (columnsOf f)) (vector (columnsOf f)) (upper f) (matrix (compress (uppersOf f))) block (λ t b. refl)
+      (holds-same s (rankOf f - s) width (vector js) (vector ks) (vector (columnsOf f)) (vector (columnsOf f)) (upperOf f) (matrix (compress (uppersOf f))) block (λ t b. refl)
       (λ t j b. sym (compress-matrix (uppersOf f) (s + t) j)) (h .state .holds)))
 
   pub dense-ready : DenseReady p i s first r at l total A C (U .starts) js width ks block w (L .cols) (L .vals) (U .cols) (U .vals)
@@ -114,7 +114,7 @@ module _ (p i s first width : ℕ) (js ks : List ℕ) (block : List (List ℕ)) 
         row = row-ready;
         lists = lists-ready p i _ A R C L U w r at l total (h .turn);
         same = same-rows;
-        upper = upper-rows;
+        upperOf = upper-rows;
         left = left-columns;
         holds = block-holds;
       }

@@ -12,7 +12,7 @@ use lib.Seq.{length-take-le, take-all, getD-take, getD-drop, drop-drop, drop-at}
 use Rattle.lists.specs.Filled.{zeros}
 use Rattle.algebra.specs.Matrix.{Vector, vector}
 use Rattle.sparse.specs.Matrix.{Compressed, matrix}
-use Rattle.elimination.specs.Pivots.{Found, Turn, columnsOf, uppersOf, upper, rankOf, other, turn}
+use Rattle.elimination.specs.Pivots.{Found, Turn, columnsOf, uppersOf, upperOf, rankOf, other, turn}
 use Rattle.elimination.specs.Factoring.{rest, entries, lowersOf, firstOver}
 use Rattle.elimination.proofs.Invariant.{Invariant, uppers-many}
 use Rattle.factor_dense.specs.Block.{LeftColumns}
@@ -127,7 +127,7 @@ module _ (p s : ℕ) (A : Compressed) (R₀ C₀ : List ℕ) (L₀ U₀ : Compre
             start = g .state .U-entries ∙ ap entries (sym (take-all s (uppersOf f₀) (omega (arith, uppers-many f₀, found))));
             left = subst₂ (λ (a : ℕ) (c : List ℕ). LeftColumns a s (vector c) width (vector js)) (h .lent .columns) columns
                 (tail-left s C₀ js (h .columns-inside) (h .columns-order) tail);
-            holds = rw (let q : rankOf f₀ - s ≡ 0 = omega (arith, found) in q) (holds-none s width (vector js) (vector ks) (vector (columnsOf f₀)) (upper f₀) block);
+            holds = rw (let q : rankOf f₀ - s ≡ 0 = omega (arith, found) in q) (holds-none s width (vector js) (vector ks) (vector (columnsOf f₀)) (upperOf f₀) block);
           }
         where
           found : rankOf f₀ ≡ s

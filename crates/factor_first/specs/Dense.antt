@@ -16,7 +16,7 @@ use lib.Dec.{leb}
 use lib.ListN.{length, getD, take, drop, set}
 use Rattle.algebra.specs.Matrix.{Matrix, vector}
 use Rattle.sparse.specs.Matrix.{Compressed, matrix}
-use Rattle.elimination.specs.Pivots.{Found, Turn, columnsOf, uppersOf, upper, rankOf, other, turn, turns}
+use Rattle.elimination.specs.Pivots.{Found, Turn, columnsOf, uppersOf, upperOf, rankOf, other, turn, turns}
 use Rattle.elimination.specs.Factoring.{rest, entries, firstOver}
 use Rattle.elimination.proofs.Invariant.{Invariant}
 use Rattle.factor_dense.specs.Block.{LeftColumns, BlockHolds}
@@ -34,7 +34,7 @@ pub record DenseState (s first width : ℕ) (js ks : List ℕ) (block : List (Li
   pub low : s ≤ rankOf f
   pub start : first ≡ entries (take s (uppersOf f))
   pub left : LeftColumns m s (vector (columnsOf f)) width (vector js)
-  pub holds : BlockHolds s (rankOf f - s) width (vector js) (vector ks) (vector (columnsOf f)) (upper f) block
+  pub holds : BlockHolds s (rankOf f - s) width (vector js) (vector ks) (vector (columnsOf f)) (upperOf f) block
 
 pub record DenseTurnReady (p i s first width : ℕ) (js ks : List ℕ) (block : List (List ℕ)) (A : Compressed) (R C : List ℕ) (L U : Compressed) (w : List ℕ) (r at l total : ℕ) : Type 0 where
   pub turn : TurnReady p i false A R C L U w r at l total

@@ -11,14 +11,14 @@ use Rattle.sparse.specs.Matrix.{Compressed, matrix, rowOf}
 use Rattle.sparse.proofs.Entries.{entry-at, entry-absent, values-at, rises-apart, row-columns}
 use Rattle.sparse.proofs.Rows.{form-row, form-starts}
 use Rattle.elimination.specs.Selection.{nonzero}
-use Rattle.factor_names.specs.Sized.{RowStored, Sized}
+use Rattle.factor_names.specs.Sized.{RowWithin, SmallMatrix}
 
-module _ (p n m : ℕ) (A : Compressed) (z : Sized p n m A) where
+module _ (p n m : ℕ) (A : Compressed) (z : SmallMatrix p n m A) where
   -- the columns of row i
   abbrev pub row : ℕ → List ℕ
   row i = rowOf (A .starts) i (A .cols)
 
-  pub row-stored : (i : ℕ) → i < n → RowStored (A .starts) (A .cols) i
+  pub row-stored : (i : ℕ) → i < n → RowWithin (A .starts) (A .cols) i
   row-stored i h =
       let inside : i + 1 < length (A .starts) = omega (arith, z .rows) in
       let s = form-starts p m (A .starts) (A .cols) (A .vals) (z .formed) i inside in

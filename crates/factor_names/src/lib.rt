@@ -1,12 +1,12 @@
 // Rows of a stored matrix as lists of columns, for what looks at where entries stand and not at their values.
 ghost use mathlib.Core.Path.{_≡_};
 ghost use Rattle.sparse.specs.Matrix.{rowOf};
-ghost use Rattle.factor_names.specs.Sized.{RowStored};
+ghost use Rattle.factor_names.specs.Sized.{RowWithin};
 use lists::index;
 
 // The columns of row i.
 pub fn columns_of<'a>(ss: &[u32], cols: &'a [u32], i: usize) -> &'a [u32]
-    requires { ⌜ RowStored (now ss) (now cols) i ⌝ }
+    requires { ⌜ RowWithin (now ss) (now cols) i ⌝ }
     ensures { λ r. ⌜ now r ≡ rowOf (now (ss .entry)) i (now (cols .entry)) ⌝ }
 {
     let start = index(ss[i]);

@@ -14,7 +14,7 @@ use Rattle.sparse.specs.Matrix.{Compressed}
 use Rattle.elimination.specs.Structural.{Pair, paired, chosen, leading}
 use Rattle.elimination.specs.Members.{In}
 use Rattle.elimination.specs.Selection.{pairAt}
-use Rattle.factor_names.specs.Sized.{Sized}
+use Rattle.factor_names.specs.Sized.{SmallMatrix}
 use Rattle.factor_names.specs.Named.{ByColumn, Named}
 use Rattle.factor_select.specs.Needs.{NameReady}
 use Rattle.factor_arrange.specs.Needs.{ArrangeReady, Arranged}
@@ -96,7 +96,7 @@ module _ (p n m : ℕ) (A : Compressed) (R₀ C₀ w₀ : List ℕ) (h : Searcha
   choose-ready = record { formed = rw wide (h .formed); rows = h .rows; clear = h .w-clear ∙ ap zeros (sym wide) }
 
   module _ (w : List ℕ) (long : length w ≡ m) where
-    sized : Sized p n (length w) A
+    sized : SmallMatrix p n (length w) A
     sized = record { formed = rw long (h .formed); rows = h .rows; n-small = h .n-small; m-small = rw long (h .m-small) }
 
     pub name-ready : (v : List ℕ) → v ≡ zeros n → Chosen A n w → NameReady p n A w v

@@ -18,7 +18,7 @@ use Rattle.factor_turn.specs.State.{pivotRows}
 use Rattle.factor_turn.specs.Turning.{Lent}
 use Rattle.factor_turn.specs.Filling.{FillFrom, FillReady, FillDone}
 use Rattle.factor_turn.proofs.Sizes.{columns-distinct, rank-most}
-use Rattle.factor_passes.specs.Needs.{Lists, FoundFrom, CompleteReady, CompletedFor}
+use Rattle.factor_passes.specs.Needs.{PassLists, FoundFrom, CompleteReady, CompletedFor}
 use Rattle.factor_passes.proofs.Orders.{distinct-front}
 use Rattle.factor_passes.proofs.WorkingRow.{part-clear, whole-again, lists-lent, lists-same}
 
@@ -28,7 +28,7 @@ pivot-rows-many f = length-map (f .pivots) (λ q. q .row)
 
 -- ---- of one f
 
-module _ (p : ℕ) (A : Compressed) (R C : List ℕ) (L U : Compressed) (w : List ℕ) (r at l : ℕ) (lists : Lists p A R C L U w) (f : Found) (total : ℕ) (g : FoundFrom p A R C L U r at l total f) where
+module _ (p : ℕ) (A : Compressed) (R C : List ℕ) (L U : Compressed) (w : List ℕ) (r at l : ℕ) (lists : PassLists p A R C L U w) (f : Found) (total : ℕ) (g : FoundFrom p A R C L U r at l total f) where
   abbrev n : ℕ
   n = length R
 

@@ -9,7 +9,7 @@ use Rattle.lists.specs.Filled.{zeros}
 use Rattle.lists.proofs.Filled.{length-zeros, take-zeros}
 use Rattle.sparse.specs.Matrix.{Compressed}
 use Rattle.factor_turn.specs.Turning.{Lent}
-use Rattle.factor_passes.specs.Needs.{Lists}
+use Rattle.factor_passes.specs.Needs.{PassLists}
 
 module _ (w : List ℕ) (clear : w ≡ zeros (length w)) (m : ℕ) (h : m ≤ length w) where
   pub part-clear : take m w ≡ zeros m
@@ -20,7 +20,7 @@ module _ (w : List ℕ) (clear : w ≡ zeros (length w)) (m : ℕ) (h : m ≤ le
   whole-again part e = ap (λ (l : List ℕ). l ++ drop m w) (e ∙ sym part-clear) ∙ take-append-drop m w
 
 -- the passes see as many cells as there are columns
-pub lists-lent : (p : ℕ) (A : Compressed) (R C : List ℕ) (L U : Compressed) (w : List ℕ) → Lists p A R C L U w → Lent p A R C L U (take (length C) w)
+pub lists-lent : (p : ℕ) (A : Compressed) (R C : List ℕ) (L U : Compressed) (w : List ℕ) → PassLists p A R C L U w → Lent p A R C L U (take (length C) w)
 lists-lent p A R C L U w h =
     record {
       prime = h .prime;
@@ -41,10 +41,10 @@ lists-lent p A R C L U w h =
     wide = length-take-le (length C) w (h .m-fits)
 
 -- the same of other orders and lists of the same lengths
-pub lists-same : (p : ℕ) (A : Compressed) (R C R′ C′ : List ℕ) (L U L′ U′ : Compressed) (w w′ : List ℕ) → Lists p A R C L U w → length R′ ≡ length R → length C′ ≡ length C
+pub lists-same : (p : ℕ) (A : Compressed) (R C R′ C′ : List ℕ) (L U L′ U′ : Compressed) (w w′ : List ℕ) → PassLists p A R C L U w → length R′ ≡ length R → length C′ ≡ length C
     → length (L′ .starts) ≡ length (L .starts) → length (L′ .cols) ≡ length (L .cols) → length (L′ .vals) ≡ length (L .vals)
     → length (U′ .starts) ≡ length (U .starts) → length (U′ .cols) ≡ length (U .cols) → length (U′ .vals) ≡ length (U .vals)
-    → w′ ≡ zeros (length w) → length w′ ≡ length w → Lists p A R′ C′ L′ U′ w′
+    → w′ ≡ zeros (length w) → length w′ ≡ length w → PassLists p A R′ C′ L′ U′ w′
 lists-same p A R C R′ C′ L U L′ U′ w w′ h eR eC a b c d e f z long =
     record {
       prime = h .prime;

@@ -1,5 +1,5 @@
 -- What is lent to the factoring, and what its two passes need and leave.
---   Lists p A R C L U w          a stored matrix in its form, orders and factor lists of its sizes, and a working row that is all zero and as long as both sizes
+--   PassLists p A R C L U w          a stored matrix in its form, orders and factor lists of its sizes, and a working row that is all zero and as long as both sizes
 --   FromReady p s A R C L U w    the first s places of R and C hold pairs that can be pivots as they stand; the factors' lists are all zero
 --   ColumnsCompleted n s C₀ C w  C is C₀, with its first s numbers followed by the others rising where at most 32 rows and columns are left; the marks are cleared
 --   FoundFrom ..                 what the first pass found is held: the pivots of f, and R is to be completed by the other rows rising
@@ -22,7 +22,7 @@ use Rattle.factor_turn.specs.State.{pivotRows, State}
 use Rattle.factor_turn.specs.Passing.{pairsOf, Cleared}
 use Rattle.factor_turn.specs.Filling.{FillDone}
 
-pub record Lists (p : ℕ) (A : Compressed) (R C : List ℕ) (L U : Compressed) (w : List ℕ) : Type 0 where
+pub record PassLists (p : ℕ) (A : Compressed) (R C : List ℕ) (L U : Compressed) (w : List ℕ) : Type 0 where
   pub prime : Prime p
   pub formed : form p (length C) A ≡ true
   pub rows : length (A .starts) ≡ length R + 1
@@ -38,7 +38,7 @@ pub record Lists (p : ℕ) (A : Compressed) (R C : List ℕ) (L U : Compressed) 
   pub clear : w ≡ zeros (length w)
 
 pub record FromReady (p s : ℕ) (A : Compressed) (R C : List ℕ) (L U : Compressed) (w : List ℕ) : Type 0 where
-  pub lists : Lists p A R C L U w
+  pub lists : PassLists p A R C L U w
   pub rows-inside : s ≤ length R
   pub columns-inside : s ≤ length C
   pub pairs : Pairs (length R) (length C) (matrix A) (pairsOf s R C)
@@ -60,7 +60,7 @@ pub record FoundFrom (p : ℕ) (A : Compressed) (R C : List ℕ) (L U : Compress
   pub room : total ≤ length (L .cols)
 
 pub record CompleteReady (p : ℕ) (A : Compressed) (R C : List ℕ) (L U : Compressed) (w : List ℕ) (r at l : ℕ) : Type 0 where
-  pub lists : Lists p A R C L U w
+  pub lists : PassLists p A R C L U w
   pub f : Found
   pub total : ℕ
   pub from : FoundFrom p A R C L U r at l total f

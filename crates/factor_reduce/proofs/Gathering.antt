@@ -14,7 +14,7 @@ use Rattle.algebra.specs.Matrix.{Vector, Matrix, vector}
 use Rattle.algebra.specs.Reduction.{reduced}
 use Rattle.sparse.specs.Matrix.{Compressed, matrix}
 use Rattle.sparse.specs.Dense.{nonzeros}
-use Rattle.sparse.specs.Storing.{Stored}
+use Rattle.sparse.specs.Storing.{DenseStored}
 use Rattle.sparse.proofs.Nonzeros.{count-append, nonzeros-zero, nonzeros-one, stored-none, stored-zero, stored-one, stored-then, stored-columns, stored-values}
 use Rattle.factor_reduce.specs.InPlace.{multiples, RemainderRow, MultipleTaken}
 use Rattle.factor_reduce.specs.Gathering.{EntryReady, EntryGathered, GatherReady, MultiplesGathered}
@@ -95,7 +95,7 @@ module _ (p k c : ℕ) (u : Vector) (x at limit : ℕ) (w₀ lc lv w : List ℕ)
 pub record Gathering (p : ℕ) (C : List ℕ) (U : Compressed) (l limit : ℕ) (w₀ lc₀ lv₀ w lc lv : List ℕ) (next k : ℕ) : Type 0 where
   pub inside : k ≤ length C
   pub row : RemainderRow p (length w₀) k (vector C) (matrix U) (λ j. getD w₀ j 0 % p) w
-  pub stored : Stored 0 l (multiples p k (vector C) (matrix U) (λ j. getD w₀ j 0 % p)) lc₀ lv₀ lc lv next
+  pub stored : DenseStored 0 l (multiples p k (vector C) (matrix U) (λ j. getD w₀ j 0 % p)) lc₀ lv₀ lc lv next
   pub room : next ≤ limit
 
 module _ (p : ℕ) (C : List ℕ) (U : Compressed) (l limit : ℕ) (w₀ lc₀ lv₀ : List ℕ) (ready : GatherReady p C U l limit w₀ lc₀ lv₀) where
@@ -130,7 +130,7 @@ module _ (p : ℕ) (C : List ℕ) (U : Compressed) (l limit : ℕ) (w₀ lc₀ l
         all : length C ≡ k
         all = omega (arith, s .inside)
 
-        stored : Stored 0 l (multiples p (length C) (vector C) (matrix U) y) lc₀ lv₀ lc lv next
+        stored : DenseStored 0 l (multiples p (length C) (vector C) (matrix U) y) lc₀ lv₀ lc lv next
         stored = rw all (s .stored)
 
     module _ (h : k < length C) (c : ℕ) (ec : c ≡ vector C k) where
@@ -160,7 +160,7 @@ module _ (p : ℕ) (C : List ℕ) (U : Compressed) (l limit : ℕ) (w₀ lc₀ l
       value : getD w c 0 % p ≡ reduced p (vector C) (matrix U) k y (vector C k)
       value = ap (λ (j : ℕ). getD w j 0 % p) ec ∙ s .row .cells (vector C k) (ready .upper .columns .below k h)
 
-      next-turn : (w′ lc′ lv′ : List ℕ) (next′ : ℕ) → MultipleTaken p c (matrix U k) w w′ (getD w c 0 % p) → Stored k next (getD w c 0 % p ∷ []) lc lv lc′ lv′ next′ → next′ ≤ limit
+      next-turn : (w′ lc′ lv′ : List ℕ) (next′ : ℕ) → MultipleTaken p c (matrix U k) w w′ (getD w c 0 % p) → DenseStored k next (getD w c 0 % p ∷ []) lc lv lc′ lv′ next′ → next′ ≤ limit
           → Gathering p C U l limit w₀ lc₀ lv₀ w′ lc′ lv′ next′ (k + 1)
       next-turn w′ lc′ lv′ next′ t d g =
           record {

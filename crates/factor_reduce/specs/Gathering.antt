@@ -13,8 +13,8 @@ use lib.ListN.{length}
 use Rattle.algebra.specs.Matrix.{Vector, vector}
 use Rattle.sparse.specs.Matrix.{Compressed, matrix}
 use Rattle.sparse.specs.Dense.{nonzeros}
-use Rattle.sparse.specs.Storing.{Stored}
-use Rattle.factor_reduce.specs.InPlace.{UpperReady, multiples, RemainderRow, StepReady, MultipleTaken}
+use Rattle.sparse.specs.Storing.{DenseStored}
+use Rattle.factor_reduce.specs.InPlace.{EchelonReady, multiples, RemainderRow, StepReady, MultipleTaken}
 
 pub record RoomTo (l limit : ℕ) (lc lv : List ℕ) : Type 0 where
   pub place : l ≤ limit
@@ -29,14 +29,14 @@ pub record EntryReady (p k c : ℕ) (U : Compressed) (at limit : ℕ) (w lc lv :
 pub record EntryGathered (p k c : ℕ) (u : Vector) (x at limit : ℕ) (w₀ lc₀ lv₀ w lc lv : List ℕ) (over : Bool) (next : ℕ) : Type 0 where
   pub taken : MultipleTaken p c u w₀ w x
   pub fit : leb (at + length (nonzeros (x ∷ []))) limit ≡ not over
-  pub stored : over ≡ false → Stored k at (x ∷ []) lc₀ lv₀ lc lv next
+  pub stored : over ≡ false → DenseStored k at (x ∷ []) lc₀ lv₀ lc lv next
 
 pub record GatherReady (p : ℕ) (C : List ℕ) (U : Compressed) (l limit : ℕ) (w lc lv : List ℕ) : Type 0 where
-  pub upper : UpperReady p (length C) C U w
+  pub upper : EchelonReady p (length C) C U w
   pub narrow : length C ≤ 2 ^ 32
   pub lists : RoomTo l limit lc lv
 
 pub record MultiplesGathered (p m : ℕ) (C : List ℕ) (U : Compressed) (y : Vector) (l limit : ℕ) (lc₀ lv₀ lc lv w : List ℕ) (over : Bool) (next : ℕ) : Type 0 where
   pub fit : leb (l + length (nonzeros (multiples p (length C) (vector C) (matrix U) y))) limit ≡ not over
-  pub stored : over ≡ false → Stored 0 l (multiples p (length C) (vector C) (matrix U) y) lc₀ lv₀ lc lv next
+  pub stored : over ≡ false → DenseStored 0 l (multiples p (length C) (vector C) (matrix U) y) lc₀ lv₀ lc lv next
   pub remainder : over ≡ false → RemainderRow p m (length C) (vector C) (matrix U) y w

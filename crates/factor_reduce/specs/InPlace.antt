@@ -1,6 +1,6 @@
 -- A vector y reduced in the working row by the rows of U, in order: the value that stands at pivot column C[k] when row k comes is the
 -- multiple of row k that is taken away.
---   UpperReady p r C U w         r rows of U with their pivot columns: row k is 1 at C[k] and 0 at C[j] for j < k; cells below p * p
+--   EchelonReady p r C U w         r rows of U with their pivot columns: row k is 1 at C[k] and 0 at C[j] for j < k; cells below p * p
 --   multiples p r C U y          the multiples of the first r rows that are taken away from y, in order: the row of L
 --   RemainderRow p m k C U y w   the m cells of the working row stand for what remains of y after the first k rows
 --   StepReady p k c U w          what taking a multiple of row k away needs, which is 1 at column c
@@ -18,7 +18,7 @@ use Rattle.residue.specs.Arithmetic.{Residue}
 use Rattle.sparse.specs.Row.{Below}
 use Rattle.sparse.specs.Matrix.{Compressed, form, matrix}
 
-pub record UpperReady (p r : ℕ) (C : List ℕ) (U : Compressed) (w : List ℕ) : Type 0 where
+pub record EchelonReady (p r : ℕ) (C : List ℕ) (U : Compressed) (w : List ℕ) : Type 0 where
   pub positive : 0 < p
   pub formed : form p (length w) U ≡ true
   pub many : r < length (U .starts)

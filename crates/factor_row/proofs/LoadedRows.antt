@@ -15,8 +15,8 @@ use Rattle.sparse.specs.Storing.{LoadReady}
 use Rattle.sparse.proofs.Rows.{form-row, form-starts, form-paired, form-below}
 use Rattle.sparse.proofs.WordLaws.{view-list}
 use Rattle.sparse.proofs.DenseSteps.{loaded-below}
-use Rattle.factor_reduce.specs.InPlace.{UpperReady}
-use Rattle.factor_row.specs.Loading.{RowLoadable, ReduceReady}
+use Rattle.factor_reduce.specs.InPlace.{EchelonReady}
+use Rattle.factor_row.specs.Loading.{RowLoadable, RowReduceReady}
 
 module _ (p i : ℕ) (A : Compressed) (w : List ℕ) (h : RowLoadable p i A w) where
   -- where row i lies in the lists
@@ -45,7 +45,7 @@ module _ (p i : ℕ) (A : Compressed) (w : List ℕ) (h : RowLoadable p i A w) w
 
 -- ---- and ready to be reduced
 
-module _ (p i : ℕ) (A : Compressed) (C : List ℕ) (U : Compressed) (w : List ℕ) (h : ReduceReady p i A C U w) (w₁ : List ℕ) (e : w₁ ≡ tabulate (length w) (matrix A i)) where
+module _ (p i : ℕ) (A : Compressed) (C : List ℕ) (U : Compressed) (w : List ℕ) (h : RowReduceReady p i A C U w) (w₁ : List ℕ) (e : w₁ ≡ tabulate (length w) (matrix A i)) where
   pub loaded-long : length w₁ ≡ length w
   loaded-long = ap length e ∙ length-tabulate (length w) (matrix A i)
 
@@ -59,7 +59,7 @@ module _ (p i : ℕ) (A : Compressed) (C : List ℕ) (U : Compressed) (w : List 
       ∙ ap (λ (x : ℕ). x % p) (tabulate-at (length w) (matrix A i) j (omega (arith, loaded-long)))
       ∙ mod-eq-of-lt (form-below p (length w) (A .starts) (A .cols) (A .vals) (h .row .formed) i j positive)
 
-  pub upper-loaded : UpperReady p (length C) C U w₁
+  pub upper-loaded : EchelonReady p (length C) C U w₁
   upper-loaded =
       record {
         positive = positive;

@@ -18,19 +18,19 @@ use Rattle.residue.specs.Inverse.{invMod, Invertible}
 use Rattle.sparse.specs.Row.{entry, Row}
 use Rattle.sparse.specs.Matrix.{Compressed, rowOf, matrix}
 use Rattle.sparse.specs.Dense.{nonzeros}
-use Rattle.sparse.specs.Storing.{Stored}
+use Rattle.sparse.specs.Storing.{DenseStored}
 use Rattle.sparse.specs.Copying.{LookupReady, CopyReady, Copied}
 use Rattle.sparse.proofs.Entries.{entry-below, row-values}
 use Rattle.sparse.proofs.Nonzeros.{count-append, nonzeros-one, stored-then, stored-one}
 use Rattle.sparse.proofs.Rows.{form-row}
 use Rattle.sparse.proofs.SparseDense.{nonzeros-zeros, columns-zeros, multiple-count, copied-stored}
 use Rattle.factor_row.specs.PivotCopy.{PivotCopyReady}
-use Rattle.factor_row.specs.Taking.{upperRow, PivotFound, RowFound, PairReady}
+use Rattle.factor_row.specs.Taking.{nextUpperRow, PivotFound, RowFound, PairReady}
 use Rattle.factor_row.proofs.PivotRows.{inverse-invertible}
 
 -- ---- zeros of L are not stored
 
-stored-zeros : (l r : ℕ) (lc lv : List ℕ) → Stored 0 l (zeros r) lc lv lc lv l
+stored-zeros : (l r : ℕ) (lc lv : List ℕ) → DenseStored 0 l (zeros r) lc lv lc lv l
 stored-zeros l r lc lv =
     record {
       place = omega (arith, ap length (nonzeros-zeros r));
@@ -58,8 +58,8 @@ module _ (p m c r at l total : ℕ) (cols vals lc lv uc uv : List ℕ) (h : Pivo
   pub value-invertible : (x : ℕ) → x ≡ v → Invertible p x
   value-invertible x e = rw e invertible
 
-  entries-of-U : length (nonzeros (upperRow p m c (entry cols vals))) ≡ length cols
-  unfolding upperRow
+  entries-of-U : length (nonzeros (nextUpperRow p m c (entry cols vals))) ≡ length cols
+  unfolding nextUpperRow
   entries-of-U = multiple-count p (invMod p v) (inverse-invertible p v invertible) m cols vals (h .row)
 
   entries-of-L : length (nonzeros (zeros r ++ (v ∷ []))) ≡ 1
@@ -67,7 +67,7 @@ module _ (p m c r at l total : ℕ) (cols vals lc lv uc uv : List ℕ) (h : Pivo
   entries-of-L = count-append (zeros r) (v ∷ []) ∙ omega (arith, ap length (nonzeros-zeros r), nonzeros-one v [] (h .here))
 
   module _ (b : Bool) (eb : b ≡ (leb (total + 1) (length lc) && leb (at + length cols) (length uc))) where
-    tested : (leb (total + length (nonzeros (zeros r ++ (v ∷ [])))) (length lc) && leb (at + length (nonzeros (upperRow p m c (entry cols vals)))) (length uc)) ≡ b
+    tested : (leb (total + length (nonzeros (zeros r ++ (v ∷ [])))) (length lc) && leb (at + length (nonzeros (nextUpperRow p m c (entry cols vals)))) (length uc)) ≡ b
     tested = (λ t. leb (total + entries-of-L t) (length lc) && leb (at + entries-of-U t) (length uc)) ∙ sym eb
 
     pub copy-over : b ≡ false → (at′ l′ total′ : ℕ) → PivotFound p m at l total (zeros r) (entry cols vals) c lc lv uc uv lc lv uc uv true at′ l′ total′
@@ -90,7 +90,7 @@ module _ (p m c r at l total : ℕ) (cols vals lc lv uc uv : List ℕ) (h : Pivo
 
       pub copy-done : (x i : ℕ) → x ≡ v → i ≡ invMod p x → (uc′ uv′ : List ℕ) (at′ : ℕ) → Copied p i at cols vals uc uv uc′ uv′ at′
           → PivotFound p m at l total (zeros r) (entry cols vals) c lc lv uc uv (set lc l r) (set lv l x) uc′ uv′ false at′ (l + 1) (total + 1)
-      unfolding upperRow
+      unfolding nextUpperRow
       copy-done x i ex ei uc′ uv′ at′ d =
           record {
             fit = tested ∙ e;
@@ -99,7 +99,7 @@ module _ (p m c r at l total : ℕ) (cols vals lc lv uc uv : List ℕ) (h : Pivo
             count = λ z. ap (λ (n : ℕ). total + n) (sym entries-of-L);
           }
         where
-          last : Stored (0 + length (zeros r)) l (v ∷ []) lc lv (set lc l r) (set lv l x) (l + 1)
+          last : DenseStored (0 + length (zeros r)) l (v ∷ []) lc lv (set lc l r) (set lv l x) (l + 1)
           last = rw (length-zeros r, zero-add, ex) (stored-one r l v lc lv (h .here))
 
 -- ---- row i of the matrix, as a part of its lists

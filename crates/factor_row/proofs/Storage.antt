@@ -8,7 +8,7 @@ use lib.Seq.{sets, sets-eq, length-sets, length-take-le, drop-drop, take-at, dro
 use Rattle.lists.specs.Filled.{zeros, filled}
 use Rattle.sparse.specs.Matrix.{Compressed, compressed}
 use Rattle.sparse.specs.Dense.{columnsFrom, nonzeros, startsAfter, allColumns, allValues, compress}
-use Rattle.sparse.specs.Storing.{Stored}
+use Rattle.sparse.specs.Storing.{DenseStored}
 use Rattle.sparse.proofs.DenseLaws.{compress-lengths, Appended, compress-append, columns-length}
 use Rattle.factor_row.specs.Storage.{Begins, Holds}
 
@@ -118,7 +118,7 @@ module _ (rows : List (List ℕ)) (b : ℕ) (h : Compressed) (s : Holds rows b h
       third : take at (h .vals) ≡ compress rows .vals
       third = ap (λ (k : ℕ). take k (h .vals)) ea ∙ s .values .front
 
-  module _ (row cols vals : List ℕ) (at next b′ : ℕ) (ea : at ≡ length (compress rows .vals)) (d : Stored 0 at row (h .cols) (h .vals) cols vals next)
+  module _ (row cols vals : List ℕ) (at next b′ : ℕ) (ea : at ≡ length (compress rows .vals)) (d : DenseStored 0 at row (h .cols) (h .vals) cols vals next)
       (g : next ≤ b′) (k : b ≤ b′) (ec : b′ ≤ length (h .cols)) (ev : b′ ≤ length (h .vals)) where
     columns-fit : length (compress rows .cols) + length (columnsFrom 0 row) ≤ b′
     columns-fit = omega (arith, d .place, columns-long, columns-length 0 row)

@@ -19,12 +19,12 @@ use Rattle.algebra.specs.Matrix.{Vector}
 use Rattle.residue.specs.Inverse.{invMod, Invertible}
 use Rattle.sparse.specs.Matrix.{Compressed, matrix}
 use Rattle.sparse.specs.Dense.{nonzeros, scaled}
-use Rattle.sparse.specs.Storing.{Stored}
+use Rattle.sparse.specs.Storing.{DenseStored}
 use Rattle.sparse.proofs.Nonzeros.{count-append, nonzeros-one, stored-then, stored-one, stored-columns, stored-values, scaled-tabulate, count-scaled}
 use Rattle.factor_row.specs.Loading.{StandsFor, multiples}
 use Rattle.factor_row.specs.Gathering.{cut, multiplesBy, remainderBy, RowGathered}
 use Rattle.factor_row.specs.PivotRow.{PivotReady, PivotStored, PivotOutcome}
-use Rattle.factor_row.specs.Taking.{upperRow, PivotFound, RowFound, OtherReady}
+use Rattle.factor_row.specs.Taking.{nextUpperRow, PivotFound, RowFound, OtherReady}
 use Rattle.factor_row.proofs.PivotRows.{inverse-invertible}
 
 -- ---- the first that fails a test
@@ -50,7 +50,7 @@ scaled-stands p m c w row s =
 
 -- the row of L is stored but for its last entry, and w remains, which is not 0 at c
 module _ (p m r at l total : ℕ) (cs : List ℕ) (w : Vector) (c : ℕ) (lc₀ lv₀ uc₀ uv₀ row lc₁ lv₁ : List ℕ) (l₁ : ℕ)
-    (prime : Prime p) (long : length cs ≡ r) (inside : c < m) (here : ¬ (w c ≡ 0)) (s : StandsFor p m w row) (d : Stored 0 l cs lc₀ lv₀ lc₁ lv₁ l₁) where
+    (prime : Prime p) (long : length cs ≡ r) (inside : c < m) (here : ¬ (w c ≡ 0)) (s : StandsFor p m w row) (d : DenseStored 0 l cs lc₀ lv₀ lc₁ lv₁ l₁) where
   value : getD row c 0 % p ≡ w c
   value = s .cells c inside
 
@@ -62,11 +62,11 @@ module _ (p m r at l total : ℕ) (cs : List ℕ) (w : Vector) (c : ℕ) (lc₀ 
       positive (yes e) = absurd (here e)
       positive (no e) = omega arith
 
-  row-of-U : scaled p (invMod p (getD row c 0 % p)) row ≡ upperRow p m c w
-  unfolding upperRow
+  row-of-U : scaled p (invMod p (getD row c 0 % p)) row ≡ nextUpperRow p m c w
+  unfolding nextUpperRow
   row-of-U = ap (λ (x : ℕ). scaled p (invMod p x) row) value ∙ scaled-stands p m (invMod p (w c)) w row s
 
-  entries-of-U : length (nonzeros (scaled p 1 row)) ≡ length (nonzeros (upperRow p m c w))
+  entries-of-U : length (nonzeros (scaled p 1 row)) ≡ length (nonzeros (nextUpperRow p m c w))
   entries-of-U =
       sym (count-scaled p (invMod p (getD row c 0 % p)) row (rw value (inverse-invertible p (w c) invertible)))
       ∙ ap (λ (u : List ℕ). length (nonzeros u)) row-of-U
@@ -93,7 +93,7 @@ module _ (p m r at l total : ℕ) (cs : List ℕ) (w : Vector) (c : ℕ) (lc₀ 
       same : length lc₀ ≡ length lc₁
       same = sym (stored-columns 0 l cs lc₀ lv₀ lc₁ lv₁ l₁ d)
 
-      last : PivotStored p c r at l₁ total₁ row lc₁ lv₁ uc₀ uv₀ row′ lc lv uc uv at′ l′ total′ → Stored (0 + length cs) l₁ (w c ∷ []) lc₁ lv₁ lc lv l′
+      last : PivotStored p c r at l₁ total₁ row lc₁ lv₁ uc₀ uv₀ row′ lc lv uc uv at′ l′ total′ → DenseStored (0 + length cs) l₁ (w c ∷ []) lc₁ lv₁ lc lv l′
       last q = rw (q .column, q .value, value, q .place, sym long, zero-add) (stored-one (length cs) l₁ (w c) lc₁ lv₁ here)
 
 -- ---- a row that is reduced first
@@ -122,7 +122,7 @@ module _ (p i r at l total : ℕ) (A : Compressed) (columns us w lc lv uc uv : L
     other-over e uc′ uv′ row′ found at′ l′ total′ =
         record {
           pivot = λ b. record {
-            fit = ap (λ (x : Bool). x && leb (at + length (nonzeros (upperRow p m c rest))) (length uc))
+            fit = ap (λ (x : Bool). x && leb (at + length (nonzeros (nextUpperRow p m c rest))) (length uc))
                 (lt-leb (total + length (nonzeros (cs ++ (rest c ∷ [])))) (length lc) (omega (arith, few, count-append cs (rest c ∷ []))));
             lower = λ z. absurd (true≢false z);
             upper = λ z. absurd (true≢false z);
@@ -143,7 +143,7 @@ module _ (p i r at l total : ℕ) (A : Compressed) (columns us w lc lv uc uv : L
         few = leb-false (total + length (nonzeros cs)) (length lc) (g .fit ∙ ap not e)
 
     module _ (e : over ≡ false) where
-      stored : Stored 0 l cs lc lv lc₁ lv₁ next
+      stored : DenseStored 0 l cs lc lv lc₁ lv₁ next
       stored = g .stored e
 
       pub enough : total + length (nonzeros cs) ≤ length lc
@@ -167,7 +167,7 @@ module _ (p i r at l total : ℕ) (A : Compressed) (columns us w lc lv uc uv : L
               pivot = λ b. absurd (omega (arith, ec, found-is, g .remainder e .long));
               dependent = λ b. record {
                 fit = g .fit ∙ ap not e;
-                lower = λ z. subst (λ (k : ℕ). Stored 0 l cs lc lv lc₁ lv₁ k) next-place stored;
+                lower = λ z. subst (λ (k : ℕ). DenseStored 0 l cs lc lv lc₁ lv₁ k) next-place stored;
                 upper = λ z. (refl, refl);
                 place = λ z. (refl, refl);
                 count = λ z. omega (arith, next-place);

@@ -15,11 +15,11 @@ use Rattle.algebra.specs.Reduction.{reduced}
 use Rattle.sparse.specs.Row.{Below}
 use Rattle.sparse.specs.Matrix.{Compressed, compressed, matrix}
 use Rattle.sparse.specs.Dense.{nonzeros}
-use Rattle.sparse.specs.Storing.{Stored}
-use Rattle.factor_row.specs.Loading.{StandsFor, multiples, ReduceReady}
+use Rattle.sparse.specs.Storing.{DenseStored}
+use Rattle.factor_row.specs.Loading.{StandsFor, multiples, RowReduceReady}
 
 pub record GatherRowReady (p i l total : ℕ) (A : Compressed) (C : List ℕ) (U : Compressed) (w lc lv : List ℕ) : Type 0 where
-  pub row : ReduceReady p i A C U w
+  pub row : RowReduceReady p i A C U w
   pub narrow : length C ≤ 2 ^ 32
   pub paired : length lc ≡ length lv
   pub place : l ≤ total
@@ -42,6 +42,6 @@ pub record GatherReadyFrom (p i r at l total : ℕ) (A : Compressed) (columns us
 
 pub record RowGathered (p m l total : ℕ) (cs : List ℕ) (w : Vector) (lc₀ lv₀ lc lv work : List ℕ) (over : Bool) (next : ℕ) : Type 0 where
   pub fit : leb (total + length (nonzeros cs)) (length lc₀) ≡ not over
-  pub stored : over ≡ false → Stored 0 l cs lc₀ lv₀ lc lv next
+  pub stored : over ≡ false → DenseStored 0 l cs lc₀ lv₀ lc lv next
   pub remainder : over ≡ false → StandsFor p m w work
   pub below : over ≡ false → Below (p * p) work

@@ -1,5 +1,5 @@
 -- One row of the matrix is taken: it becomes a pivot row or is dependent, unless its entries do not fit.
---   upperRow p m c w                       w divided by its value at column c: the next row of U
+--   nextUpperRow p m c w                       w divided by its value at column c: the next row of U
 --   PivotFound p m at l total cs w c ..    multiples cs of the rows of U were taken away and w remains, which is not 0 at c: the row of L is cs and then w c,
 --                                          stored at place l, and the row of U is stored at place `at`
 --   DependentFound at l total cs ..        nothing remains: the row of L is cs; it is counted, and stands at place l until the next pivot row
@@ -19,23 +19,23 @@ use Rattle.algebra.specs.Matrix.{Vector}
 use Rattle.residue.specs.Inverse.{invMod}
 use Rattle.sparse.specs.Matrix.{Compressed, matrix}
 use Rattle.sparse.specs.Dense.{nonzeros}
-use Rattle.sparse.specs.Storing.{Stored}
+use Rattle.sparse.specs.Storing.{DenseStored}
 use Rattle.factor_row.specs.Loading.{RowLoadable}
 use Rattle.factor_row.specs.Gathering.{GatherReadyFrom}
 use Rattle.factor_row.specs.PivotRow.{ListsReady}
 
-unfoldable pub upperRow : ℕ → ℕ → ℕ → Vector → List ℕ
-upperRow p m c w = tabulate m (λ j. invMod p (w c) * w j % p)
+unfoldable pub nextUpperRow : ℕ → ℕ → ℕ → Vector → List ℕ
+nextUpperRow p m c w = tabulate m (λ j. invMod p (w c) * w j % p)
 
 pub record PivotFound (p m at l total : ℕ) (cs : List ℕ) (w : Vector) (c : ℕ) (lc₀ lv₀ uc₀ uv₀ lc lv uc uv : List ℕ) (over : Bool) (at′ l′ total′ : ℕ) : Type 0 where
-  pub fit : (leb (total + length (nonzeros (cs ++ (w c ∷ [])))) (length lc₀) && leb (at + length (nonzeros (upperRow p m c w))) (length uc₀)) ≡ not over
-  pub lower : over ≡ false → Stored 0 l (cs ++ (w c ∷ [])) lc₀ lv₀ lc lv l′
-  pub upper : over ≡ false → Stored 0 at (upperRow p m c w) uc₀ uv₀ uc uv at′
+  pub fit : (leb (total + length (nonzeros (cs ++ (w c ∷ [])))) (length lc₀) && leb (at + length (nonzeros (nextUpperRow p m c w))) (length uc₀)) ≡ not over
+  pub lower : over ≡ false → DenseStored 0 l (cs ++ (w c ∷ [])) lc₀ lv₀ lc lv l′
+  pub upper : over ≡ false → DenseStored 0 at (nextUpperRow p m c w) uc₀ uv₀ uc uv at′
   pub count : over ≡ false → total′ ≡ total + length (nonzeros (cs ++ (w c ∷ [])))
 
 pub record DependentFound (at l total : ℕ) (cs lc₀ lv₀ uc₀ uv₀ lc lv uc uv : List ℕ) (over : Bool) (at′ l′ total′ : ℕ) : Type 0 where
   pub fit : leb (total + length (nonzeros cs)) (length lc₀) ≡ not over
-  pub lower : over ≡ false → Stored 0 l cs lc₀ lv₀ lc lv (l + length (nonzeros cs))
+  pub lower : over ≡ false → DenseStored 0 l cs lc₀ lv₀ lc lv (l + length (nonzeros cs))
   pub upper : over ≡ false → (uc ≡ uc₀) × (uv ≡ uv₀)
   pub place : over ≡ false → (at′ ≡ at) × (l′ ≡ l)
   pub count : over ≡ false → total′ ≡ total + length (nonzeros cs)

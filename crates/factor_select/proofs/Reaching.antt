@@ -25,7 +25,7 @@ use Rattle.elimination.proofs.Paths.{chain-join, entry-chain, path-chain, chain
 use Rattle.elimination.proofs.Kept.{Sound, pairs-sound, extendedTo-sound}
 use Rattle.elimination.proofs.Steps.{Searched, searched}
 use Rattle.elimination.specs.Rules.{pivotsTo}
-use Rattle.factor_names.specs.Sized.{RowStored}
+use Rattle.factor_names.specs.Sized.{RowWithin}
 use Rattle.factor_names.proofs.RowEntries.{row-stored, row-inside, row-has, has-row}
 use Rattle.factor_select.specs.Search.{Used, Trail, VisitReady, Visited}
 use Rattle.factor_select.specs.Needs.{SearchReady}
@@ -88,7 +88,7 @@ module _ {p n i : ℕ} {A : Compressed} {w v stamps₀ queue₀ : List ℕ} {mar
 
   -- ---- the row's own columns
 
-  pub own-stored : RowStored (A .starts) (A .cols) i
+  pub own-stored : RowWithin (A .starts) (A .cols) i
   own-stored = row-stored p n (length w) A (h .sized) i (h .row)
 
   -- at first no column has the stamp
@@ -149,7 +149,7 @@ module _ {p n i : ℕ} {A : Compressed} {w v stamps₀ queue₀ : List ℕ} {mar
     next-pivot : In (pairAt (rowAt w c) c) ps
     next-pivot = pivot c next-used
 
-    pub next-stored : RowStored (A .starts) (A .cols) (rowAt w c)
+    pub next-stored : RowWithin (A .starts) (A .cols) (rowAt w c)
     next-stored = row-stored p n (length w) A (h .sized) (rowAt w c) (sound .row (pairAt (rowAt w c) c) next-pivot)
 
     pub next-ready : (r : List ℕ) → r ≡ row (rowAt w c) → VisitReady r w stamps queue mark tail

@@ -24,7 +24,7 @@ use Rattle.elimination.specs.Selection.{nonzero, pairAt, unfit, extended, exten
 use Rattle.elimination.specs.Rules.{pivotsTo}
 use Rattle.elimination.proofs.Members.{in-named, none-named}
 use Rattle.elimination.proofs.Steps.{extended-chosen, extended-left, extended-taken}
-use Rattle.factor_names.specs.Sized.{Sized}
+use Rattle.factor_names.specs.Sized.{SmallMatrix}
 use Rattle.factor_names.specs.Named.{ByColumn, ByRow, Named}
 use Rattle.factor_select.specs.Search.{Survivor}
 use Rattle.factor_select.specs.Needs.{NameReady, SearchReady, ExtendReady, Extended, SelectReady}
@@ -149,7 +149,7 @@ module _ (p n : ℕ) (A : Compressed) (w₀ v₀ stamps₀ queue₀ : List ℕ) 
   pub turn-ready : i < n → ExtendReady p n i A w v stamps queue
   turn-ready row =
       let long : length w₀ ≡ length w = sym (h .named .columns-long) in
-      record { sized = subst (λ (m : ℕ). Sized p n m A) long (ready .sized); row = row; before = subst (λ (m : ℕ). Extended A n m i w v stamps queue) long h }
+      record { sized = subst (λ (m : ℕ). SmallMatrix p n m A) long (ready .sized); row = row; before = subst (λ (m : ℕ). Extended A n m i w v stamps queue) long h }
 
   pub turn-extended : (w′ v′ stamps′ queue′ : List ℕ) → Extended A n (length w) (i + 1) w′ v′ stamps′ queue′ → Extended A n (length w₀) (i + 1) w′ v′ stamps′ queue′
   turn-extended w′ v′ stamps′ queue′ = subst (λ (m : ℕ). Extended A n m (i + 1) w′ v′ stamps′ queue′) (h .named .columns-long)

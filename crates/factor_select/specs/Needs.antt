@@ -12,16 +12,16 @@ use lib.ListN.{length, getD}
 use Rattle.lists.specs.Filled.{zeros}
 use Rattle.sparse.specs.Matrix.{Compressed}
 use Rattle.elimination.specs.Structural.{leading}
-use Rattle.factor_names.specs.Sized.{Sized}
+use Rattle.factor_names.specs.Sized.{SmallMatrix}
 use Rattle.factor_names.specs.Named.{ByColumn, Named}
 
 pub record NameReady (p n : ℕ) (A : Compressed) (w v : List ℕ) : Type 0 where
-  pub sized : Sized p n (length w) A
+  pub sized : SmallMatrix p n (length w) A
   pub leading-named : ByColumn w (leading A n (length w))
   pub clear : v ≡ zeros n
 
 pub record SearchReady (p n i : ℕ) (A : Compressed) (w v stamps queue : List ℕ) (mark : ℕ) : Type 0 where
-  pub sized : Sized p n (length w) A
+  pub sized : SmallMatrix p n (length w) A
   pub named : Named A n (length w) i w v
   pub row : i < n
   pub stamps-long : length stamps ≡ length w
@@ -35,12 +35,12 @@ pub record Extended (A : Compressed) (n m i : ℕ) (w v stamps queue : List ℕ)
   pub unmarked : (j : ℕ) → getD stamps j 0 ≤ i
 
 pub record ExtendReady (p n i : ℕ) (A : Compressed) (w v stamps queue : List ℕ) : Type 0 where
-  pub sized : Sized p n (length w) A
+  pub sized : SmallMatrix p n (length w) A
   pub row : i < n
   pub before : Extended A n (length w) i w v stamps queue
 
 pub record SelectReady (p n : ℕ) (A : Compressed) (w v stamps queue : List ℕ) : Type 0 where
-  pub sized : Sized p n (length w) A
+  pub sized : SmallMatrix p n (length w) A
   pub before : Extended A n (length w) 0 w v stamps queue
 
 pub record FitReady (row w stamps : List ℕ) : Type 0 where

@@ -12,7 +12,7 @@ use Rattle.lists.specs.Filled.{zeros}
 use Rattle.elimination.proofs.Room.{entries-append}
 use Rattle.sparse.specs.Matrix.{Compressed, compressed, matrix}
 use Rattle.sparse.specs.Dense.{columnsFrom, nonzeros, compress}
-use Rattle.sparse.specs.Storing.{Stored}
+use Rattle.sparse.specs.Storing.{DenseStored}
 use Rattle.sparse.proofs.Rows.{form-below}
 use Rattle.sparse.proofs.DenseLaws.{compress-lengths}
 use Rattle.sparse.proofs.Nonzeros.{stored-columns, stored-values}
@@ -26,7 +26,7 @@ use Rattle.factor_row.specs.Gathering.{cut, multiplesBy, remainderBy, RowGather
 use Rattle.factor_row.proofs.Storage.{begins-long, holds-more, holds-filled}
 use Rattle.factor_turn.specs.State.{pivotLowers}
 use Rattle.factor_turn.specs.Turning.{Lent}
-use Rattle.factor_turn.specs.Filling.{LowerReady, LowerStored, FillFrom, FillReady, FillDone}
+use Rattle.factor_turn.specs.Filling.{FillRowReady, LowerStored, FillFrom, FillReady, FillDone}
 use Rattle.factor_turn.proofs.Steps.{entries-values, lowers-split}
 use Rattle.factor_turn.proofs.Sizes.{rank-most, entries-most}
 use Rattle.factor_turn.proofs.Readiness.{gather-ready}
@@ -34,7 +34,7 @@ use Rattle.factor_turn.proofs.TurnedRows.{multiples-found}
 
 -- ---- one row
 
-pub lower-stored : (p i r at l : ℕ) (A : Compressed) (columns us uc uv w lc lv : List ℕ) → LowerReady p i r at l A columns us uc uv w lc lv → (lc′ lv′ w₁ w₂ : List ℕ) (over : Bool) (next : ℕ)
+pub lower-stored : (p i r at l : ℕ) (A : Compressed) (columns us uc uv w lc lv : List ℕ) → FillRowReady p i r at l A columns us uc uv w lc lv → (lc′ lv′ w₁ w₂ : List ℕ) (over : Bool) (next : ℕ)
     → RowGathered p (length w) l l (multiplesBy p r columns (cut r at us uc uv) (matrix A i)) (remainderBy p r columns (cut r at us uc uv) (matrix A i)) lc lv lc′ lv′ w₁ over next
     → length w₁ ≡ length w → w₂ ≡ zeros (length w₁) → LowerStored p i r at l A columns us uc uv (length w) lc lv lc′ lv′ w₂ next
 lower-stored p i r at l A columns us uc uv w lc lv h lc′ lv′ w₁ w₂ over next g long clear =
@@ -127,7 +127,7 @@ module _ (p : ℕ) (A : Compressed) (R C : List ℕ) (L U : Compressed) (w : Lis
       pub filled-room : (next : ℕ) → next ≡ entries (take k rows) → next + length (nonzeros taken) ≤ length (L .cols)
       filled-room next e = omega (arith, ap length same-values, entries-step rows k (omega (arith, as-many)), entries-part rows (k + 1), g .state .L-entries, g .room)
 
-      stored-row : (lc lv lc′ lv′ : List ℕ) (next next′ : ℕ) → Stored 0 next taken lc lv lc′ lv′ next′ → Stored 0 next row lc lv lc′ lv′ next′
+      stored-row : (lc lv lc′ lv′ : List ℕ) (next next′ : ℕ) → DenseStored 0 next taken lc lv lc′ lv′ next′ → DenseStored 0 next row lc lv lc′ lv′ next′
       stored-row lc lv lc′ lv′ next next′ d =
           record {
             place = d .place ∙ ap (λ (l : List ℕ). next + length l) same-values;
@@ -136,7 +136,7 @@ module _ (p : ℕ) (A : Compressed) (R C : List ℕ) (L U : Compressed) (w : Lis
           }
 
       filled-turn : (L′ : Compressed) (next : ℕ) → FilledTo f total k L′ next → length (L′ .starts) ≡ length (L .starts) → length (L′ .cols) ≡ length (L .cols) → length (L′ .vals) ≡ length (L .vals)
-          → (lc lv : List ℕ) (next′ : ℕ) → Stored 0 next taken (L′ .cols) (L′ .vals) lc lv next′ → FilledTo f total (k + 1) (compressed (set (L′ .starts) (k + 1) next′) lc lv) next′
+          → (lc lv : List ℕ) (next′ : ℕ) → DenseStored 0 next taken (L′ .cols) (L′ .vals) lc lv next′ → FilledTo f total (k + 1) (compressed (set (L′ .starts) (k + 1) next′) lc lv) next′
       filled-turn L′ next t es ec ev lc lv next′ d =
           record {
             holds = rw (ap (λ (j : ℕ). take j rows) (add-one k) ∙ take-suc rows k [] (omega (arith, as-many)))
@@ -201,7 +201,7 @@ module _ (p : ℕ) (A : Compressed) (R C : List ℕ) (L U : Compressed) (w : Lis
         room : next + length (nonzeros (taken (h .lent) (h .f) (h .total) (h .from) k b)) ≤ length (L′ .cols)
         room = omega (arith, filled-room (h .lent) (h .f) (h .total) (h .from) k b next (here .place), t .lc-long)
 
-        pub filling-ready : LowerReady p (getD R k 0) r at next A C (U .starts) (U .cols) (U .vals) w′ (L′ .cols) (L′ .vals)
+        pub filling-ready : FillRowReady p (getD R k 0) r at next A C (U .starts) (U .cols) (U .vals) w′ (L′ .cols) (L′ .vals)
         filling-ready =
             rw same-row (record {
               row = gather-ready p A R C L U w (h .lent) r at l (h .total) (h .f) (h .from .holds) (h .from .state) (omega (arith, t .low)) U-room (getD R k 0) next next (L′ .cols) (L′ .vals)

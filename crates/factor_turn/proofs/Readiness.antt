@@ -14,7 +14,7 @@ use Rattle.sparse.specs.Dense.{compress}
 use Rattle.sparse.proofs.DenseLaws.{compress-matrix, compress-lengths}
 use Rattle.sparse.proofs.DenseForm.{compress-form}
 use Rattle.sparse.proofs.Rows.{form-below}
-use Rattle.factor_reduce.specs.InPlace.{UpperReady}
+use Rattle.factor_reduce.specs.InPlace.{EchelonReady}
 use Rattle.elimination.specs.Pivots.{Found, columnsOf, uppersOf, rankOf, turn}
 use Rattle.elimination.specs.Factoring.{entries}
 use Rattle.elimination.proofs.Invariant.{uppers-many, Invariant}
@@ -31,7 +31,7 @@ use Rattle.factor_turn.proofs.Sizes.{rank-most}
 -- ---- rows of U can be taken away from the working row
 
 module _ (p m : ℕ) (cs : List ℕ) (us : List (List ℕ)) (v : Echelon p m cs us) (two : 2 ≤ p) (w : List ℕ) (wide : length w ≡ m) (below : Below (p * p) w) where
-  upper-ready : UpperReady p (length cs) cs (compress us) w
+  upper-ready : EchelonReady p (length cs) cs (compress us) w
   upper-ready =
       record {
         positive = omega arith;
@@ -60,8 +60,8 @@ module _ (p : ℕ) (A : Compressed) (R C : List ℕ) (L U : Compressed) (w : Lis
 
   -- where the lists, cut to their lengths, are those of the rows us of U, and C begins with their pivot columns
   module _ (cs : List ℕ) (us : List (List ℕ)) (v : Echelon p (length w) cs us) (r at : ℕ) (ec : take r C ≡ cs) (eu : cut r at (U .starts) (U .cols) (U .vals) ≡ compress us) (inside : r ≤ length C) where
-    cut-ready : UpperReady p (length (take r C)) (take r C) (cut r at (U .starts) (U .cols) (U .vals)) w
-    cut-ready = subst₂ (λ (c : List ℕ) (u : Compressed). UpperReady p (length c) c u w) (sym ec) (sym eu) (upper-ready p (length w) cs us v (lent .prime .two) w refl cells-below)
+    cut-ready : EchelonReady p (length (take r C)) (take r C) (cut r at (U .starts) (U .cols) (U .vals)) w
+    cut-ready = subst₂ (λ (c : List ℕ) (u : Compressed). EchelonReady p (length c) c u w) (sym ec) (sym eu) (upper-ready p (length w) cs us v (lent .prime .two) w refl cells-below)
 
     pub rows-ready : r < length R → at ≤ length (U .cols) → (i place limit : ℕ) (lc lv : List ℕ) → i < length R → length lc ≡ length lv → place ≤ limit → limit ≤ length lc
         → GatherReadyFrom p i r at place limit A C (U .starts) (U .cols) (U .vals) w lc lv

@@ -20,7 +20,7 @@ use Rattle.elimination.proofs.Listed.{snoc-length, map-append}
 use Rattle.elimination.proofs.Invariant.{uppers-many}
 use Rattle.elimination.proofs.Room.{entries-stored, entries-append}
 use Rattle.factor_row.specs.Storage.{Holds}
-use Rattle.factor_row.specs.Taking.{upperRow, PivotFound, DependentFound}
+use Rattle.factor_row.specs.Taking.{nextUpperRow, PivotFound, DependentFound}
 use Rattle.factor_row.proofs.Storage.{holds-more, holds-same}
 use Rattle.factor_turn.specs.State.{pivotRows, pivotLowers, State}
 
@@ -51,8 +51,8 @@ module _ (p m : ℕ) (f : Found) (i c : ℕ) (cs : List ℕ) (w : Vector) where
   unfolding withPivot columnsOf
   columns-more = map-append (λ q. q .column) (f .pivots) _
 
-  pub uppers-more : uppersOf after ≡ uppersOf f ++ (upperRow p m c w ∷ [])
-  unfolding withPivot uppersOf upperRow
+  pub uppers-more : uppersOf after ≡ uppersOf f ++ (nextUpperRow p m c w ∷ [])
+  unfolding withPivot uppersOf nextUpperRow
   uppers-more = map-append (λ q. q .upper) (f .pivots) _
 
   lowers-more : pivotLowers after ≡ pivotLowers f ++ ((cs ++ (w c ∷ [])) ∷ [])
@@ -67,11 +67,11 @@ pub pivots-less : (f : Found) → entries (pivotLowers f) ≤ entries (lowersOf 
 pivots-less f = omega (arith, ap entries (lowers-split f), entries-append (pivotLowers f) (map (λ d. d .lower) (f .dependents)))
 
 module _ (p m : ℕ) (f : Found) (i c : ℕ) (cs : List ℕ) (w : Vector) where
-  pub pivot-U-entries : entries (uppersOf (withPivot p m f i c cs w)) ≡ entries (uppersOf f) + length (nonzeros (upperRow p m c w))
+  pub pivot-U-entries : entries (uppersOf (withPivot p m f i c cs w)) ≡ entries (uppersOf f) + length (nonzeros (nextUpperRow p m c w))
   pivot-U-entries =
       ap entries (uppers-more p m f i c cs w)
-      ∙ entries-append (uppersOf f) (upperRow p m c w ∷ [])
-      ∙ ap (λ (n : ℕ). entries (uppersOf f) + n) (entries-one (upperRow p m c w))
+      ∙ entries-append (uppersOf f) (nextUpperRow p m c w ∷ [])
+      ∙ ap (λ (n : ℕ). entries (uppersOf f) + n) (entries-one (nextUpperRow p m c w))
 
   pub pivot-lower-entries : entries (pivotLowers (withPivot p m f i c cs w)) ≡ entries (pivotLowers f) + length (nonzeros (cs ++ (w c ∷ [])))
   pivot-lower-entries =
@@ -121,7 +121,7 @@ module _ (f : Found) (R C : List ℕ) (L U : Compressed) (r at l total : ℕ) (s
     pivot-fits =
         ap₂ (λ (a b : ℕ). leb a (length (L .cols)) && leb b (length (U .cols)))
         (pivot-L-entries p m f i c cs w ∙ ap (λ (n : ℕ). n + length (nonzeros (cs ++ (w c ∷ [])))) (sym (s .L-entries)))
-        (pivot-U-entries p m f i c cs w ∙ ap (λ (n : ℕ). n + length (nonzeros (upperRow p m c w))) (sym (s .U-entries)))
+        (pivot-U-entries p m f i c cs w ∙ ap (λ (n : ℕ). n + length (nonzeros (nextUpperRow p m c w))) (sym (s .U-entries)))
         ∙ t .fit
 
     module _ (e : over ≡ false) where
@@ -129,7 +129,7 @@ module _ (f : Found) (R C : List ℕ) (L U : Compressed) (r at l total : ℕ) (s
       L-more = total + length (nonzeros (cs ++ (w c ∷ [])))
 
       abbrev U-more : ℕ
-      U-more = at + length (nonzeros (upperRow p m c w))
+      U-more = at + length (nonzeros (nextUpperRow p m c w))
 
       L-room : L-more ≤ length (L .cols)
       L-room = leb-true L-more (length (L .cols)) (and-left (leb L-more (length (L .cols))) (leb U-more (length (U .cols))) (t .fit ∙ ap not e))
@@ -137,9 +137,9 @@ module _ (f : Found) (R C : List ℕ) (L U : Compressed) (r at l total : ℕ) (s
       U-room : U-more ≤ length (U .cols)
       U-room = leb-true U-more (length (U .cols)) (and-right (leb L-more (length (L .cols))) (leb U-more (length (U .cols))) (t .fit ∙ ap not e))
 
-      upper-after : r + 1 < length (U .starts) → Holds (uppersOf f ++ (upperRow p m c w ∷ [])) at′ (compressed (set (U .starts) (r + 1) at′) uc uv)
+      upper-after : r + 1 < length (U .starts) → Holds (uppersOf f ++ (nextUpperRow p m c w ∷ [])) at′ (compressed (set (U .starts) (r + 1) at′) uc uv)
       upper-after h =
-          holds-more (uppersOf f) at U (s .upper) (upperRow p m c w) uc uv at at′ at′ (s .U-entries ∙ entries-values (uppersOf f)) (t .upper e)
+          holds-more (uppersOf f) at U (s .upper) (nextUpperRow p m c w) uc uv at at′ at′ (s .U-entries ∙ entries-values (uppersOf f)) (t .upper e)
           (omega arith) (omega (arith, t .upper e .place)) (omega (arith, t .upper e .place, U-room)) (omega (arith, t .upper e .place, U-room))
           (r + 1) (omega (arith, s .rank, uppers-many f)) h
 

@@ -15,7 +15,7 @@ use Rattle.algebra.specs.Matrix.{Vector, Matrix, vector}
 use Rattle.algebra.specs.Reduction.{reduced}
 use Rattle.sparse.specs.Matrix.{Compressed, compressed, matrix}
 use Rattle.sparse.proofs.DenseLaws.{compress-matrix}
-use Rattle.elimination.specs.Pivots.{Found, uppersOf, upper, rankOf, reducedBy, coefficients, withPivot, withDependent, placed, turn}
+use Rattle.elimination.specs.Pivots.{Found, uppersOf, upperOf, rankOf, reducedBy, coefficients, withPivot, withDependent, placedRow, turn}
 use Rattle.elimination.specs.Factoring.{entries, fits}
 use Rattle.factor_row.specs.Loading.{multiples}
 use Rattle.factor_row.specs.Gathering.{cut, multiplesBy, remainderBy}
@@ -33,7 +33,7 @@ module _ (p m : ℕ) (A : Matrix) (i : ℕ) (paired : Bool) (f : Found) (R C : L
 
   -- ---- the reduction by the lists is that by the rows found
 
-  matrices : matrix cutU ≡ upper f
+  matrices : matrix cutU ≡ upperOf f
   matrices = ap matrix (cut-found f R C L U r at l total s) ∙ (λ t k j. compress-matrix (uppersOf f) k j t)
 
   reduced-found : (k : ℕ) → reduced p (vector (take r C)) (matrix cutU) k (A i) ≡ reducedBy p f k (A i)
@@ -60,15 +60,15 @@ module _ (p m : ℕ) (A : Matrix) (i : ℕ) (paired : Bool) (f : Found) (R C : L
   abbrev found : Found
   found = turn p m A f (turnOf paired i (getD C r 0))
 
-  turn-placed : found ≡ placed p m f i cs w c
-  unfolding turn placed
+  turn-placed : found ≡ placedRow p m f i cs w c
+  unfolding turn placedRow
   turn-placed = go paired pair
     where
-      go : (b : Bool) → (b ≡ true → getD C r 0 < m) → turn p m A f (turnOf b i (getD C r 0)) ≡ placed p m f i (lowerOf p b r C cutU (A i)) (remainderOf p b r C cutU (A i)) (columnOf p m b r C cutU (A i))
+      go : (b : Bool) → (b ≡ true → getD C r 0 < m) → turn p m A f (turnOf b i (getD C r 0)) ≡ placedRow p m f i (lowerOf p b r C cutU (A i)) (remainderOf p b r C cutU (A i)) (columnOf p m b r C cutU (A i))
       go true h =
           ap (λ (k : ℕ). withPivot p m f i (getD C r 0) (zeros k) (A i)) (sym (s .rank))
           ∙ ap (λ (b : Bool). cond b (withDependent f i (zeros r)) (withPivot p m f i (getD C r 0) (zeros r) (A i))) (sym (lt-leb m (getD C r 0) (h refl)))
-      go false h = λ t. placed p m f i (sym multiples-found t) (sym remainder-found t) (first m (λ j. eqb (sym remainder-found t j) 0))
+      go false h = λ t. placedRow p m f i (sym multiples-found t) (sym remainder-found t) (first m (λ j. eqb (sym remainder-found t j) 0))
 
   column-most : c ≤ m
   column-most = go paired pair
@@ -78,11 +78,11 @@ module _ (p m : ℕ) (A : Matrix) (i : ℕ) (paired : Bool) (f : Found) (R C : L
       go false h = first-most m (λ j. eqb (remainderBy p r C cutU (A i) j) 0)
 
   pub dependent-is : m ≤ c → found ≡ withDependent f i cs
-  unfolding placed
+  unfolding placedRow
   dependent-is h = turn-placed ∙ ap (λ (b : Bool). cond b (withDependent f i cs) (withPivot p m f i c cs w)) (le-leb m c h)
 
   pub pivot-is : c < m → found ≡ withPivot p m f i c cs w
-  unfolding placed
+  unfolding placedRow
   pivot-is h = turn-placed ∙ ap (λ (b : Bool). cond b (withDependent f i cs) (withPivot p m f i c cs w)) (lt-leb m c h)
 
   -- ---- after it

@@ -1,5 +1,5 @@
 -- The second pass: the rows of L of the dependent rows, each found again by the finished rows of U.
---   LowerReady p i r at l A ..          row i can be reduced, and there is room for its row of L at place l
+--   FillRowReady p i r at l A ..          row i can be reduced, and there is room for its row of L at place l
 --   LowerStored p i r at l A ..         its row of L is stored, and the working row is cleared
 --   FillFrom p A R C L U w r at l ..    the lists hold the pivots of f, R has all its rows in order, and L has room for all its entries
 --   FillReady ..                        so it is, for some f
@@ -11,7 +11,7 @@ use lib.ListN.{length}
 use Rattle.lists.specs.Filled.{zeros, filled}
 use Rattle.sparse.specs.Matrix.{Compressed, matrix}
 use Rattle.sparse.specs.Dense.{nonzeros, compress}
-use Rattle.sparse.specs.Storing.{Stored}
+use Rattle.sparse.specs.Storing.{DenseStored}
 use Rattle.elimination.specs.Pivots.{Found}
 use Rattle.elimination.specs.Factoring.{rowsOf, lowersOf}
 use Rattle.elimination.proofs.Invariant.{Invariant}
@@ -19,12 +19,12 @@ use Rattle.factor_row.specs.Gathering.{cut, multiplesBy, GatherReadyFrom}
 use Rattle.factor_turn.specs.State.{State}
 use Rattle.factor_turn.specs.Turning.{Lent}
 
-pub record LowerReady (p i r at l : ℕ) (A : Compressed) (columns us uc uv w lc lv : List ℕ) : Type 0 where
+pub record FillRowReady (p i r at l : ℕ) (A : Compressed) (columns us uc uv w lc lv : List ℕ) : Type 0 where
   pub row : GatherReadyFrom p i r at l l A columns us uc uv w lc lv
   pub room : l + length (nonzeros (multiplesBy p r columns (cut r at us uc uv) (matrix A i))) ≤ length lc
 
 pub record LowerStored (p i r at l : ℕ) (A : Compressed) (columns us uc uv : List ℕ) (m : ℕ) (lc₀ lv₀ lc lv w : List ℕ) (next : ℕ) : Type 0 where
-  pub stored : Stored 0 l (multiplesBy p r columns (cut r at us uc uv) (matrix A i)) lc₀ lv₀ lc lv next
+  pub stored : DenseStored 0 l (multiplesBy p r columns (cut r at us uc uv) (matrix A i)) lc₀ lv₀ lc lv next
   pub clear : w ≡ zeros m
 
 pub record FillFrom (p : ℕ) (A : Compressed) (R C : List ℕ) (L U : Compressed) (m r at l total : ℕ) (f : Found) : Type 0 where

@@ -5,7 +5,7 @@ ghost use lib.ListN.{length};
 ghost use Rattle.lists.specs.Filled.{zeros};
 ghost use Rattle.sparse.specs.Matrix.{compressed};
 ghost use Rattle.elimination.specs.Pivots.{Found};
-ghost use Rattle.factor_turn.specs.Filling.{LowerReady, LowerStored, FillFrom, FillReady, FillDone};
+ghost use Rattle.factor_turn.specs.Filling.{FillRowReady, LowerStored, FillFrom, FillReady, FillDone};
 use lists::clear_row;
 use residue::Modulus;
 use factor_row::gathering::gather_row;
@@ -28,7 +28,7 @@ fn lower_row(
     lv: &mut [u32],
     work: &mut [u64],
 ) -> usize
-    requires { ⌜ LowerReady (q .p) i r at l (compressed (now ss) (now cols) (now vals)) (now columns) (now us) (now uc) (now uv) (now work) (now lc) (now lv) ⌝ }
+    requires { ⌜ FillRowReady (q .p) i r at l (compressed (now ss) (now cols) (now vals)) (now columns) (now us) (now uc) (now uv) (now work) (now lc) (now lv) ⌝ }
     ensures { λ next. ⌜ LowerStored (q .p) i r at l (compressed (now (ss .entry)) (now (cols .entry)) (now (vals .entry))) (now (columns .entry)) (now (us .entry)) (now (uc .entry)) (now (uv .entry)) (length (now (work .entry))) (now (lc .entry)) (now (lv .entry)) (now (lc .exit)) (now (lv .exit)) (now (work .exit)) next ⌝ }
 {
     let g = gather_row(

@@ -16,10 +16,10 @@ use Rattle.text_plan.specs.Call.{ReadAnswer}
 use Rattle.text_plan.specs.declared.Reading.{Reading}
 use Rattle.call_plan.specs.Limits.{workLength}
 use Rattle.certificate.specs.Layout.{certificateOf}
-use Rattle.call_write.specs.Call.{writeOutcome, kept}
+use Rattle.call_write.specs.Call.{writeOutcome, bytesGiven}
 use Rattle.factor_all.specs.Outcome as factoring
 use Rattle.stages.specs.declared.Stages.{Stages}
-use Rattle.stages.specs.Stages.{reading, readOutcome, factoredOf, factorOutcome, setIn}
+use Rattle.stages.specs.Stages.{reading, readOutcome, factoredOf, factorOutcome, setFactored}
 use Rattle.text_plan.specs.Held.{planOf}
 use Rattle.stages.specs.Staged.{FactorsHeld, Staged}
 use Rattle.plq.specs.Calls.{packed, makeReadOf, makeTextOf, certificateFor, Makes}
@@ -30,7 +30,7 @@ refusal : (o : Outcome) (cert : List ℕ) (k d : ℕ) (b₀ b : List ℕ) → Re
 refusal o cert k d b₀ b e z =
     record {
       outcome = e;
-      buffer = z ∙ sym (filled-none (length b₀)) ∙ ap (λ (x : Outcome). filled (length b₀) (kept x cert)) e;
+      buffer = z ∙ sym (filled-none (length b₀)) ∙ ap (λ (x : Outcome). filled (length b₀) (bytesGiven x cert)) e;
     }
 
 module _ (s : Stages) (A : Compressed) (R C : List ℕ) (L U : Compressed) (w : ℕ) (b₀ b : List ℕ) where
@@ -66,7 +66,7 @@ module _ (s : Stages) (A : Compressed) (R C : List ℕ) (L U : Compressed) (w : 
 -- two outcomes after a test that agree where it passes; a certificate counts only where the outcome is passed
 record Same (o o′ : Outcome) (c c′ : List ℕ) : Type 0 where
   outcome : o ≡ o′
-  kept-same : kept o c ≡ kept o′ c′
+  kept-same : bytesGiven o c ≡ bytesGiven o′ c′
 
 after : (b : Bool) (k d : ℕ) (o o′ : Outcome) (c c′ : List ℕ) → (b ≡ true → Same o o′ c c′) → Same (unless b k d ▷ o) (unless b k d ▷ o′) c c′
 after true k d o o′ c c′ h = h refl
@@ -84,7 +84,7 @@ module _ (text : List ℕ) (s : Stages) (A : Compressed) (R C : List ℕ) (L U :
     f = factoredOf x
 
     abbrev writing : Outcome
-    writing = writeOutcome (x .result .p) (x .result .n) (x .result .m) (planOf x) (setIn f) workLength (length b₀)
+    writing = writeOutcome (x .result .p) (x .result .n) (x .result .m) (planOf x) (setFactored f) workLength (length b₀)
 
     held : FactorsHeld x s A R C L U → s .factored .number ≡ 0 → Same (writtenOf s A R C L U (length w) (length b₀)) writing (heldCertificate s R C L U) (certificateFor x)
     unfolding certificateFor
@@ -92,7 +92,7 @@ module _ (text : List ℕ) (s : Stages) (A : Compressed) (R C : List ℕ) (L U :
         let o : writtenOf s A R C L U (length w) (length b₀) ≡ writing =
         λ t. writeOutcome (h .reading-is t .p) (h .reading-is t .n) (h .reading-is t .m) (g .plan-is t) (g .set-is q t) (wide t) (length b₀) in
         let c : heldCertificate s R C L U ≡ certificateFor x = λ t. certificateOf (h .reading-is t .p) (h .reading-is t .n) (h .reading-is t .m) (g .set-is q t) in
-        record { outcome = o; kept-same = λ t. kept (o t) (c t) }
+        record { outcome = o; kept-same = λ t. bytesGiven (o t) (c t) }
 
     factored : FactorsHeld x s A R C L U
         → Same (unless (eqb (s .factored .number) 0) (s .factored .number) (s .factored .detail) ▷ writtenOf s A R C L U (length w) (length b₀)) (factorOutcome f ▷ writing) (heldCertificate s R C L U) (certificateFor x)
@@ -101,7 +101,7 @@ module _ (text : List ℕ) (s : Stages) (A : Compressed) (R C : List ℕ) (L U :
         (λ q. held g (eqb-true (s .factored .number) 0 q)) in
         let n : (unless (eqb (s .factored .number) 0) (s .factored .number) (s .factored .detail) ▷ writing) ≡ (factorOutcome f ▷ writing) =
         λ t. unless (eqb (g .number-is t) 0) (g .number-is t) (g .detail-is t) ▷ writing in
-        record { outcome = e .outcome ∙ n; kept-same = e .kept-same ∙ ap (λ (o : Outcome). kept o (certificateFor x)) n }
+        record { outcome = e .outcome ∙ n; kept-same = e .kept-same ∙ ap (λ (o : Outcome). bytesGiven o (certificateFor x)) n }
 
     whole : Same (stagedOutcome s A R C L U (length w) (length b₀)) (makeTextOf text (length b₀)) (heldCertificate s R C L U) (certificateFor x)
     unfolding stagedOutcome makeTextOf makeReadOf
@@ -109,7 +109,7 @@ module _ (text : List ℕ) (s : Stages) (A : Compressed) (R C : List ℕ) (L U :
         let e = after (eqb (s .reading .number) 0) (s .reading .number) (s .reading .detail) _ (factorOutcome f ▷ writing) (heldCertificate s R C L U) (certificateFor x)
         (λ q. factored (h .factors (eqb-true (s .reading .number) 0 q))) in
         let n = ap (λ (r : Reading). readOutcome r ▷ factorOutcome f ▷ writing) (h .reading-is) in
-        record { outcome = e .outcome ∙ n; kept-same = e .kept-same ∙ ap (λ (o : Outcome). kept o (certificateFor x)) n }
+        record { outcome = e .outcome ∙ n; kept-same = e .kept-same ∙ ap (λ (o : Outcome). bytesGiven o (certificateFor x)) n }
 
     pub makes : (o : Outcome) (z : ℕ) → z ≡ packed o → Puts (stagedOutcome s A R C L U (length w) (length b₀)) (heldCertificate s R C L U) o b₀ b → Makes text z b₀ b
     makes o z e p = record { number = e ∙ ap packed (p .outcome ∙ whole .outcome); buffer = p .buffer ∙ ap (filled (length b₀)) (whole .kept-same) }

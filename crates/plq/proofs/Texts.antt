@@ -47,10 +47,10 @@ use Rattle.call_plan.proofs.Plans.{good-prime}
 use Rattle.text_plan.specs.Held.{planOf, StatesPlan}
 use Rattle.call_check.specs.Calls.{checkCertificateOf}
 use Rattle.call_check.proofs.Theorems.{factors-exactly, certificate-exactly, stored-certificate, rest, rest-numbers, after-plan}
-use Rattle.call_write.specs.Call.{writeOutcome, kept}
+use Rattle.call_write.specs.Call.{writeOutcome, bytesGiven}
 use Rattle.call_write.proofs.Theorems.{write-room}
 use Rattle.factor_all.specs.Outcome as Outcomes
-use Rattle.stages.specs.Stages.{reading, readOutcome, factoredOf, factorOutcome, setIn}
+use Rattle.stages.specs.Stages.{reading, readOutcome, factoredOf, factorOutcome, setFactored}
 use Rattle.stages.specs.Meaning.{factorsOf, FitsAll, OverflowsAt}
 use Rattle.stages.proofs.ReadText.{reading-good, outcome-passed, reading-numbers, firstRow, wholeSet, fits-all, row-overflows, factored-is, factored-whole}
 use Rattle.stages.proofs.Passing.{factors-pass}
@@ -210,7 +210,7 @@ module _ (text : List ℕ) where
       ∙ go (firstRow text)
     where
       after-factoring : Outcomes.Outcome → Outcome
-      after-factoring f = factorOutcome f ▷ writeOutcome p₁ n₁ m₁ x (setIn f) workLength room
+      after-factoring f = factorOutcome f ▷ writeOutcome p₁ n₁ m₁ x (setFactored f) workLength room
 
       go : (o : Option ℕ) → after-factoring (Outcomes.unlessOver o (wholeSet text)) ≡ (storage o ▷ roomFor room cert₁)
       go none = write-room p₁ n₁ m₁ x (factorsOf (reading text)) workLength room (factors-exactly p₁ n₁ m₁ x (factorsOf (reading text)) workLength .1 (factors-pass p₁ n₁ m₁ x (reading-good text h)))
@@ -221,7 +221,7 @@ module _ (text : List ℕ) where
   made-refused room = go (readOutcome (reading text .result)) refl (reading-numbers text)
     where
       later : Outcome
-      later = factorOutcome (factoredOf (reading text)) ▷ writeOutcome p₁ n₁ m₁ x (setIn (factoredOf (reading text))) workLength room
+      later = factorOutcome (factoredOf (reading text)) ▷ writeOutcome p₁ n₁ m₁ x (setFactored (factoredOf (reading text))) workLength room
 
       go : (o : Outcome) → readOutcome (reading text .result) ≡ o → RefusedBy textFaults o → RefusedBy (textFaults ++ (7 ∷ 9 ∷ [])) (o ▷ later)
       go Passed e h =
@@ -245,7 +245,7 @@ module _ (text : List ℕ) where
       where
         go : (o : Outcome) → makeTextOf text (length b₀) ≡ o → b ≡ zeros (length b₀)
         go Passed e = absurd (f (passed-exactly .1 e))
-        go (Refused k d) e = call .buffer ∙ ap (λ (o : Outcome). filled (length b₀) (kept o (certificateFor (reading text)))) e ∙ filled-none (length b₀)
+        go (Refused k d) e = call .buffer ∙ ap (λ (o : Outcome). filled (length b₀) (bytesGiven o (certificateFor (reading text)))) e ∙ filled-none (length b₀)
 
     -- a text that is not refused
     zero-states : z ≡ 0 → StatesPlan largestEntries text
@@ -295,8 +295,8 @@ module _ (text : List ℕ) where
     unfolding certificateFor
     made-buffer e =
         let states = zero-states e in
-        let same : setIn (factoredOf (reading text)) ≡ factorsOf (reading text) = ap setIn (factored-whole text states (zero-parts states .0 e .0)) in
-        call .buffer ∙ (λ t. filled (length b₀) (kept (passed-exactly .0 e t) (certificateOf p₁ n₁ m₁ (same t))))
+        let same : setFactored (factoredOf (reading text)) ≡ factorsOf (reading text) = ap setFactored (factored-whole text states (zero-parts states .0 e .0)) in
+        call .buffer ∙ (λ t. filled (length b₀) (bytesGiven (passed-exactly .0 e t) (certificateOf p₁ n₁ m₁ (same t))))
 
     pub made-checked : z ≡ 0 → (y : ℕ) → y ≡ packed (checkTextOf text (take (length (ownCertificate (reading text))) b)) → y ≡ 0
     made-checked e y next =

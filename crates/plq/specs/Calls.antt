@@ -17,8 +17,8 @@ use Rattle.text_plan.specs.Call.{ReadAnswer}
 use Rattle.call_plan.specs.Limits.{workLength}
 use Rattle.certificate.specs.Layout.{certificateOf}
 use Rattle.call_check.specs.Calls.{checkCertificateOf}
-use Rattle.call_write.specs.Call.{writeOutcome, kept}
-use Rattle.stages.specs.Stages.{reading, readOutcome, factoredOf, factorOutcome, setIn}
+use Rattle.call_write.specs.Call.{writeOutcome, bytesGiven}
+use Rattle.stages.specs.Stages.{reading, readOutcome, factoredOf, factorOutcome, setFactored}
 use Rattle.text_plan.specs.Held.{planOf}
 
 -- ---- checking
@@ -35,13 +35,13 @@ unfoldable pub makeReadOf : ReadAnswer → ℕ → Outcome
 makeReadOf x room =
     let r = x .result in
     let f = factoredOf x in
-    readOutcome r ▷ factorOutcome f ▷ writeOutcome (r .p) (r .n) (r .m) (planOf x) (setIn f) workLength room
+    readOutcome r ▷ factorOutcome f ▷ writeOutcome (r .p) (r .n) (r .m) (planOf x) (setFactored f) workLength room
 
 unfoldable pub makeTextOf : List ℕ → ℕ → Outcome
 makeTextOf text room = makeReadOf (reading text) room
 
 unfoldable pub certificateFor : ReadAnswer → List ℕ
-certificateFor x = certificateOf (x .result .p) (x .result .n) (x .result .m) (setIn (factoredOf x))
+certificateFor x = certificateOf (x .result .p) (x .result .n) (x .result .m) (setFactored (factoredOf x))
 
 -- ---- one number
 
@@ -50,4 +50,4 @@ packed o = numberOf o + 256 * detailOf o
 
 pub record Makes (text : List ℕ) (z : ℕ) (b₀ b : List ℕ) : Type 0 where
   pub number : z ≡ packed (makeTextOf text (length b₀))
-  pub buffer : b ≡ filled (length b₀) (kept (makeTextOf text (length b₀)) (certificateFor (reading text)))
+  pub buffer : b ≡ filled (length b₀) (bytesGiven (makeTextOf text (length b₀)) (certificateFor (reading text)))

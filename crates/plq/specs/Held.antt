@@ -14,7 +14,7 @@ use Rattle.lists.specs.Refusals.{_▷_, unless}
 use Rattle.lists.specs.declared.Outcome.{Outcome}
 use Rattle.sparse.specs.Matrix.{Compressed}
 use Rattle.certificate.specs.Layout.{certificateOf}
-use Rattle.call_write.specs.Call.{writeOutcome, kept}
+use Rattle.call_write.specs.Call.{writeOutcome, bytesGiven}
 use Rattle.stages.specs.declared.Stages.{Stages}
 use Rattle.stages.specs.Stages.{readOutcome}
 use Rattle.text_plan.specs.Held.{heldPlan}
@@ -34,7 +34,7 @@ stagedOutcome s A R C L U w room =
 
 pub record Puts (o : Outcome) (cert : List ℕ) (r : Outcome) (b₀ b : List ℕ) : Type 0 where
   pub outcome : r ≡ o
-  pub buffer : b ≡ filled (length b₀) (kept o cert)
+  pub buffer : b ≡ filled (length b₀) (bytesGiven o cert)
 
 pub record StagedFits (s : Stages) (A : Compressed) (R C : List ℕ) (L U : Compressed) : Type 0 where
   pub fits : s .reading .number ≡ 0 → Fits s A R C L U

@@ -20,7 +20,7 @@ use Rattle.print_text.specs.Printed.{countedFromOne, printed, Prints}
 use Rattle.stages.specs.declared.Stages.{Stages}
 use Rattle.stages.specs.Stages.{reading, readOutcome, factoredOf, factorOutcome}
 use Rattle.stages.specs.Staged.{FactorsHeld, Staged}
-use Rattle.report_lib.specs.Held.{heldSummary, heldList, heldText, stagedText, StagedReady}
+use Rattle.report_lib.specs.Held.{heldSummary, heldList, heldText, stagedText, ReportStagedReady}
 use Rattle.report_lib.specs.Reporting.{summaryOf, openListOf, reportReadOf, reportOf, ReportLists, Reports}
 
 -- what follows a test counts only where it passes
@@ -75,7 +75,7 @@ module _ (x : ReadAnswer) (s : Stages) (A : Compressed) (R C : List ℕ) (L U : 
       ∙ ap (λ (r : Reading). printed (readOutcome r) after-reading) same
 
 module _ (text : List ℕ) (s : Stages) (A : Compressed) (R C : List ℕ) (L U : Compressed) (w₀ w : List ℕ) (h : Staged text s A R C L U w₀ w) where
-  pub ready : (marks out : List ℕ) → ReportLists out w₀ → length C ≡ largestSize → length marks ≡ largestSize → StagedReady s A R C L U marks out w
+  pub ready : (marks out : List ℕ) → ReportLists out w₀ → length C ≡ largestSize → length marks ≡ largestSize → ReportStagedReady s A R C L U marks out w
   ready marks out d wide long =
       let same : length w ≡ length w₀ = ap length (h .cleared) ∙ length-zeros (length w₀) in
       record {

@@ -4,7 +4,7 @@
 --   heldText s ..          what is printed once reading and factoring were done
 --   stagedText s ..        what is printed of any stages: the first refusal, or the above
 --   HeldReady s ..         what printing needs once reading and factoring were done
---   StagedReady s ..       what printing any stages needs
+--   ReportStagedReady s ..       what printing any stages needs
 use Prim.Native.Nat.{ℕ, _≤_}
 use mathlib.Core.Path.{_≡_}
 use mathlib.Core.List.{List}
@@ -60,7 +60,7 @@ pub record HeldReady (s : Stages) (A : Compressed) (R C : List ℕ) (L U : Compr
   pub room : 65536 ≤ length out
   pub work-length : length w ≡ workLength
 
-pub record StagedReady (s : Stages) (A : Compressed) (R C : List ℕ) (L U : Compressed) (marks out w : List ℕ) : Type 0 where
+pub record ReportStagedReady (s : Stages) (A : Compressed) (R C : List ℕ) (L U : Compressed) (marks out w : List ℕ) : Type 0 where
   pub fits : s .reading .number ≡ 0 → Fits s A R C L U
   pub columns-small : s .reading .number ≡ 0 → s .reading .m ≤ largestSize
   pub detail-small : s .reading .number ≡ 0 → s .factored .detail ≤ largestSize

@@ -19,7 +19,7 @@ use Rattle.call_open.specs.Calls.{Listed, openFactorsOf}
 use Rattle.print_text.specs.declared.lines.Summary.{Summary}
 use Rattle.print_text.specs.Report.{reportText}
 use Rattle.print_text.specs.Printed.{countedFromOne, printed}
-use Rattle.stages.specs.Stages.{reading, readOutcome, factoredOf, factorOutcome, setIn}
+use Rattle.stages.specs.Stages.{reading, readOutcome, factoredOf, factorOutcome, setFactored}
 use Rattle.text_plan.specs.Held.{planOf}
 
 abbrev pub summaryOf : ReadAnswer → Outcome → Summary
@@ -36,7 +36,7 @@ summaryOf x f =
     }
 
 abbrev pub openListOf : ReadAnswer → Outcome → Listed
-openListOf x f = let r = x .result in openFactorsOf (r .p) (r .n) (r .m) (planOf x) (setIn f) (r .m) workLength
+openListOf x f = let r = x .result in openFactorsOf (r .p) (r .n) (r .m) (planOf x) (setFactored f) (r .m) workLength
 
 unfoldable pub reportReadOf : ReadAnswer → List ℕ
 reportReadOf x =

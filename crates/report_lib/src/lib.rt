@@ -5,7 +5,7 @@ ghost use Rattle.sparse.specs.Matrix.{compressed};
 ghost use Rattle.call_open.specs.Calls.{Lists};
 ghost use Rattle.stages.specs.Staged.{Fits};
 ghost use Rattle.print_text.specs.Printed.{Prints};
-ghost use Rattle.report_lib.specs.Held.{heldSummary, heldList, heldText, stagedText, HeldReady, StagedReady};
+ghost use Rattle.report_lib.specs.Held.{heldSummary, heldList, heldText, stagedText, HeldReady, ReportStagedReady};
 ghost use Rattle.report_lib.specs.Reporting.{ReportLists, Reports};
 use call_open::from_factors::open_columns_from_factors;
 use lists::Outcome;
@@ -147,7 +147,7 @@ fn report_staged(
     out: &mut [u8],
     work: &mut [u64],
 ) -> usize
-    requires { ⌜ StagedReady s (compressed (now starts) (now columns) (now values)) (now rows) (now cols) (compressed (now ls) (now lc) (now lv)) (compressed (now us) (now uc) (now uv)) (now marks) (now out) (now work) ⌝ }
+    requires { ⌜ ReportStagedReady s (compressed (now starts) (now columns) (now values)) (now rows) (now cols) (compressed (now ls) (now lc) (now lv)) (compressed (now us) (now uc) (now uv)) (now marks) (now out) (now work) ⌝ }
     ensures { λ size. ⌜ Prints (stagedText s (compressed (now (starts .entry)) (now (columns .entry)) (now (values .entry))) (now (rows .entry)) (now (cols .entry)) (compressed (now (ls .entry)) (now (lc .entry)) (now (lv .entry))) (compressed (now (us .entry)) (now (uc .entry)) (now (uv .entry)))) size (now (out .entry)) (now (out .exit)) (now (work .entry)) (now (work .exit)) ⌝ }
 {
     let r = s.reading;

@@ -23,7 +23,7 @@ use Rattle.residue.specs.Arithmetic.{Residue}
 use Rattle.sparse.specs.Row.{weigh, entry, Below, Row}
 use Rattle.sparse.specs.WorkingRow.{Cell}
 use Rattle.sparse.specs.Dense.{nonzeros, scaled}
-use Rattle.sparse.specs.Storing.{Room, Stored, RowStored}
+use Rattle.sparse.specs.Storing.{Room, DenseStored, RowStored}
 use Rattle.sparse.specs.Scan.{NextNonzero}
 use Rattle.sparse.proofs.Scanning.{over-zeros}
 use Rattle.sparse.proofs.Entries.{weigh-step, weigh-end, entry-below, row-values}
@@ -152,7 +152,7 @@ module _ (p : ℕ) (w : List ℕ) where
 module _ (p c start : ℕ) (w₀ cols₀ vals₀ : List ℕ) where
   pub record Storing (w cols vals : List ℕ) (at j : ℕ) : Type 0 where
     pub clearing : Clearing w₀ w j
-    pub stored : Stored 0 start (scaled p c (take j w₀)) cols₀ vals₀ cols vals at
+    pub stored : DenseStored 0 start (scaled p c (take j w₀)) cols₀ vals₀ cols vals at
 
   pub storing-starts : Storing w₀ cols₀ vals₀ start 0
   unfolding scaled
@@ -191,7 +191,7 @@ module _ (p c start : ℕ) (w₀ cols₀ vals₀ : List ℕ) where
               ∙ count-append (scaled p c (take j w₀)) (v ∷ scaled p c (drop (j + 1) w₀))
               ∙ ap (λ (n : ℕ). length (nonzeros (scaled p c (take j w₀))) + n) (count-append (v ∷ []) (scaled p c (drop (j + 1) w₀)))
 
-      pub storing-turn : (cols′ vals′ : List ℕ) (at′ : ℕ) → Stored j at (v ∷ []) cols vals cols′ vals′ at′ → Storing (set w j 0) cols′ vals′ at′ (j + 1)
+      pub storing-turn : (cols′ vals′ : List ℕ) (at′ : ℕ) → DenseStored j at (v ∷ []) cols vals cols′ vals′ at′ → Storing (set w j 0) cols′ vals′ at′ (j + 1)
       storing-turn cols′ vals′ at′ d =
           record {
             clearing = clearing-turn w₀ w j h (s .clearing);

@@ -12,7 +12,7 @@ use Rattle.lists.proofs.Steps.{drop-step, sets-append}
 use Rattle.algebra.proofs.Inverse.{no-divisors}
 use Rattle.residue.specs.Inverse.{Invertible}
 use Rattle.sparse.specs.Dense.{columnsFrom, nonzeros, scaled}
-use Rattle.sparse.specs.Storing.{Stored}
+use Rattle.sparse.specs.Storing.{DenseStored}
 
 -- ---- in parts
 
@@ -40,12 +40,12 @@ length-columns j (suc v ∷ row) = ap suc (length-columns (suc j) row)
 
 -- ---- stored in parts
 
-pub stored-none : (j at : ℕ) (cols vals : List ℕ) → Stored j at [] cols vals cols vals at
+pub stored-none : (j at : ℕ) (cols vals : List ℕ) → DenseStored j at [] cols vals cols vals at
 unfolding nonzeros columnsFrom
 stored-none j at cols vals = record { place = omega arith; columns = refl; values = refl }
 
-pub stored-then : (j at : ℕ) (xs ys cols₀ vals₀ cols₁ vals₁ cols₂ vals₂ : List ℕ) (next₁ next₂ : ℕ) → Stored j at xs cols₀ vals₀ cols₁ vals₁ next₁
-    → Stored (j + length xs) next₁ ys cols₁ vals₁ cols₂ vals₂ next₂ → Stored j at (xs ++ ys) cols₀ vals₀ cols₂ vals₂ next₂
+pub stored-then : (j at : ℕ) (xs ys cols₀ vals₀ cols₁ vals₁ cols₂ vals₂ : List ℕ) (next₁ next₂ : ℕ) → DenseStored j at xs cols₀ vals₀ cols₁ vals₁ next₁
+    → DenseStored (j + length xs) next₁ ys cols₁ vals₁ cols₂ vals₂ next₂ → DenseStored j at (xs ++ ys) cols₀ vals₀ cols₂ vals₂ next₂
 stored-then j at xs ys cols₀ vals₀ cols₁ vals₁ cols₂ vals₂ next₁ next₂ a b =
     record {
       place = omega (arith, a .place, b .place, count-append xs ys);
@@ -60,7 +60,7 @@ stored-then j at xs ys cols₀ vals₀ cols₁ vals₁ cols₂ vals₂ next₁ n
     }
 
 -- the lists stay as long as they were
-module _ (j at : ℕ) (row cols₀ vals₀ cols vals : List ℕ) (next : ℕ) (s : Stored j at row cols₀ vals₀ cols vals next) where
+module _ (j at : ℕ) (row cols₀ vals₀ cols vals : List ℕ) (next : ℕ) (s : DenseStored j at row cols₀ vals₀ cols vals next) where
   pub stored-columns : length cols ≡ length cols₀
   stored-columns = ap length (s .columns) ∙ length-sets cols₀ at (columnsFrom j row)
 
@@ -68,12 +68,12 @@ module _ (j at : ℕ) (row cols₀ vals₀ cols vals : List ℕ) (next : ℕ) (s
   stored-values = ap length (s .values) ∙ length-sets vals₀ at (nonzeros row)
 
 -- one cell: nothing is stored of a 0
-pub stored-zero : (j at v : ℕ) (cols vals : List ℕ) → v ≡ 0 → Stored j at (v ∷ []) cols vals cols vals at
+pub stored-zero : (j at v : ℕ) (cols vals : List ℕ) → v ≡ 0 → DenseStored j at (v ∷ []) cols vals cols vals at
 unfolding nonzeros columnsFrom
 stored-zero j at zero cols vals e = record { place = omega arith; columns = refl; values = refl }
 stored-zero j at (suc v) cols vals e = absurd (omega arith)
 
-pub stored-one : (j at v : ℕ) (cols vals : List ℕ) → (v ≡ 0 → ⊥) → Stored j at (v ∷ []) cols vals (set cols at j) (set vals at v) (at + 1)
+pub stored-one : (j at v : ℕ) (cols vals : List ℕ) → (v ≡ 0 → ⊥) → DenseStored j at (v ∷ []) cols vals (set cols at j) (set vals at v) (at + 1)
 unfolding nonzeros columnsFrom
 stored-one j at zero cols vals e = absurd (e refl)
 stored-one j at (suc v) cols vals e = record { place = refl; columns = refl; values = refl }

@@ -22,7 +22,7 @@ use Rattle.residue.specs.Inverse.{Invertible}
 use Rattle.sparse.specs.Form.{risesFrom, values}
 use Rattle.sparse.specs.Row.{weigh, entry, Row}
 use Rattle.sparse.specs.Dense.{columnsFrom, nonzeros, scaled}
-use Rattle.sparse.specs.Storing.{Stored}
+use Rattle.sparse.specs.Storing.{DenseStored}
 use Rattle.sparse.specs.Copying.{Copied}
 use Rattle.sparse.proofs.Entries.{rises-at, values-at, entry-low, entry-absent, entry-below}
 use Rattle.sparse.proofs.DenseLaws.{dense-entry, values-same, columns-same}
@@ -163,7 +163,7 @@ module _ (p c : ℕ) (i : Invertible p c) where
 
     -- a row that is copied times c is stored as its multiple
     pub copied-stored : (at : ℕ) (cs₀ vs₀ cs vs : List ℕ) (next : ℕ) → Copied p c at cols vals cs₀ vs₀ cs vs next
-        → Stored 0 at (tabulate width (λ j. c * entry cols vals j % p)) cs₀ vs₀ cs vs next
+        → DenseStored 0 at (tabulate width (λ j. c * entry cols vals j % p)) cs₀ vs₀ cs vs next
     copied-stored at cs₀ vs₀ cs vs next d =
         record {
           place = d .place ∙ ap (λ (n : ℕ). at + n) (sym multiple-count);

@@ -2,7 +2,7 @@
 --   LoadReady p cols vals w          what loading a sparse row needs: the working row is all zero
 --   DotReady p cols vals z           what the product of a sparse row and a vector z needs
 --   Room at row cols vals            the lists have room for the entries of a dense row from place `at` on
---   Stored j at row ..               the entries of a dense row, its columns counted from j, stand at place `at`; `next` is the place after them
+--   DenseStored j at row ..               the entries of a dense row, its columns counted from j, stand at place `at`; `next` is the place after them
 --   StoreReady p c at w cols vals    what storing the working row times c needs
 --   RowStored p c at w₀ ..           the working row times c is stored, and is cleared
 use Prim.Native.Nat.{ℕ, _+_, _^_, _≤_, _<_}
@@ -27,7 +27,7 @@ pub record Room (at : ℕ) (row cols vals : List ℕ) : Type 0 where
   pub fits : at + length (nonzeros row) ≤ length cols
   pub paired : length cols ≡ length vals
 
-pub record Stored (j at : ℕ) (row cols₀ vals₀ cols vals : List ℕ) (next : ℕ) : Type 0 where
+pub record DenseStored (j at : ℕ) (row cols₀ vals₀ cols vals : List ℕ) (next : ℕ) : Type 0 where
   pub place : next ≡ at + length (nonzeros row)
   pub columns : cols ≡ sets cols₀ at (columnsFrom j row)
   pub values : vals ≡ sets vals₀ at (nonzeros row)
@@ -38,5 +38,5 @@ pub record StoreReady (p c at : ℕ) (w cols vals : List ℕ) : Type 0 where
   pub room : Room at (scaled p c w) cols vals
 
 pub record RowStored (p c at : ℕ) (w₀ cols₀ vals₀ w cols vals : List ℕ) (next : ℕ) : Type 0 where
-  pub stored : Stored 0 at (scaled p c w₀) cols₀ vals₀ cols vals next
+  pub stored : DenseStored 0 at (scaled p c w₀) cols₀ vals₀ cols vals next
   pub cleared : w ≡ zeros (length w₀)

@@ -13,7 +13,7 @@ ghost use Rattle.sparse.specs.Words.{view};
 ghost use Rattle.sparse.specs.Row.{entry, weigh};
 ghost use Rattle.sparse.specs.WorkingRow.{Cell};
 ghost use Rattle.sparse.specs.Dense.{nonzeros, scaled};
-ghost use Rattle.sparse.specs.Storing.{LoadReady, DotReady, Room, Stored, StoreReady, RowStored};
+ghost use Rattle.sparse.specs.Storing.{LoadReady, DotReady, Room, DenseStored, StoreReady, RowStored};
 use crate::scan::next_nonzero;
 use crate::words::count;
 use crate::words::word;
@@ -116,7 +116,7 @@ fn scale(q: Modulus, c: u32, x: u64) -> u32
 // Stores the value v at column j in place `at`, unless it is 0; gives the next place.
 pub fn put(v: u32, j: u32, at: usize, cols: &mut [u32], vals: &mut [u32]) -> usize
     requires { ⌜ Room at (v ∷ []) (now cols) (now vals) ⌝ }
-    ensures { λ next. ⌜ Stored j at (v ∷ []) (now (cols .entry)) (now (vals .entry)) (now (cols .exit)) (now (vals .exit)) next ⌝ }
+    ensures { λ next. ⌜ DenseStored j at (v ∷ []) (now (cols .entry)) (now (vals .entry)) (now (cols .exit)) (now (vals .exit)) next ⌝ }
 {
     if v == 0 {
         return at;

@@ -21,7 +21,7 @@ use Rattle.call_factor.proofs.Ready.{Kept}
 use Rattle.lists.specs.declared.Outcome.the-variants.{Passed}
 use Rattle.call_factor.specs.Calls.{factorCallOf}
 use Rattle.stages.specs.declared.Stages.{Stages}
-use Rattle.stages.specs.Stages.{reading, lentFor, factoredOf, setIn}
+use Rattle.stages.specs.Stages.{reading, lentFor, factoredOf, setFactored}
 use Rattle.text_plan.specs.Held.{heldPlan}
 use Rattle.stages.specs.Lists.{SetLists, StageLists, Held, Lendable}
 use Rattle.stages.specs.Staged.{Fits, heldSet, FactorsHeld, Staged}
@@ -119,11 +119,11 @@ module _ (r : Reading) (A : Compressed) (f : Factored) (R C : List ℕ) (L U : C
     g : GoodPlan p n m A′
     g = lent-good p n m A′ (lentFor n m) passed .0
 
-    set : heldSet result R C L U ≡ setIn o
+    set : heldSet result R C L U ≡ setFactored o
     set =
         cut
         ∙ own-set p n m A′ (modulus-prime p (g .modulus)) (g .formed) (g .rows) largestEntries largestEntries (f .detail) (f .rank) (f .structural) (take n R) (take m C) L′ U′ w leaves
-        ∙ sym (ap setIn (plain ∙ own-outcome p n m A′ (modulus-prime p (g .modulus)) (g .formed) (g .rows) largestEntries largestEntries (f .detail) (f .rank) (f .structural) (take n R) (take m C) L′ U′ w leaves))
+        ∙ sym (ap setFactored (plain ∙ own-outcome p n m A′ (modulus-prime p (g .modulus)) (g .formed) (g .rows) largestEntries largestEntries (f .detail) (f .rank) (f .structural) (take n R) (take m C) L′ U′ w leaves))
 
   abbrev answered : ReadAnswer
   answered = record { result = r; starts = A .starts; columns = A .cols; values = A .vals }

@@ -5,7 +5,7 @@ use Prim.Native.Nat.{ℕ, _≤_}
 use native.Mathlib.Omega.{arith}
 use lib.ListN.{length}
 use Rattle.text_opening.specs.Reading.{Entry, ReadResult, refused, accepted, placed, readOf}
-use Rattle.text_plan.specs.Call.{ReadAnswer, answerBy, answerOf, callOf, Gives}
+use Rattle.text_plan.specs.Call.{ReadAnswer, answerBy, readAnswerOf, callOf, Gives}
 use Rattle.text_plan.specs.Stating.{entriesOf}
 use Rattle.text_plan.specs.declared.Reading.{Reading}
 use Rattle.text_plan.proofs.Accepted.{accepted-states}
@@ -22,7 +22,7 @@ pub record Small (r : Reading) : Type 0 where
   pub columns : r .m ≤ largestSize
   pub entries : r .count ≤ largestEntries
 
-read-small : (text : List ℕ) (o : ReadResult) → readOf largestEntries text ≡ o → Small (answerOf largestEntries o .result)
+read-small : (text : List ℕ) (o : ReadResult) → readOf largestEntries text ≡ o → Small (readAnswerOf largestEntries o .result)
 unfolding answerBy
 read-small text (refused c d) e = record { rows = omega arith; columns = omega arith; entries = omega arith }
 read-small text (accepted s seen) e =

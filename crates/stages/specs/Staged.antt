@@ -13,7 +13,7 @@ use Rattle.sparse.specs.Set.{Set, setOf}
 use Rattle.text_plan.specs.Call.{ReadAnswer}
 use Rattle.call_plan.specs.Limits.{largestSize}
 use Rattle.stages.specs.declared.Stages.{Stages}
-use Rattle.stages.specs.Stages.{reading, factoredOf, setIn}
+use Rattle.stages.specs.Stages.{reading, factoredOf, setFactored}
 use Rattle.text_plan.specs.Held.{heldPlan, planOf}
 use Rattle.stages.specs.Lists.{Held}
 
@@ -44,7 +44,7 @@ pub record FactorsHeld (x : ReadAnswer) (s : Stages) (A : Compressed) (R C : Lis
   pub structural-is : s .factored .structural ≡ factoredOf x .structural
   pub lower-is : s .lower ≡ length (factoredOf x .L .vals)
   pub upper-is : s .upper ≡ length (factoredOf x .U .vals)
-  pub set-is : s .factored .number ≡ 0 → heldSet s R C L U ≡ setIn (factoredOf x)
+  pub set-is : s .factored .number ≡ 0 → heldSet s R C L U ≡ setFactored (factoredOf x)
 
 pub record Staged (text : List ℕ) (s : Stages) (A : Compressed) (R C : List ℕ) (L U : Compressed) (w₀ w : List ℕ) : Type 0 where
   pub reading-is : s .reading ≡ reading text .result

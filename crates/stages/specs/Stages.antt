@@ -4,7 +4,7 @@
 --   lentFor n m              the lists that are lent to factoring: R, C and the starts of their lengths, and room for 16,384 entries of L and of U each
 --   factoredOf x             the factoring of the plan that was read
 --   factorOutcome f          factoring's number and detail
---   setIn f                  the set that factoring gives
+--   setFactored f                  the set that factoring gives
 use Prim.Native.Nat.{ℕ, _+_}
 use mathlib.Core.List.{List}
 use lib.Dec.{eqb}
@@ -50,5 +50,5 @@ factoredOf x = let r = x .result in factorCallOf (r .p) (r .n) (r .m) (planOf x)
 abbrev pub factorOutcome : Outcome → tests.Outcome
 factorOutcome f = unless (eqb (f .number) 0) (f .number) (f .detail)
 
-abbrev pub setIn : Outcome → Set
-setIn f = setOf (f .rank) (f .R) (f .C) (f .L) (f .U)
+abbrev pub setFactored : Outcome → Set
+setFactored f = setOf (f .rank) (f .R) (f .C) (f .L) (f .U)

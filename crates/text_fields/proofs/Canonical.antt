@@ -1,4 +1,4 @@
--- `numberOf` accepts exactly the decimal texts of the numbers below 10 ^ 10, each as its number: `number-printed` and `number-prints`.
+-- `numberIn` accepts exactly the decimal texts of the numbers below 10 ^ 10, each as its number: `number-printed` and `number-prints`.
 use mathlib.Core.Path.{_≡_, refl, sym, ap, _∙_, subst}
 use mathlib.Core.List.{List, [], _∷_, _++_, append-assoc, append-nil}
 use mathlib.Core.Bool.{Bool, true, false, cond}
@@ -12,7 +12,7 @@ use lib.Arith.{digits-div, digits-mod}
 use lib.Dec.{ltb, eqb}
 use borrow.Author.Tests.{lt-ltb, le-ltb, ltb-true, ltb-false, eqb-true, eqb-false}
 use Rattle.text_fields.specs.declared.numbers.Number.the-variants.{Value, NotNumber}
-use Rattle.text_fields.specs.Number.{digitsFrom, numberOf, zeroAlone}
+use Rattle.text_fields.specs.Number.{digitsFrom, numberIn, zeroAlone}
 use Rattle.text_fields.specs.Decimal.{decimalIn, decimal}
 use Rattle.text_fields.proofs.Values.{number-else}
 
@@ -144,8 +144,8 @@ digits-text b n bs short q x =
     let more : 10 ^ suc (length bs) ≤ 10 ^ 10 = pow-le-pow-right {n = 10} (omega arith) (suc-le-suc short) in
     (lt-of-lt-of-le (rw (← one-add (length bs)) (p .below)) more, sym same ∙ p .text ∙ ap (λ (k : ℕ). decimalIn k n) (one-add (length bs)) ∙ sym wide)
 
-pub number-prints : (l : List ℕ) (n : ℕ) → numberOf l ≡ Value n → (n < 10 ^ 10) × (l ≡ decimal n)
-unfolding numberOf
+pub number-prints : (l : List ℕ) (n : ℕ) → numberIn l ≡ Value n → (n < 10 ^ 10) × (l ≡ decimal n)
+unfolding numberIn
 number-prints [] n e = absurd (value-not e)
 number-prints (b ∷ bs) n e = go (ltb 10 (suc (length bs))) (eqb b 48) bs refl refl refl e
   where
@@ -157,7 +157,7 @@ number-prints (b ∷ bs) n e = go (ltb 10 (suc (length bs))) (eqb b 48) bs refl 
     go false false cs c p q x = digits-text b n bs (omega (arith, ltb-false 10 (suc (length bs)) p)) (eqb-false b 48 q) x
 
 -- and the printed ones are accepted
-number-not-zero : (n : ℕ) → 0 < n → n < 10 ^ 10 → numberOf (decimalIn 10 n) ≡ Value n
+number-not-zero : (n : ℕ) → 0 < n → n < 10 ^ 10 → numberIn (decimalIn 10 n) ≡ Value n
 unfolding digitsFrom
 number-not-zero n z h =
     let head : 48 < getD (decimalIn 10 n) 0 0 = head-of 9 n z h in
@@ -168,7 +168,7 @@ number-not-zero n z h =
     long [] e k = omega arith
     long (x ∷ xs) e k = omega arith
 
-pub number-printed : (n : ℕ) → n < 10 ^ 10 → numberOf (decimal n) ≡ Value n
-unfolding numberOf decimal decimalIn
+pub number-printed : (n : ℕ) → n < 10 ^ 10 → numberIn (decimal n) ≡ Value n
+unfolding numberIn decimal decimalIn
 number-printed zero h = refl
 number-printed (suc n) h = number-not-zero (suc n) (zero-lt-suc n) h

@@ -12,7 +12,7 @@ use Rattle.text_fields.specs.declared.numbers.Number.{Number}
 use Rattle.text_fields.specs.declared.numbers.Number.the-variants.{Value, NotNumber}
 use Rattle.text_fields.specs.declared.numbers.Signed.{Signed}
 use Rattle.text_fields.specs.declared.numbers.Signed.the-variants.{Plus, Minus, NotSigned}
-use Rattle.text_fields.specs.Number.{numberOf, signedOf, positive, negative, magnitude}
+use Rattle.text_fields.specs.Number.{numberIn, signedOf, positive, negative, magnitude}
 use Rattle.text_fields.specs.Decimal.{decimalIn, decimal, signedText, Proper}
 use Rattle.text_fields.proofs.Values.{signed-plus, signed-minus}
 use Rattle.text_fields.proofs.Canonical.{head-of, number-prints, number-printed}
@@ -45,12 +45,12 @@ signed-printed NotSigned h p = absurd p
 abbrev IsText : List ℕ → Signed → Type 0
 IsText l v = (v ≡ NotSigned → ⊥) → (magnitude v < 10 ^ 10) × (l ≡ signedText v) × Proper v
 
-positive-text : (l : List ℕ) (r : Number) → numberOf l ≡ r → IsText l (positive r)
+positive-text : (l : List ℕ) (r : Number) → numberIn l ≡ r → IsText l (positive r)
 unfolding signedText
 positive-text l (Value n) e k = (number-prints l n e .0, number-prints l n e .1, tt)
 positive-text l NotNumber e k = absurd (k refl)
 
-negative-text : (l : List ℕ) (r : Number) → numberOf l ≡ r → IsText (45 ∷ l) (negative r)
+negative-text : (l : List ℕ) (r : Number) → numberIn l ≡ r → IsText (45 ∷ l) (negative r)
 unfolding signedText
 negative-text l (Value zero) e = λ k. absurd (k refl)
 negative-text l (Value (suc n)) e =
@@ -63,9 +63,9 @@ unfolding signedOf
 signed-text [] = λ k. absurd (k refl)
 signed-text (b ∷ bs) = go (eqb b 45) refl
   where
-    go : (t : Bool) → eqb b 45 ≡ t → IsText (b ∷ bs) (cond t (negative (numberOf bs)) (positive (numberOf (b ∷ bs))))
-    go true e = rw (eqb-true b 45 e) (negative-text bs (numberOf bs) refl)
-    go false e = positive-text (b ∷ bs) (numberOf (b ∷ bs)) refl
+    go : (t : Bool) → eqb b 45 ≡ t → IsText (b ∷ bs) (cond t (negative (numberIn bs)) (positive (numberIn (b ∷ bs))))
+    go true e = rw (eqb-true b 45 e) (negative-text bs (numberIn bs) refl)
+    go false e = positive-text (b ∷ bs) (numberIn (b ∷ bs)) refl
 
 -- what is accepted is written so
 pub signed-prints : (l : List ℕ) (v : Signed) → signedOf l ≡ v → (v ≡ NotSigned → ⊥) → (magnitude v < 10 ^ 10) × (l ≡ signedText v) × Proper v

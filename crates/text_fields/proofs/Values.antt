@@ -12,7 +12,7 @@ use mathlib.Core.Bool.{true, false, cond}
 use lib.Dec.{ltb, eqb}
 use Rattle.text_fields.specs.declared.numbers.Signed.the-variants.{NotSigned}
 use Rattle.text_fields.specs.declared.numbers.Number.the-variants.{Value, NotNumber}
-use Rattle.text_fields.specs.Number.{digitsFrom, numberOf, signedOf, zeroAlone, negative, positive}
+use Rattle.text_fields.specs.Number.{digitsFrom, numberIn, signedOf, zeroAlone, negative, positive}
 
 pub digits-low : (v : ℕ) (l : List ℕ) (k : ℕ) → k < length l → getD l k 0 < 48 → digitsFrom v (drop k l) ≡ NotNumber
 unfolding digitsFrom
@@ -37,31 +37,31 @@ ten-more v d k h q = rw (add-one k, pow-suc 10 k) (omega arith)
 pub ten-small : (k : ℕ) → k ≤ 10 → 10 ^ k ≤ 10 ^ 10
 ten-small k h = pow-le-pow-right {n = 10} (omega arith) h
 
--- ---- `numberOf` and `signedOf` by the length and the first byte, as the code tests them
-pub number-empty : (l : List ℕ) → length l ≡ 0 → numberOf l ≡ NotNumber
-unfolding numberOf
+-- ---- `numberIn` and `signedOf` by the length and the first byte, as the code tests them
+pub number-empty : (l : List ℕ) → length l ≡ 0 → numberIn l ≡ NotNumber
+unfolding numberIn
 number-empty [] h = refl
 number-empty (b ∷ bs) h = absurd (omega arith)
 
-pub number-long : (l : List ℕ) → 10 < length l → numberOf l ≡ NotNumber
-unfolding numberOf
+pub number-long : (l : List ℕ) → 10 < length l → numberIn l ≡ NotNumber
+unfolding numberIn
 number-long [] h = refl
 number-long (b ∷ bs) h = rw (lt-ltb 10 (length (b ∷ bs)) h)
 
-pub number-zero : (l : List ℕ) → length l ≡ 1 → getD l 0 0 ≡ 48 → numberOf l ≡ Value 0
-unfolding numberOf
+pub number-zero : (l : List ℕ) → length l ≡ 1 → getD l 0 0 ≡ 48 → numberIn l ≡ Value 0
+unfolding numberIn
 number-zero [] h q = absurd (omega arith)
 number-zero (b ∷ []) h q = rw (eq-eqb b 48 q)
 number-zero (b ∷ c ∷ cs) h q = absurd (omega arith)
 
-pub number-lead : (l : List ℕ) → (length l ≡ 1 → ⊥) → getD l 0 0 ≡ 48 → numberOf l ≡ NotNumber
-unfolding numberOf
+pub number-lead : (l : List ℕ) → (length l ≡ 1 → ⊥) → getD l 0 0 ≡ 48 → numberIn l ≡ NotNumber
+unfolding numberIn
 number-lead [] h q = refl
 number-lead (b ∷ []) h q = absurd (h refl)
 number-lead (b ∷ c ∷ cs) h q = elim (ltb 10 (length (b ∷ c ∷ cs))) as (λ t. cond t NotNumber (cond (eqb b 48) (zeroAlone (c ∷ cs)) (digitsFrom 0 (b ∷ c ∷ cs))) ≡ NotNumber) [ true ↦ refl | false ↦ rw (eq-eqb b 48 q) ]
 
-pub number-else : (l : List ℕ) → (length l ≡ 0 → ⊥) → length l ≤ 10 → (getD l 0 0 ≡ 48 → ⊥) → numberOf l ≡ digitsFrom 0 l
-unfolding numberOf
+pub number-else : (l : List ℕ) → (length l ≡ 0 → ⊥) → length l ≤ 10 → (getD l 0 0 ≡ 48 → ⊥) → numberIn l ≡ digitsFrom 0 l
+unfolding numberIn
 number-else [] z h q = absurd (z refl)
 number-else (b ∷ bs) z h q = rw (le-ltb 10 (length (b ∷ bs)) h, ne-eqb b 48 q)
 
@@ -70,12 +70,12 @@ unfolding signedOf
 signed-empty [] h = refl
 signed-empty (b ∷ bs) h = absurd (omega arith)
 
-pub signed-minus : (l : List ℕ) → (length l ≡ 0 → ⊥) → getD l 0 0 ≡ 45 → signedOf l ≡ negative (numberOf (drop 1 l))
+pub signed-minus : (l : List ℕ) → (length l ≡ 0 → ⊥) → getD l 0 0 ≡ 45 → signedOf l ≡ negative (numberIn (drop 1 l))
 unfolding signedOf
 signed-minus [] z q = absurd (z refl)
 signed-minus (b ∷ bs) z q = rw (eq-eqb b 45 q)
 
-pub signed-plus : (l : List ℕ) → (length l ≡ 0 → ⊥) → (getD l 0 0 ≡ 45 → ⊥) → signedOf l ≡ positive (numberOf l)
+pub signed-plus : (l : List ℕ) → (length l ≡ 0 → ⊥) → (getD l 0 0 ≡ 45 → ⊥) → signedOf l ≡ positive (numberIn l)
 unfolding signedOf
 signed-plus [] z q = absurd (z refl)
 signed-plus (b ∷ bs) z q = rw (ne-eqb b 45 q)

@@ -1,7 +1,7 @@
 -- The number that a field says. Bytes: 48 is `0`, 57 is `9`, 45 is `-`.
 --   digitsFrom v l    the number of v's digits followed by the digits l
 --   zeroAlone l       0 where nothing follows the digit `0`, else no number
---   numberOf l        the number without sign: one to ten digits, no zero before others
+--   numberIn l        the number without sign: one to ten digits, no zero before others
 --   positive n        a number as one with a plus (which is not written)
 --   negative n        a number as one with a minus: none before 0
 --   signedOf l        the number with a sign: a minus, or none, before a number
@@ -26,9 +26,9 @@ abbrev pub zeroAlone : List ℕ → Number
 zeroAlone [] = Value 0
 zeroAlone (c ∷ cs) = NotNumber
 
-unfoldable pub numberOf : List ℕ → Number
-numberOf [] = NotNumber
-numberOf (b ∷ bs) = cond (ltb 10 (length (b ∷ bs))) NotNumber (cond (eqb b 48) (zeroAlone bs) (digitsFrom 0 (b ∷ bs)))
+unfoldable pub numberIn : List ℕ → Number
+numberIn [] = NotNumber
+numberIn (b ∷ bs) = cond (ltb 10 (length (b ∷ bs))) NotNumber (cond (eqb b 48) (zeroAlone bs) (digitsFrom 0 (b ∷ bs)))
 
 abbrev pub positive : Number → Signed
 positive (Value n) = Plus n
@@ -40,7 +40,7 @@ negative NotNumber = NotSigned
 
 unfoldable pub signedOf : List ℕ → Signed
 signedOf [] = NotSigned
-signedOf (b ∷ bs) = cond (eqb b 45) (negative (numberOf bs)) (positive (numberOf (b ∷ bs)))
+signedOf (b ∷ bs) = cond (eqb b 45) (negative (numberIn bs)) (positive (numberIn (b ∷ bs)))
 
 abbrev pub isNegative : Signed → Bool
 isNegative (Plus n) = false

@@ -2,7 +2,7 @@
 ghost use mathlib.Core.Path.{_≡_};
 ghost use Prim.Native.Nat.{_≤_};
 ghost use lib.ListN.{length};
-ghost use Rattle.text_fields.specs.Number.{digitsFrom, numberOf, signedOf, positive, negative};
+ghost use Rattle.text_fields.specs.Number.{digitsFrom, numberIn, signedOf, positive, negative};
 
 // The bytes of the digits `0` and `9`, and of the minus.
 const ZERO: u8 = 48;
@@ -53,7 +53,7 @@ fn digits(field: &[u8]) -> Number
 
 // The number that a field says.
 pub fn number_of(field: &[u8]) -> Number
-    ensures { λ r. ⌜ r ≡ numberOf (now (field .entry)) ⌝ }
+    ensures { λ r. ⌜ r ≡ numberIn (now (field .entry)) ⌝ }
 {
     let n = field.len();
     if n == 0 {

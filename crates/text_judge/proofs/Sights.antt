@@ -5,7 +5,7 @@ use Prim.Native.Nat.{ℕ}
 use lib.Dec.{eqb}
 use Rattle.lists.proofs.Bools.{and-left, and-right}
 use Rattle.text_fields.specs.declared.numbers.Signed.{Signed}
-use Rattle.text_judge.specs.Judge.{judge, inRange, residueAt, isLast, within}
+use Rattle.text_judge.specs.Judge.{judgeLine, inRange, residueAt, isLast, within}
 use Rattle.text_judge.specs.declared.line.Line.{Line}
 use Rattle.text_judge.specs.declared.line.Line.the-variants.{Triple, NotTriple}
 use Rattle.text_judge.specs.declared.judge.Sizes.{Sizes}
@@ -14,8 +14,8 @@ use Rattle.text_judge.specs.declared.sight.Sight.{Sight}
 use Rattle.text_judge.specs.declared.sight.Sight.the-variants.{Stops, Finishes, Stands, Fails}
 use Rattle.text_judge.specs.Sight.{sight, judgedFrom}
 
-pub judged-sight : (b full : Bool) (s : Sizes) (l : Line) → judge b full s l ≡ judgedFrom b (sight full s l)
-unfolding judge sight
+pub judged-sight : (b full : Bool) (s : Sizes) (l : Line) → judgeLine b full s l ≡ judgedFrom b (sight full s l)
+unfolding judgeLine sight
 judged-sight b full s NotTriple = refl
 judged-sight b full s (Triple i j v) =
     go (isLast i j v) (within i (s .n) && within j (s .m)) (inRange v) (not (eqb (residueAt (s .modulus .p) v) 0) && full) (residueAt (s .modulus .p) v)

@@ -12,7 +12,7 @@ use Rattle.text_judge.specs.declared.line.Line.{Line}
 use Rattle.text_judge.specs.declared.line.Line.the-variants.{Triple, NotTriple}
 use Rattle.text_judge.specs.declared.judge.Sizes.{Sizes}
 use Rattle.text_judge.specs.declared.judge.Verdict.the-variants.{Refused, Last, Entry}
-use Rattle.text_judge.specs.Judge.{judge, residueAt, inRange, isLast, isZero, within, before}
+use Rattle.text_judge.specs.Judge.{judgeLine, residueAt, inRange, isLast, isZero, within, before}
 
 -- the line of an entry: its fields, each test passed
 pub record IsEntry (stands full : Bool) (s : Sizes) (l : Line) (i j v : ℕ) : Type 0 where
@@ -40,8 +40,8 @@ entry-last e = let z : _≡_ {A = ℕ} 0 1 = cc in absurd (omega arith)
 false-true : {A : Type 0} → false ≡ true → A
 false-true e = let z : _≡_ {A = ℕ} 0 1 = cc in absurd (omega arith)
 
-pub judged-entry : (stands full : Bool) (s : Sizes) (l : Line) (i j v : ℕ) → judge stands full s l ≡ Entry i j v → IsEntry stands full s l i j v
-unfolding judge
+pub judged-entry : (stands full : Bool) (s : Sizes) (l : Line) (i j v : ℕ) → judgeLine stands full s l ≡ Entry i j v → IsEntry stands full s l i j v
+unfolding judgeLine
 judged-entry stands full s NotTriple i j v e = refused-entry e
 judged-entry stands full s (Triple a b w) i j v e =
     go (isLast a b w) (within a (s .n) && within b (s .m)) stands (inRange w) (not (eqb (residueAt (s .modulus .p) w) 0) && full) refl refl refl refl e
@@ -81,8 +81,8 @@ last-is i j v e =
     rw (eqb-true i 0 (and-left (eqb i 0) (eqb j 0) a), eqb-true j 0 (and-right (eqb i 0) (eqb j 0) a), zero-sign v (and-right (eqb i 0 && eqb j 0) (isZero v) e))
 
 -- the last line is `0 0 0`
-pub judged-last : (stands full : Bool) (s : Sizes) (l : Line) → judge stands full s l ≡ Last → l ≡ Triple 0 0 (Plus 0)
-unfolding judge
+pub judged-last : (stands full : Bool) (s : Sizes) (l : Line) → judgeLine stands full s l ≡ Last → l ≡ Triple 0 0 (Plus 0)
+unfolding judgeLine
 judged-last stands full s NotTriple e = refused-last e
 judged-last stands full s (Triple a b w) e =
     go (isLast a b w) (within a (s .n) && within b (s .m)) stands (inRange w) (not (eqb (residueAt (s .modulus .p) w) 0) && full) refl e

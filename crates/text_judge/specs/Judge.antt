@@ -7,7 +7,7 @@
 --   within i n            i lies from 1 to n
 --   before a b i j        a and b stand before i and j: by row, then by column
 --   mayStand free l       the line l may stand where it says, as `free` tells of a place
---   judge f u s l         the verdict on the line l of a plan with the sizes s, where f says whether it may stand here and u
+--   judgeLine f u s l         the verdict on the line l of a plan with the sizes s, where f says whether it may stand here and u
 --                         whether the entry storage is used up: 3, then 4, 5, 6, 7
 use Prim.Native.Nat.{ℕ}
 use mathlib.Core.Bool.{Bool, false, cond, _&&_, _||_, not}
@@ -53,9 +53,9 @@ mayStand free NotTriple = false
 abbrev pub entryIf : Bool → ℕ → ℕ → ℕ → Verdict
 entryIf full i j v = cond (not (eqb v 0) && full) (Refused storageTooShort) (Entry i j v)
 
-unfoldable pub judge : Bool → Bool → Sizes → Line → Verdict
-judge stands full s NotTriple = Refused malformed
-judge stands full s (Triple i j v) =
+unfoldable pub judgeLine : Bool → Bool → Sizes → Line → Verdict
+judgeLine stands full s NotTriple = Refused malformed
+judgeLine stands full s (Triple i j v) =
     cond (isLast i j v) Last
     (cond (within i (s .n) && within j (s .m))
     (cond stands

@@ -15,7 +15,7 @@ use mathlib.Core.Bool.{Bool, false, cond}
 use lib.Dec.{eqb}
 use lib.ListN.{length, take, drop}
 use Rattle.text_fields.specs.Pieces.{Pieces, last, more, pieces}
-use Rattle.text_fields.specs.Number.{numberOf, signedOf}
+use Rattle.text_fields.specs.Number.{numberIn, signedOf}
 use Rattle.text_fields.specs.declared.numbers.Number.{Number}
 use Rattle.text_fields.specs.declared.numbers.Number.the-variants.{Value, NotNumber}
 use Rattle.text_fields.specs.declared.numbers.Signed.{Signed}
@@ -49,7 +49,7 @@ lineWith (Value i) NotNumber c = NotTriple
 lineWith NotNumber b c = NotTriple
 
 abbrev pub lineIn : Fields → Line
-lineIn (three a b c) = lineWith (numberOf a) (numberOf b) (signedOf c)
+lineIn (three a b c) = lineWith (numberIn a) (numberIn b) (signedOf c)
 lineIn notThree = NotTriple
 
 unfoldable pub lineOf : List ℕ → Line
@@ -67,7 +67,7 @@ headerWith (Value n) NotNumber letter = NotHeader
 headerWith NotNumber b letter = NotHeader
 
 abbrev pub headerIn : Fields → Header
-headerIn (three a b c) = headerWith (numberOf a) (numberOf b) (isM c)
+headerIn (three a b c) = headerWith (numberIn a) (numberIn b) (isM c)
 headerIn notThree = NotHeader
 
 unfoldable pub headerOf : List ℕ → Header

@@ -2,7 +2,7 @@
 ghost use mathlib.Core.Path.{_≡_};
 ghost use Prim.Native.Nat.{_<_};
 ghost use Rattle.text_judge.specs.Line.{lineOf};
-ghost use Rattle.text_judge.specs.Judge.{before, mayStand, judge};
+ghost use Rattle.text_judge.specs.Judge.{before, mayStand, judgeLine};
 ghost use Rattle.text_judge.specs.Sight.{judgedFrom};
 use crate::line::Line;
 use crate::sight::Sight;
@@ -70,7 +70,7 @@ fn verdict_from(stands: bool, seen: Sight) -> Verdict
 // The line of these bytes, after the one at a and b; `full` says whether the entry storage is used up.
 pub fn judge_after(a: u64, b: u64, full: bool, s: Sizes, bytes: &[u8]) -> Verdict
     requires { ⌜ 0 < s .modulus .p ⌝ }
-    ensures { λ r. ⌜ r ≡ judge (mayStand (before a b) (lineOf (now (bytes .entry)))) full s (lineOf (now (bytes .entry))) ⌝ }
+    ensures { λ r. ⌜ r ≡ judgeLine (mayStand (before a b) (lineOf (now (bytes .entry)))) full s (lineOf (now (bytes .entry))) ⌝ }
 {
     let line = crate::line::line_of(bytes);
     let stands = may_stand(a, b, line);

@@ -7,7 +7,7 @@ use native.Mathlib.Omega.{arith}
 use lib.ListN.{length, drop}
 use borrow.Author.Tests.{le-leb, lt-leb, le-ltb, lt-ltb}
 use Rattle.text_fields.specs.Pieces.{pieces}
-use Rattle.text_fields.specs.Number.{numberOf}
+use Rattle.text_fields.specs.Number.{numberIn}
 use Rattle.text_fields.specs.declared.numbers.Number.{Number}
 use Rattle.text_fields.specs.declared.numbers.Number.the-variants.{Value, NotNumber}
 use Rattle.text_fields.proofs.Cuts.{piece-end, piece-last, piece-more}
@@ -75,7 +75,7 @@ module _ (text : List ℕ) {l : List ℕ} (short : length text ≤ largestText) 
   pub first-ends : (0 + length l ≡ length text → ⊥) → Ends text 0 1 (length l)
   first-ends q = record { size-is = ap length e; feed = omega (arith, piece-end 10 text l 0 (omega arith) e, q); numbered = omega arith }
 
-  module _ {number : Number} (second : Place) (q : Ends text 0 1 (length l)) (t : (second .at ≡ lineEnd text 0 + 1) × (second .line ≡ 1 + 1)) (k : number ≡ numberOf l) where
+  module _ {number : Number} (second : Place) (q : Ends text 0 1 (length l)) (t : (second .at ≡ lineEnd text 0 + 1) × (second .line ≡ 1 + 1)) (k : number ≡ numberIn l) where
     past-first : second .at ≡ 0 + length l + 1
     past-first = t .0 ∙ ap (λ (x : List ℕ). 0 + length x + 1) (sym e)
 

@@ -19,14 +19,14 @@ use lib.ListN.{length}
 use Rattle.lists.specs.Table.{badModulus, overLimit, malformed}
 use Rattle.grouping.specs.Grouping.{grouped}
 use Rattle.text_fields.specs.Pieces.{Pieces, last, more, pieces}
-use Rattle.text_fields.specs.Number.{numberOf}
+use Rattle.text_fields.specs.Number.{numberIn}
 use Rattle.text_fields.specs.declared.numbers.Number.{Number}
 use Rattle.text_fields.specs.declared.numbers.Number.the-variants.{Value, NotNumber}
 use Rattle.residue.specs.Range.{isModulus}
 use Rattle.call_plan.specs.Limits.{largestSize}
 use Rattle.text_opening.specs.Limits.{largestText}
 use Rattle.text_judge.specs.Line.{lineOf, headerOf}
-use Rattle.text_judge.specs.Judge.{judge, mayStand}
+use Rattle.text_judge.specs.Judge.{judgeLine, mayStand}
 use Rattle.text_judge.specs.declared.header.Header.{Header}
 use Rattle.text_judge.specs.declared.header.Header.the-variants.{Given, NotHeader}
 use Rattle.text_judge.specs.declared.judge.Sizes.{Sizes}
@@ -55,7 +55,7 @@ pub data ReadResult : Type 0 where
 
 -- the verdict on the line l after the triples seen
 abbrev pub verdictOn : (List Entry → ℕ → ℕ → Bool) → Sizes → ℕ → List Entry → List ℕ → Verdict
-verdictOn rule s room seen l = judge (mayStand (rule seen) (lineOf l)) (leb room (length (kept seen))) s (lineOf l)
+verdictOn rule s room seen l = judgeLine (mayStand (rule seen) (lineOf l)) (leb room (length (kept seen))) s (lineOf l)
 
 -- nothing follows the last line
 abbrev pub ending : Sizes → ℕ → List Entry → Pieces → ReadResult
@@ -91,7 +91,7 @@ withModulus rule room rest (Value p) = cond (isModulus p) (fromSecond rule p roo
 
 abbrev pub fromFirst : (List Entry → ℕ → ℕ → Bool) → ℕ → Pieces → ReadResult
 fromFirst rule room (last l) = refused malformed 1
-fromFirst rule room (more l rest) = withModulus rule room rest (numberOf l)
+fromFirst rule room (more l rest) = withModulus rule room rest (numberIn l)
 
 unfoldable pub readBy : (List Entry → ℕ → ℕ → Bool) → ℕ → List ℕ → ReadResult
 readBy rule room text = cond (ltb largestText (length text)) (refused overLimit 0) (fromFirst rule room (pieces 10 text))

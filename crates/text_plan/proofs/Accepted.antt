@@ -9,7 +9,7 @@ use lib.Dec.{eqb, leb, ltb}
 use borrow.Author.Tests.{leb-false, leb-true, ltb-false, eqb-true, eqb-false}
 use Rattle.lists.proofs.Bools.{and-left, and-right}
 use Rattle.text_fields.specs.Pieces.{Pieces, last, more, pieces, joined}
-use Rattle.text_fields.specs.Number.{numberOf, signedOf, isNegative, magnitude}
+use Rattle.text_fields.specs.Number.{numberIn, signedOf, isNegative, magnitude}
 use Rattle.text_fields.specs.Decimal.{decimal, Proper}
 use Rattle.text_fields.specs.declared.numbers.Number.{Number}
 use Rattle.text_fields.specs.declared.numbers.Number.the-variants.{Value, NotNumber}
@@ -31,7 +31,7 @@ use Rattle.text_opening.specs.Limits.{largestText}
 use Rattle.text_judge.specs.Line.{fieldsOf, lineOf, lineIn, lineWith, headerOf, headerIn, headerWith, isM}
 use Rattle.text_judge.specs.Judge.{mayStand}
 use Rattle.text_opening.specs.Reading.{Entry, refused, accepted, kept, fresh, verdictOn, ending, onward, triples, withSizes, fromSecond, withModulus, fromFirst, readBy, readOf}
-use Rattle.text_plan.specs.Stating.{StatedEntry, tripleText, sizesText, tripleLines, planText, entryOf, Apart, States}
+use Rattle.text_plan.specs.Stating.{StatedEntry, tripleText, sizesText, tripleLines, planText, entryOf, StandApart, States}
 use Rattle.text_plan.proofs.Storing.{kept-zero, kept-more}
 use Rattle.text_judge.proofs.Verdicts.{judged-entry, judged-last}
 
@@ -75,7 +75,7 @@ line-prints l i j v e = go (pieces 32 l) refl e
     go (more a (last b)) q x = no-triple x
     go (more a (more b (more c t))) q x = no-triple x
     go (more a (more b (last c))) q x =
-        let f = numbers-of (numberOf a) (numberOf b) (signedOf c) i j v x in
+        let f = numbers-of (numberIn a) (numberIn b) (signedOf c) i j v x in
         let w = signed-prints c v (f .third) (f .written) in
         let ea : a ≡ decimal i = number-prints a i (f .first) .1 in
         let eb : b ≡ decimal j = number-prints b j (f .second) .1 in
@@ -85,7 +85,7 @@ line-prints l i j v e = go (pieces 32 l) refl e
 record Back (room : ℕ) (s s′ : Sizes) (p : Pieces) (seen out : List Entry) : Type 0 where
   ts : List StatedEntry
   lines : p ≡ tripleLines ts
-  apart : Apart s seen ts
+  apart : StandApart s seen ts
   result : out ≡ reverseAux (map (entryOf (s .modulus .p)) ts) seen
   sizes : s′ ≡ s
   fits : length (kept out) ≤ room
@@ -163,11 +163,11 @@ header-prints l s e = go (pieces 32 l) refl e
     go (more a (last b)) q x = no-header x
     go (more a (more b (more c t))) q x = no-header x
     go (more a (more b (last c))) q x =
-        let f = header-parts (numberOf a) (numberOf b) (isM c) (s .n) (s .m) x in
+        let f = header-parts (numberIn a) (numberIn b) (isM c) (s .n) (s .m) x in
         sym (joined-pieces 32 l) ∙ ap (joined 32) q ∙ rw (number-prints a (s .n) (f .0) .1, number-prints b (s .m) (f .1) .1, is-m c (f .2))
 
 -- ---- the whole text
-closes : (room : ℕ) (s s′ : Sizes) (text l l₂ : List ℕ) (rest : Pieces) (out : List Entry) → length text ≤ largestText → pieces 10 text ≡ more l (more l₂ rest) → numberOf l ≡ Value (s .modulus .p)
+closes : (room : ℕ) (s s′ : Sizes) (text l l₂ : List ℕ) (rest : Pieces) (out : List Entry) → length text ≤ largestText → pieces 10 text ≡ more l (more l₂ rest) → numberIn l ≡ Value (s .modulus .p)
     → isModulus (s .modulus .p) ≡ true → headerOf l₂ ≡ Given (s .n) (s .m) → s .n ≤ largestSize → s .m ≤ largestSize → triples fresh s room 3 [] rest ≡ accepted s′ out → States room s′ text out
 unfolding planText kept
 closes room s s′ text l l₂ rest out short cut num prime head hn hm e =
@@ -183,7 +183,7 @@ closes room s s′ text l l₂ rest out short cut num prime head hn hm e =
     })
 
 module _ (room : ℕ) (s : Sizes) (text : List ℕ) (out : List Entry) (short : length text ≤ largestText) where
-  sizes-back : (p : ℕ) (l l₂ : List ℕ) (rest : Pieces) → pieces 10 text ≡ more l (more l₂ rest) → numberOf l ≡ Value p → isModulus p ≡ true
+  sizes-back : (p : ℕ) (l l₂ : List ℕ) (rest : Pieces) → pieces 10 text ≡ more l (more l₂ rest) → numberIn l ≡ Value p → isModulus p ≡ true
       → (h : Header) → headerOf l₂ ≡ h → withSizes fresh p room rest h ≡ accepted s out → States room s text out
   sizes-back p l l₂ rest c n m NotHeader q e = refused-not e
   sizes-back p l l₂ rest c n m (Given a b) q e = go (leb a largestSize && leb b largestSize) refl e
@@ -194,11 +194,11 @@ module _ (room : ℕ) (s : Sizes) (text : List ℕ) (out : List Entry) (short : 
           (leb-true a largestSize (and-left (leb a largestSize) (leb b largestSize) t)) (leb-true b largestSize (and-right (leb a largestSize) (leb b largestSize) t)) x
       go false t x = refused-not x
 
-  second-back : (p : ℕ) (l : List ℕ) (rest : Pieces) → pieces 10 text ≡ more l rest → numberOf l ≡ Value p → isModulus p ≡ true → fromSecond fresh p room rest ≡ accepted s out → States room s text out
+  second-back : (p : ℕ) (l : List ℕ) (rest : Pieces) → pieces 10 text ≡ more l rest → numberIn l ≡ Value p → isModulus p ≡ true → fromSecond fresh p room rest ≡ accepted s out → States room s text out
   second-back p l (last l₂) c n m e = refused-not e
   second-back p l (more l₂ rest) c n m e = sizes-back p l l₂ rest c n m (headerOf l₂) refl e
 
-  modulus-back : (l : List ℕ) (rest : Pieces) → pieces 10 text ≡ more l rest → (n : Number) → numberOf l ≡ n → withModulus fresh room rest n ≡ accepted s out → States room s text out
+  modulus-back : (l : List ℕ) (rest : Pieces) → pieces 10 text ≡ more l rest → (n : Number) → numberIn l ≡ n → withModulus fresh room rest n ≡ accepted s out → States room s text out
   modulus-back l rest c NotNumber n e = refused-not e
   modulus-back l rest c (Value p) n e = go (isModulus p) refl e
     where
@@ -208,7 +208,7 @@ module _ (room : ℕ) (s : Sizes) (text : List ℕ) (out : List Entry) (short : 
 
   first-back : (t : Pieces) → pieces 10 text ≡ t → fromFirst fresh room t ≡ accepted s out → States room s text out
   first-back (last l) c e = refused-not e
-  first-back (more l rest) c e = modulus-back l rest c (numberOf l) refl e
+  first-back (more l rest) c e = modulus-back l rest c (numberIn l) refl e
 
 -- Each text that is accepted states a plan, and is read as that plan.
 pub accepted-states : (room : ℕ) (s : Sizes) (text : List ℕ) (out : List Entry) → readOf room text ≡ accepted s out → States room s text out

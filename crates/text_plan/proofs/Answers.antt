@@ -15,17 +15,17 @@ use Rattle.call_plan.specs.Limits.{largestSize}
 use Rattle.text_opening.specs.Limits.{startsLength}
 use Rattle.text_opening.specs.Reading.{Entry, ReadResult, refused, accepted, fresh, placed, triples, readOf}
 use Rattle.text_plan.specs.Stored.{RowsWithin, startsOf}
-use Rattle.text_plan.specs.Call.{StoresAll, Settles, Gives, answerBy, answerOf, callOf, refusalOf}
+use Rattle.text_plan.specs.Call.{StoresAll, Settles, Gives, answerBy, readAnswerOf, callOf, refusalOf}
 use Rattle.text_plan.proofs.StoredForm.{starts-length}
 use Rattle.text_plan.proofs.Accepted.{triples-sizes}
 use Rattle.text_plan.proofs.Settling.{refused-read, refused-both}
 
 -- a refusal, and lists that are all zero
 pub gives-refusal : (room : ℕ) (o : ReadResult) (c k : ℕ) (r : Reading) (st co va : List ℕ) → o ≡ refused c k → r ≡ refusalOf c k
-    → st ≡ zeros startsLength → co ≡ zeros room → va ≡ zeros room → Gives (answerOf room o) r st co va
+    → st ≡ zeros startsLength → co ≡ zeros room → va ≡ zeros room → Gives (readAnswerOf room o) r st co va
 unfolding answerBy
 gives-refusal room o c k r st co va e f x y z =
-    subst (λ (q : ReadResult). Gives (answerOf room q) r st co va) (sym e) (record { result-is = f; starts-are = x; columns-are = y; values-are = z })
+    subst (λ (q : ReadResult). Gives (readAnswerOf room q) r st co va) (sym e) (record { result-is = f; starts-are = x; columns-are = y; values-are = z })
 
 -- the triples are refused
 pub settles-refused : (room : ℕ) (o : ReadResult) (c k : ℕ) (r : TripleLines) (st co va : List ℕ) → Settles room o r st co va → r ≡ Refused c k → o ≡ refused c k
@@ -44,7 +44,7 @@ module _ (s : Sizes) (room line : ℕ) (p : Pieces) (r : TripleLines) (st co va 
 
   pub gives-read : (o : ReadResult) → o ≡ triples fresh s room line [] p → Settles room o r st co va → (st′ : List ℕ)
       → ((es : List Entry) → RowsWithin row es → count ≡ length es → st ≡ startsOf row es → st′ ≡ startsOf (s .n) es)
-      → Gives (answerOf room o) (record { number = 0; detail = 0; p = s .modulus .p; n = s .n; m = s .m; count = count }) st′ co va
+      → Gives (readAnswerOf room o) (record { number = 0; detail = 0; p = s .modulus .p; n = s .n; m = s .m; count = count }) st′ co va
   unfolding answerBy
   gives-read (refused a b) t h st′ extend = refused-read (sym h ∙ is)
   gives-read (accepted s′ seen) t h st′ extend =
@@ -59,7 +59,7 @@ module _ (s : Sizes) (room line : ℕ) (p : Pieces) (r : TripleLines) (st co va 
 
 -- ---- the call: wrong lengths are 9
 module _ (text : List ℕ) (a b c : ℕ) (r : Reading) (st co va : List ℕ) where
-  pub call-reads : a ≡ startsLength → b ≡ c → Gives (answerOf b (readOf b text)) r st co va → Gives (callOf text a b c) r st co va
+  pub call-reads : a ≡ startsLength → b ≡ c → Gives (readAnswerOf b (readOf b text)) r st co va → Gives (callOf text a b c) r st co va
   unfolding callOf
   call-reads x y h = rw (eq-eqb a startsLength x, eq-eqb b c y) h
 

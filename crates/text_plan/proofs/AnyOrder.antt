@@ -13,7 +13,7 @@ use Rattle.grouping.proofs.Stable.{all-member, member-left, member-right, membe
 use Rattle.text_judge.specs.declared.judge.Sizes.{Sizes}
 use Rattle.text_opening.specs.Reading.{Entry, kept, placed, readOf}
 use Rattle.text_plan.specs.Stating.{StatedEntry, planText, entryOf, entriesOf, Plan}
-use Rattle.text_plan.specs.Call.{answerBy, answerOf}
+use Rattle.text_plan.specs.Call.{answerBy, readAnswerOf}
 use Rattle.text_plan.proofs.Printed.{reads-stated}
 use Rattle.text_plan.proofs.Scattered.{rowOf, columnOf, Differ, Scattered, plan-scattered, kept-differ}
 
@@ -130,9 +130,9 @@ module _ (p : ℕ) where
 
 -- Two texts that state the same triples, in any order, leave the same.
 pub order-free : (room : ℕ) (s : Sizes) (ts us : List StatedEntry) → Plan room s ts → Plan room s us → ((t : StatedEntry) → Member t ts ↔ Member t us)
-    → answerOf room (readOf room (planText s ts)) ≡ answerOf room (readOf room (planText s us))
+    → readAnswerOf room (readOf room (planText s ts)) ≡ readAnswerOf room (readOf room (planText s us))
 unfolding answerBy
 order-free room s ts us g h f =
     let p = s .modulus .p in
     let same = placed-alike s (entriesOf p ts) (entriesOf p us) (plan-scattered room s ts g) (plan-scattered room s us h) (entries-alike p ts us (λ t. f t .0)) (entries-alike p us ts (λ t. f t .1)) in
-    ap (answerOf room) (reads-stated room s ts g) ∙ rw same refl ∙ sym (ap (answerOf room) (reads-stated room s us h))
+    ap (readAnswerOf room) (reads-stated room s ts g) ∙ rw same refl ∙ sym (ap (readAnswerOf room) (reads-stated room s us h))

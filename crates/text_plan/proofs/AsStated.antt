@@ -24,9 +24,9 @@ use Rattle.grouping.proofs.Stable.{all-member, member-right}
 use Rattle.text_judge.specs.declared.judge.Sizes.{Sizes}
 use Rattle.text_opening.specs.Limits.{startsLength}
 use Rattle.text_opening.specs.Reading.{Entry, accepted, kept, placed}
-use Rattle.text_plan.specs.Stored.{countTo, startsOf, columnsOf, valuesOf}
-use Rattle.text_plan.specs.Stating.{StatedEntry, integerOf, Apart, Plan, entryOf, entriesOf, statedAt}
-use Rattle.text_plan.specs.Call.{answerBy, answerOf}
+use Rattle.text_plan.specs.Stored.{countTo, startsOf, columnsStored, valuesOf}
+use Rattle.text_plan.specs.Stating.{StatedEntry, integerOf, StandApart, Plan, entryOf, entriesOf, statedAt}
+use Rattle.text_plan.specs.Call.{answerBy, readAnswerOf}
 use Rattle.text_plan.specs.Held.{planOf, HoldsPlan}
 use Rattle.text_opening.proofs.Moduli.{modulus-two}
 use Rattle.text_judge.proofs.Verdicts.{within-bounds}
@@ -50,7 +50,7 @@ stated-below p (t ∷ ts) i j h = go (eqb (t .row) (i + 1) && eqb (t .column) (j
     go false ih = ih
 
 -- the entries that are not 0 are those that are stated: no later triple stands at the place of one that is 0
-entries-stated : (s : Sizes) (seen : List Entry) (ts : List StatedEntry) (i j : ℕ) → Apart s seen ts → entryAt (nonzero (map (entryOf (s .modulus .p)) ts)) i j ≡ statedAt (s .modulus .p) ts i j
+entries-stated : (s : Sizes) (seen : List Entry) (ts : List StatedEntry) (i j : ℕ) → StandApart s seen ts → entryAt (nonzero (map (entryOf (s .modulus .p)) ts)) i j ≡ statedAt (s .modulus .p) ts i j
 unfolding nonzero entryAt statedAt
 entries-stated s seen [] i j r = refl
 entries-stated s seen (t ∷ ts) i j r = go (eqb (one .value) 0) refl (entries-stated s (one ∷ seen) ts i j (r .1))
@@ -103,8 +103,8 @@ module _ (room : ℕ) (s : Sizes) (ts : List StatedEntry) (h : Plan room s ts) w
   columns-cut = length-map stored (λ (t : Entry). t .column - 1)
 
   -- the stored lists are the stored form of the stated rows
-  pub stored-dense : planOf (answerOf room (accepted s (entriesOf p ts))) ≡ compress (denseRows (s .n) (s .m) (statedAt p ts))
-  unfolding answerBy startsOf columnsOf valuesOf
+  pub stored-dense : planOf (readAnswerOf room (accepted s (entriesOf p ts))) ≡ compress (denseRows (s .n) (s .m) (statedAt p ts))
+  unfolding answerBy startsOf columnsStored valuesOf
   stored-dense =
       (λ t. compressed
       (filled-cut startsLength (s .n + 1) (tabulate (s .n + 1) (λ k. countTo k stored)) (length-tabulate (s .n + 1) (λ k. countTo k stored)) t)
@@ -114,8 +114,8 @@ module _ (room : ℕ) (s : Sizes) (ts : List StatedEntry) (h : Plan room s ts) w
       ∙ ap compress (dense-ext (s .n) (s .m) (entryAt (kept seen)) (statedAt p ts) (λ i j b. at-stated i j))
 
   -- What lists with enough room hold after a text that states a plan: that plan, in its form.
-  pub stored-as-stated : let x = answerOf room (accepted s (entriesOf p ts)) in HoldsPlan s ts (x .result) (x .starts) (x .columns) (x .values)
-  unfolding answerBy columnsOf
+  pub stored-as-stated : let x = readAnswerOf room (accepted s (entriesOf p ts)) in HoldsPlan s ts (x .result) (x .starts) (x .columns) (x .values)
+  unfolding answerBy columnsStored
   stored-as-stated =
       record {
         done = refl;
@@ -132,14 +132,14 @@ module _ (room : ℕ) (s : Sizes) (ts : List StatedEntry) (h : Plan room s ts) w
       }
 
 -- ---- `statedAt` finds each triple: in a plan no two stand at one place
-bounds : (s : Sizes) (seen : List Entry) (xs : List StatedEntry) (t : StatedEntry) (ys : List StatedEntry) → Apart s seen (xs ++ (t ∷ ys)) → ((1 ≤ t .row) × (t .row ≤ s .n)) × ((1 ≤ t .column) × (t .column ≤ s .m))
+bounds : (s : Sizes) (seen : List Entry) (xs : List StatedEntry) (t : StatedEntry) (ys : List StatedEntry) → StandApart s seen (xs ++ (t ∷ ys)) → ((1 ≤ t .row) × (t .row ≤ s .n)) × ((1 ≤ t .column) × (t .column ≤ s .m))
 bounds s seen [] t ys r = (within-bounds (t .row) (s .n) (r .0 .row-inside), within-bounds (t .column) (s .m) (r .0 .column-inside))
 bounds s seen (x ∷ xs) t ys r = bounds s (entryOf (s .modulus .p) x ∷ seen) xs t ys (r .1)
 
-pub stated-inside : (s : Sizes) (seen : List Entry) (xs : List StatedEntry) (t : StatedEntry) (ys : List StatedEntry) → Apart s seen (xs ++ (t ∷ ys)) → (t .row - 1 < s .n) × (t .column - 1 < s .m)
+pub stated-inside : (s : Sizes) (seen : List Entry) (xs : List StatedEntry) (t : StatedEntry) (ys : List StatedEntry) → StandApart s seen (xs ++ (t ∷ ys)) → (t .row - 1 < s .n) × (t .column - 1 < s .m)
 stated-inside s seen xs t ys r = let b = bounds s seen xs t ys r in (omega (arith, b .0), omega (arith, b .1))
 
-pub stated-found : (s : Sizes) (seen : List Entry) (xs : List StatedEntry) (t : StatedEntry) (ys : List StatedEntry) → Apart s seen (xs ++ (t ∷ ys))
+pub stated-found : (s : Sizes) (seen : List Entry) (xs : List StatedEntry) (t : StatedEntry) (ys : List StatedEntry) → StandApart s seen (xs ++ (t ∷ ys))
     → statedAt (s .modulus .p) (xs ++ (t ∷ ys)) (t .row - 1) (t .column - 1) ≡ residueOf (s .modulus .p) (integerOf (t .value))
 unfolding statedAt
 stated-found s seen [] t ys r =

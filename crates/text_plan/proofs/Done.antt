@@ -23,7 +23,7 @@ use Rattle.lists.specs.Refusals.{NumberFrom}
 use Rattle.lists.specs.Filled.{zeros}
 use Rattle.lists.proofs.Bools.{and-left, and-right}
 use Rattle.text_fields.specs.Pieces.{Pieces, last, more, pieces}
-use Rattle.text_fields.specs.Number.{numberOf}
+use Rattle.text_fields.specs.Number.{numberIn}
 use Rattle.text_fields.specs.declared.numbers.Number.{Number}
 use Rattle.text_fields.specs.declared.numbers.Number.the-variants.{Value, NotNumber}
 use Rattle.residue.specs.Range.{isModulus}
@@ -43,11 +43,11 @@ use Rattle.call_plan.specs.Limits.{largestSize}
 use Rattle.call_plan.specs.Accepted.{GoodPlan}
 use Rattle.text_opening.specs.Limits.{largestText, startsLength}
 use Rattle.text_judge.specs.Line.{headerOf}
-use Rattle.text_judge.specs.Judge.{judge, inRange, isLast, within, residueAt}
+use Rattle.text_judge.specs.Judge.{judgeLine, inRange, isLast, within, residueAt}
 use Rattle.text_opening.specs.Reading.{Entry, ReadResult, refused, accepted, fresh, ending, onward, triples, verdictOn, withSizes, fromSecond, withModulus, fromFirst, readBy, readOf}
 use Rattle.text_plan.specs.Rising.{readRisingOf}
 use Rattle.text_plan.specs.Stating.{States, StatedEntry, Plan, planText, entriesOf, integerOf}
-use Rattle.text_plan.specs.Call.{ReadAnswer, refuses, answerBy, answerOf, answerRisingOf, callOf, Gives}
+use Rattle.text_plan.specs.Call.{ReadAnswer, refuses, answerBy, readAnswerOf, answerRisingOf, callOf, Gives}
 use Rattle.text_plan.specs.Held.{heldPlan, StatesPlan, HoldsPlan, ReadCleared}
 use Rattle.text_plan.proofs.Accepted.{accepted-states}
 use Rattle.text_plan.proofs.Printed.{reads-stated}
@@ -66,8 +66,8 @@ VerdictNumbered (Refused c) = among c textFaults ≡ true
 VerdictNumbered Last = Unit {0}
 VerdictNumbered (AnEntry i j v) = Unit {0}
 
-judge-numbered : (stands full : Bool) (s : Sizes) (l : Line) → VerdictNumbered (judge stands full s l)
-unfolding judge among
+judge-numbered : (stands full : Bool) (s : Sizes) (l : Line) → VerdictNumbered (judgeLine stands full s l)
+unfolding judgeLine among
 judge-numbered stands full s NotTriple = refl
 judge-numbered stands full s (Triple i j v) = go (isLast i j v) (within i (s .n) && within j (s .m)) stands (inRange v) (not (eqb (residueAt (s .modulus .p) v) 0) && full)
   where
@@ -121,7 +121,7 @@ modulus-numbered room rest (Value p) = go (isModulus p)
 first-numbered : (room : ℕ) (t : Pieces) → Numbered (fromFirst fresh room t)
 unfolding among
 first-numbered room (last l) = refl
-first-numbered room (more l rest) = modulus-numbered room rest (numberOf l)
+first-numbered room (more l rest) = modulus-numbered room rest (numberIn l)
 
 read-numbered : (room : ℕ) (text : List ℕ) → Numbered (readOf room text)
 unfolding readBy among
@@ -142,13 +142,13 @@ pub record Accepts (text : List ℕ) (a b c : ℕ) : Type 0 where
   pub sizes : Sizes
   pub seen : List Entry
   pub read-is : readOf b text ≡ accepted sizes seen
-  pub answer-is : callOf text a b c ≡ answerOf b (accepted sizes seen)
+  pub answer-is : callOf text a b c ≡ readAnswerOf b (accepted sizes seen)
 
 pub done-accepts : (text : List ℕ) (a b c : ℕ) → callOf text a b c .result .number ≡ 0 → Accepts text a b c
 unfolding callOf answerBy
 done-accepts text a b c z = go (eqb a startsLength && eqb b c) (readOf b text) refl refl (read-numbered b text) z
   where
-    go : (t : Bool) (o : ReadResult) → (eqb a startsLength && eqb b c) ≡ t → readOf b text ≡ o → Numbered o → cond t (answerOf b o) (refuses 9 0 a b c) .result .number ≡ 0 → Accepts text a b c
+    go : (t : Bool) (o : ReadResult) → (eqb a startsLength && eqb b c) ≡ t → readOf b text ≡ o → Numbered o → cond t (readAnswerOf b o) (refuses 9 0 a b c) .result .number ≡ 0 → Accepts text a b c
     go false o e r n z = absurd (omega arith)
     go true (refused k d) e r n z = absurd (not-zero k n z)
     go true (accepted s seen) e r n z =
@@ -158,7 +158,7 @@ done-accepts text a b c z = go (eqb a startsLength && eqb b c) (readOf b text) r
           sizes = s;
           seen = seen;
           read-is = r;
-          answer-is = (λ j. cond (e j) (answerOf b (r j)) (refuses 9 0 a b c));
+          answer-is = (λ j. cond (e j) (readAnswerOf b (r j)) (refuses 9 0 a b c));
         }
 
 -- ---- the plan that the lists hold
@@ -168,7 +168,7 @@ abbrev Holds : Sizes → List StatedEntry → ReadAnswer → Type 0
 Holds s ts x = HoldsPlan s ts (x .result) (x .starts) (x .columns) (x .values)
 
 -- lists of the right lengths: the call is the reading
-call-answers : (text : List ℕ) (a b c : ℕ) → a ≡ startsLength → b ≡ c → callOf text a b c ≡ answerOf b (readOf b text)
+call-answers : (text : List ℕ) (a b c : ℕ) → a ≡ startsLength → b ≡ c → callOf text a b c ≡ readAnswerOf b (readOf b text)
 unfolding callOf
 call-answers text a b c long paired = rw (eq-eqb a startsLength long, eq-eqb b c paired)
 
@@ -176,7 +176,7 @@ call-answers text a b c long paired = rw (eq-eqb a startsLength long, eq-eqb b c
 answer-holds : (text : List ℕ) (a b c : ℕ) → a ≡ startsLength → b ≡ c → (h : StatesPlan b text) → Holds (h .sizes) (h .triples) (callOf text a b c)
 answer-holds text a b c long paired h =
     subst (Holds (h .sizes) (h .triples))
-    (sym (call-answers text a b c long paired ∙ ap (answerOf b) (ap (readOf b) (h .text-is) ∙ reads-stated b (h .sizes) (h .triples) (h .plan))))
+    (sym (call-answers text a b c long paired ∙ ap (readAnswerOf b) (ap (readOf b) (h .text-is) ∙ reads-stated b (h .sizes) (h .triples) (h .plan))))
     (stored-as-stated b (h .sizes) (h .triples) (h .plan))
 
 accepts-stated : (text : List ℕ) (a b c : ℕ) → Accepts text a b c → StatesPlan b text
@@ -226,7 +226,7 @@ module _ (text : List ℕ) (a b c : ℕ) (r : Reading) (st co va : List ℕ) (ca
       subst (λ (x : ReadAnswer). NumberFrom textFaults (x .result .number)) given
       (go (eqb a startsLength && eqb b c) (readOf b text) (read-numbered b text))
     where
-      go : (t : Bool) (o : ReadResult) → Numbered o → NumberFrom textFaults (cond t (answerOf b o) (refuses 9 0 a b c) .result .number)
+      go : (t : Bool) (o : ReadResult) → Numbered o → NumberFrom textFaults (cond t (readAnswerOf b o) (refuses 9 0 a b c) .result .number)
       go false o n = inr refl
       go true (refused k d) n = inr n
       go true (accepted s seen) n = inl refl
@@ -236,7 +236,7 @@ module _ (text : List ℕ) (a b c : ℕ) (r : Reading) (st co va : List ℕ) (ca
   read-cleared = subst (λ (x : ReadAnswer). ¬ (x .result .number ≡ 0) → ReadCleared a b c (x .result) (x .starts) (x .columns) (x .values)) given (go (eqb a startsLength && eqb b c) (readOf b text) refl)
     where
       go : (t : Bool) (o : ReadResult) → (eqb a startsLength && eqb b c) ≡ t
-          → let x = cond t (answerOf b o) (refuses 9 0 a b c) in ¬ (x .result .number ≡ 0) → ReadCleared a b c (x .result) (x .starts) (x .columns) (x .values)
+          → let x = cond t (readAnswerOf b o) (refuses 9 0 a b c) in ¬ (x .result .number ≡ 0) → ReadCleared a b c (x .result) (x .starts) (x .columns) (x .values)
       go false o e n = record { result-is = refl; starts-are = refl; columns-are = refl; values-are = refl }
       go true (refused k d) e n =
           record {

@@ -12,7 +12,7 @@ use Rattle.text_fields.specs.declared.numbers.Signed.{Signed}
 use Rattle.text_fields.specs.declared.numbers.Signed.the-variants.{Plus, Minus, NotSigned}
 use Rattle.text_judge.specs.declared.judge.Sizes.{Sizes}
 use Rattle.text_opening.specs.Reading.{Entry, accepted, kept, readOf}
-use Rattle.text_plan.specs.Stating.{StatedEntry, tripleText, sizesText, tripleLines, planText, entryOf, Apart}
+use Rattle.text_plan.specs.Stating.{StatedEntry, tripleText, sizesText, tripleLines, planText, entryOf, StandApart}
 use Rattle.text_plan.proofs.Accepted.{accepted-states}
 use Rattle.text_plan.proofs.Kept.{nonzero, kept-stated}
 
@@ -42,7 +42,7 @@ triple-long t p =
       signed-long (t .value) p,
     )
 
-lines-long : (s : Sizes) (seen : List Entry) (ts : List StatedEntry) → Apart s seen ts → 6 + 6 * length ts ≤ length (joined 10 (tripleLines ts))
+lines-long : (s : Sizes) (seen : List Entry) (ts : List StatedEntry) → StandApart s seen ts → 6 + 6 * length ts ≤ length (joined 10 (tripleLines ts))
 unfolding tripleLines joined
 lines-long s seen [] r =
     let z : StatedEntry = record { row = 0; column = 0; value = Plus 0 } in
@@ -55,7 +55,7 @@ unfolding sizesText joined
 sizes-long s =
     omega (arith, length-append (decimal (s .n)) (32 ∷ (decimal (s .m) ++ 32 ∷ 77 ∷ [])), length-append (decimal (s .m)) (32 ∷ 77 ∷ []), decimal-long (s .n), decimal-long (s .m))
 
-plan-long : (s : Sizes) (ts : List StatedEntry) → Apart s [] ts → 14 + 6 * length ts ≤ length (planText s ts)
+plan-long : (s : Sizes) (ts : List StatedEntry) → StandApart s [] ts → 14 + 6 * length ts ≤ length (planText s ts)
 unfolding planText joined
 plan-long s ts r =
     omega (

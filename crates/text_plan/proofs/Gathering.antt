@@ -20,7 +20,7 @@ use Rattle.text_judge.specs.Line.{lineOf}
 use Rattle.text_judge.specs.Sight.{sight}
 use Rattle.text_opening.specs.Reading.{Entry, ReadResult, refused, kept, ending}
 use Rattle.text_opening.specs.Opening.{Limits}
-use Rattle.text_plan.specs.Collect.{Collected, tripleOf, gather, collect, outcomeOf, tripleIn, Held}
+use Rattle.text_plan.specs.Collect.{Collected, tripleOf, gather, collect, outcomeOf, tripleIn, ByNumber}
 use Rattle.text_plan.specs.Needs.{mostLines, Keepable, Collectable, Collects}
 use Rattle.text_judge.proofs.Verdicts.{within-bounds}
 use Rattle.text_judge.proofs.Sights.{Placed, Places, sight-places}
@@ -63,7 +63,7 @@ ending-outcome s k seen text at h = go (eqb at (length text)) refl
 
 -- `Collects`, by what all lines come to
 collects : (c : Collected) (rows columns values : List ℕ) (ts : List Entry) (r : ReadResult) (n : ℕ) (o : Outcome) → c ≡ record { all = ts; result = r }
-    → o ≡ outcomeOf r → n ≡ length ts → n ≤ mostLines → Held (tripleIn rows columns values) ts → Collects c (record { count = n; outcome = o }) rows columns values
+    → o ≡ outcomeOf r → n ≡ length ts → n ≤ mostLines → ByNumber (tripleIn rows columns values) ts → Collects c (record { count = n; outcome = o }) rows columns values
 collects c rows columns values ts r n o e out number few h =
     subst (λ (x : Collected). Collects x (record { count = n; outcome = o }) rows columns values) (sym e) (record { outcome-is = out; count-is = number; few = few; held = h })
 
@@ -75,7 +75,7 @@ pub record Gathering (text : List ℕ) (from : Place) (s : Sizes) (room : ℕ) (
   pub values-long : length values ≡ mostLines
   pub seen : List Entry
   pub same : collect s room (from .line) [] (pieces 10 (drop (from .at) text)) ≡ collect s room (here .line) seen (pieces 10 (drop (here .at) text))
-  pub held : Held (tripleIn rows columns values) seen
+  pub held : ByNumber (tripleIn rows columns values) seen
   pub count-is : count ≡ length seen
   pub stored-is : stored ≡ length (kept seen)
   pub stored-few : stored ≤ count
@@ -182,9 +182,9 @@ module _ {text : List ℕ} {from : Place} {s : Sizes} {room : ℕ} {rows columns
 
     -- the triple was kept
     module _ (w : ℕ) {rows′ columns′ values′ : List ℕ} (k : (rows′ ≡ set rows count i) × (columns′ ≡ set columns count j) × (values′ ≡ set values count w)) where
-      held-next : Held (tripleIn rows′ columns′ values′) (tripleOf i j w ∷ g .seen)
+      held-next : ByNumber (tripleIn rows′ columns′ values′) (tripleOf i j w ∷ g .seen)
       held-next =
-          subst (λ (E : ℕ → Entry). Held E (tripleOf i j w ∷ g .seen)) (sym (λ t. tripleIn (k .0 t) (k .1 t) (k .2 t)))
+          subst (λ (E : ℕ → Entry). ByNumber E (tripleOf i j w ∷ g .seen)) (sym (λ t. tripleIn (k .0 t) (k .1 t) (k .2 t)))
           (held-more rows columns values (g .seen) count i j w (g .count-is) (keepable .row-cell) (keepable .column-cell) (keepable .value-cell) (g .held))
 
       pub rows-next : length rows′ ≡ mostLines

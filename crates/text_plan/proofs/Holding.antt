@@ -6,14 +6,14 @@ use native.Mathlib.Omega.{arith}
 use lib.ListN.{length, set}
 use lib.Seq.{getD-set-same, getD-set-other}
 use Rattle.text_opening.specs.Reading.{Entry}
-use Rattle.text_plan.specs.Collect.{tripleOf, tripleIn, Held}
+use Rattle.text_plan.specs.Collect.{tripleOf, tripleIn, ByNumber}
 
-held-same : (E F : ℕ → Entry) (ts : List Entry) → ((x : ℕ) → x < length ts → F x ≡ E x) → Held E ts → Held F ts
+held-same : (E F : ℕ → Entry) (ts : List Entry) → ((x : ℕ) → x < length ts → F x ≡ E x) → ByNumber E ts → ByNumber F ts
 held-same E F [] f h = tt
 held-same E F (t ∷ ts) f h = (f (length ts) (omega arith) ∙ h .0, held-same E F ts (λ x l. f x (omega arith)) (h .1))
 
-pub held-more : (rows columns values : List ℕ) (ts : List Entry) (at i j v : ℕ) → at ≡ length ts → at < length rows → at < length columns → at < length values → Held (tripleIn rows columns values) ts
-    → Held (tripleIn (set rows at i) (set columns at j) (set values at v)) (tripleOf i j v ∷ ts)
+pub held-more : (rows columns values : List ℕ) (ts : List Entry) (at i j v : ℕ) → at ≡ length ts → at < length rows → at < length columns → at < length values → ByNumber (tripleIn rows columns values) ts
+    → ByNumber (tripleIn (set rows at i) (set columns at j) (set values at v)) (tripleOf i j v ∷ ts)
 held-more rows columns values ts at i j v e a b c h = (own, held-same (tripleIn rows columns values) F ts others h)
   where
     F : ℕ → Entry

@@ -25,9 +25,9 @@ use Rattle.text_judge.specs.declared.judge.Verdict.the-variants.{Last, Entry as
 use Rattle.call_plan.specs.Limits.{largestSize}
 use Rattle.text_opening.specs.Limits.{largestText}
 use Rattle.text_judge.specs.Line.{fieldsOf, lineOf, withSigned, headerOf}
-use Rattle.text_judge.specs.Judge.{judge, inRange, isLast, residueAt}
+use Rattle.text_judge.specs.Judge.{judgeLine, inRange, isLast, residueAt}
 use Rattle.text_opening.specs.Reading.{Entry, accepted, kept, fresh, verdictOn, triples, readBy, readOf}
-use Rattle.text_plan.specs.Stating.{StatedEntry, tripleText, sizesText, lastLine, tripleLines, planText, entryOf, entriesOf, Stands, Apart, Plan}
+use Rattle.text_plan.specs.Stating.{StatedEntry, tripleText, sizesText, lastLine, tripleLines, planText, entryOf, entriesOf, Stands, StandApart, Plan}
 use Rattle.text_plan.proofs.Storing.{kept-zero, kept-more}
 use Rattle.text_judge.proofs.Verdicts.{within-bounds}
 
@@ -94,7 +94,7 @@ value-is p t = sym (residue-value p (isNegative (t .value)) (magnitude (t .value
 
 verdict-printed : (s : Sizes) (room : ℕ) (seen : List Entry) (t : StatedEntry) → s .n ≤ largestSize → s .m ≤ largestSize → Stands s seen t
     → length (kept (entryOf (s .modulus .p) t ∷ seen)) ≤ room → verdictOn fresh s room seen (tripleText t) ≡ AnEntry (t .row) (t .column) (entryOf (s .modulus .p) t .value)
-unfolding judge
+unfolding judgeLine
 verdict-printed s room seen t hn hm f h =
     let wi = within-bounds (t .row) (s .n) (f .row-inside) in
     let wj = within-bounds (t .column) (s .m) (f .column-inside) in
@@ -110,10 +110,10 @@ verdict-printed s room seen t hn hm f h =
     )
 
 verdict-last : (s : Sizes) (room : ℕ) (seen : List Entry) → verdictOn fresh s room seen lastLine ≡ Last
-unfolding judge
+unfolding judgeLine
 verdict-last s room seen = rw (line-printed (record { row = 0; column = 0; value = Plus 0 }) (omega arith) (omega arith) refl tt)
 
-triples-printed : (s : Sizes) (room : ℕ) → s .n ≤ largestSize → s .m ≤ largestSize → (ts : List StatedEntry) (k : ℕ) (seen : List Entry) → Apart s seen ts
+triples-printed : (s : Sizes) (room : ℕ) → s .n ≤ largestSize → s .m ≤ largestSize → (ts : List StatedEntry) (k : ℕ) (seen : List Entry) → StandApart s seen ts
     → length (kept (reverseAux (map (entryOf (s .modulus .p)) ts) seen)) ≤ room → triples fresh s room k seen (tripleLines ts) ≡ accepted s (reverseAux (map (entryOf (s .modulus .p)) ts) seen)
 unfolding triples tripleLines
 triples-printed s room hn hm [] k seen r h = rw (verdict-last s room seen)

@@ -16,11 +16,11 @@ use Rattle.text_judge.specs.declared.judge.Verdict.the-variants.{Refused, Last,
 use Rattle.text_plan.specs.declared.triples.TripleLines.the-variants.{Read}
 use Rattle.text_opening.specs.Limits.{startsLength}
 use Rattle.text_judge.specs.Line.{lineOf}
-use Rattle.text_judge.specs.Judge.{judge, mayStand, before}
+use Rattle.text_judge.specs.Judge.{judgeLine, mayStand, before}
 use Rattle.text_opening.specs.Reading.{Entry, ReadResult, refused, accepted, kept, onward, triples, verdictOn}
 use Rattle.text_plan.specs.Rising.{lastRow, lastColumn, rises}
 use Rattle.text_plan.specs.Stored.{startsOf, RowsWithin, EntriesStored, Storable}
-use Rattle.text_plan.specs.Call.{Begins, Shows}
+use Rattle.text_plan.specs.Call.{ReadingReady, Shows}
 use Rattle.text_opening.specs.Opening.{Limits}
 use Rattle.text_plan.proofs.EachLine.{ending-none, ending-some, no-lines, last-line, next-place, line-more, next-limits}
 use Rattle.text_plan.proofs.StoredForm.{starts-length, columns-length, values-length}
@@ -39,7 +39,7 @@ pub record Progress (text : List ℕ) (from : Place) (s : Sizes) (room : ℕ) (s
   pub few : count ≤ here .at
   pub enough : count ≤ room
 
-pub progress-starts : (text : List ℕ) (from : Place) (s : Sizes) (st co va : List ℕ) → Begins text from s st co va → Progress text from s (length co) st co va from 0 0 0
+pub progress-starts : (text : List ℕ) (from : Place) (s : Sizes) (st co va : List ℕ) → ReadingReady text from s st co va → Progress text from s (length co) st co va from 0 0 0
 unfolding kept
 progress-starts text from s st co va h = record {
   limits = h .limits;
@@ -104,13 +104,13 @@ module _ {text : List ℕ} {from : Place} {s : Sizes} {room : ℕ} {st co va : L
     unfolding triples
     no-feed h = g .same ∙ ap (triples rises s room (here .line) (g .seen)) (last-line (g .limits) e h)
 
-    module _ {verdict : Verdict} (j : verdict ≡ judge (mayStand (before a b) (lineOf l)) (leb room count) s (lineOf l)) (ends : Ends text (here .at) (here .line) (length l))
+    module _ {verdict : Verdict} (j : verdict ≡ judgeLine (mayStand (before a b) (lineOf l)) (leb room count) s (lineOf l)) (ends : Ends text (here .at) (here .line) (length l))
         (next : Place) (follows : (next .at ≡ lineEnd text (here .at) + 1) × (next .line ≡ here .line + 1)) where
       abbrev rest : Pieces
       rest = pieces 10 (drop (next .at) text)
 
       verdict-is : verdict ≡ verdictOn rises s room (g .seen) l
-      verdict-is = j ∙ (λ k. judge (mayStand (before (g .last-a k) (g .last-b k)) (lineOf l)) (leb room (g .stored .number k)) s (lineOf l))
+      verdict-is = j ∙ (λ k. judgeLine (mayStand (before (g .last-a k) (g .last-b k)) (lineOf l)) (leb room (g .stored .number k)) s (lineOf l))
 
       judged-line : whole ≡ onward s (here .line) (g .seen) rest (λ t. triples rises s room (here .line + 1) (t ∷ g .seen) rest) verdict
       unfolding triples

@@ -11,7 +11,7 @@ use borrow.Author.Tests.{eq-eqb, ne-eqb, ltb-true, eqb-true}
 use Rattle.lists.proofs.Bools.{or-cases, and-left, and-right}
 use Rattle.lists.specs.Table.{repeatedPlace}
 use Rattle.text_fields.specs.Pieces.{Pieces, last, more, pieces}
-use Rattle.text_fields.specs.Number.{numberOf}
+use Rattle.text_fields.specs.Number.{numberIn}
 use Rattle.text_fields.specs.declared.numbers.Number.{Number}
 use Rattle.text_fields.specs.declared.numbers.Number.the-variants.{Value, NotNumber}
 use Rattle.residue.specs.Range.{isModulus}
@@ -21,7 +21,7 @@ use Rattle.text_judge.specs.Line.{lineOf, headerOf}
 use Rattle.text_judge.specs.Judge.{mayStand, before}
 use Rattle.text_opening.specs.Reading.{Entry, ReadResult, refused, accepted, kept, fresh, placed, ending, onward, triples, withSizes, fromSecond, withModulus, fromFirst, readBy, readOf}
 use Rattle.text_plan.specs.Rising.{lastRow, lastColumn, rises, readRisingOf}
-use Rattle.text_plan.specs.Call.{answerBy, answerOf, answerRisingOf}
+use Rattle.text_plan.specs.Call.{answerBy, readAnswerOf, answerRisingOf}
 use Rattle.text_judge.specs.declared.header.Header.{Header}
 use Rattle.text_judge.specs.declared.header.Header.the-variants.{Given, NotHeader}
 use Rattle.text_judge.specs.declared.judge.Sizes.{Sizes}
@@ -201,7 +201,7 @@ modulus-first room rest (Value p) = go (isModulus p)
 
 line-first : (room : ℕ) (t : Pieces) → First (fromFirst rises room t) (fromFirst fresh room t)
 line-first room (last l) = same-first (refused 3 1) tt
-line-first room (more l rest) = modulus-first room rest (numberOf l)
+line-first room (more l rest) = modulus-first room rest (numberIn l)
 
 -- Any result of the reading as it was, but 5, is the result.
 pub read-rising-first : (room : ℕ) (text : List ℕ) → First (readRisingOf room text) (readOf room text)
@@ -213,19 +213,19 @@ read-rising-first room text = go (ltb largestText (length text))
     go false = line-first room (pieces 10 text)
 
 -- and what it leaves is what is left
-fine-answer : (room : ℕ) (o : ReadResult) → Fine o → answerOf room o ≡ answerRisingOf room o
+fine-answer : (room : ℕ) (o : ReadResult) → Fine o → readAnswerOf room o ≡ answerRisingOf room o
 unfolding answerBy
 fine-answer room (refused c k) f = refl
 fine-answer room (accepted s seen) f = rw f
 
-pub answer-rising-first : (room : ℕ) (text : List ℕ) → isFive (readRisingOf room text) ≡ false → answerOf room (readOf room text) ≡ answerRisingOf room (readRisingOf room text)
+pub answer-rising-first : (room : ℕ) (text : List ℕ) → isFive (readRisingOf room text) ≡ false → readAnswerOf room (readOf room text) ≡ answerRisingOf room (readRisingOf room text)
 answer-rising-first room text e =
     let f = read-rising-first room text in
-    ap (answerOf room) (f .same e) ∙ fine-answer room (readRisingOf room text) (f .fine)
+    ap (readAnswerOf room) (f .same e) ∙ fine-answer room (readRisingOf room text) (f .fine)
 
 -- What was accepted is accepted, and stored the same.
 pub rising-as-before : (room : ℕ) (s : Sizes) (text : List ℕ) (seen : List Entry) → readRisingOf room text ≡ accepted s seen
-    → (readOf room text ≡ accepted s seen) × (answerOf room (readOf room text) ≡ answerRisingOf room (readRisingOf room text))
+    → (readOf room text ≡ accepted s seen) × (readAnswerOf room (readOf room text) ≡ answerRisingOf room (readRisingOf room text))
 rising-as-before room s text seen e =
     let not-five : isFive (readRisingOf room text) ≡ false = ap isFive e in
     (read-rising-first room text .same not-five ∙ e, answer-rising-first room text not-five)

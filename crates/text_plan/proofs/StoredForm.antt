@@ -16,7 +16,7 @@ use Rattle.lists.proofs.Filled.{filled-none, length-filled}
 use Rattle.lists.proofs.Tabulate.{length-tabulate, tabulate-more, tabulate-ext}
 use Rattle.text_opening.specs.Limits.{startsLength}
 use Rattle.text_opening.specs.Reading.{Entry}
-use Rattle.text_plan.specs.Stored.{countTo, startsOf, columnsOf, valuesOf, RowsWithin}
+use Rattle.text_plan.specs.Stored.{countTo, startsOf, columnsStored, valuesOf, RowsWithin}
 
 -- ---- a list that is filled, one element more or another last element
 filled-more : (n : ℕ) (l : List ℕ) (x : ℕ) → length l < n → set (filled n l) (length l) x ≡ filled n (l ++ (x ∷ []))
@@ -47,8 +47,8 @@ list-more f room es t h =
     ∙ filled-more room (map f es) (f t) (rw (length-map es f) h)
     ∙ sym (ap (filled room) (map-more f es t))
 
-pub columns-more : (room : ℕ) (es : List Entry) (t : Entry) → length es < room → set (columnsOf room es) (length es) (t .column - 1) ≡ columnsOf room (es ++ (t ∷ []))
-unfolding columnsOf
+pub columns-more : (room : ℕ) (es : List Entry) (t : Entry) → length es < room → set (columnsStored room es) (length es) (t .column - 1) ≡ columnsStored room (es ++ (t ∷ []))
+unfolding columnsStored
 columns-more room es t h = list-more (λ x. x .column - 1) room es t h
 
 pub values-more : (room : ℕ) (es : List Entry) (t : Entry) → length es < room → set (valuesOf room es) (length es) (t .value) ≡ valuesOf room (es ++ (t ∷ []))
@@ -122,16 +122,16 @@ starts-more es t r a =
     all = count-all (t .row) (t .row) (es ++ (t ∷ [])) (rows-more es t r a) (le-refl (t .row)) ∙ length-append es (t ∷ [])
 
 -- ---- lengths, and lists that hold nothing
-pub columns-length : (room : ℕ) (es : List Entry) → length es ≤ room → length (columnsOf room es) ≡ room
-unfolding columnsOf
+pub columns-length : (room : ℕ) (es : List Entry) → length es ≤ room → length (columnsStored room es) ≡ room
+unfolding columnsStored
 columns-length room es h = length-filled room (map (λ (t : Entry). t .column - 1) es) (rw (length-map es (λ (t : Entry). t .column - 1)) h)
 
 pub values-length : (room : ℕ) (es : List Entry) → length es ≤ room → length (valuesOf room es) ≡ room
 unfolding valuesOf
 values-length room es h = length-filled room (map (λ (t : Entry). t .value) es) (rw (length-map es (λ (t : Entry). t .value)) h)
 
-pub columns-none : (room : ℕ) → columnsOf room [] ≡ zeros room
-unfolding columnsOf
+pub columns-none : (room : ℕ) → columnsStored room [] ≡ zeros room
+unfolding columnsStored
 columns-none room = filled-none room
 
 pub values-none : (room : ℕ) → valuesOf room [] ≡ zeros room

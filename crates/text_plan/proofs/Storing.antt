@@ -7,11 +7,11 @@ use lib.ListN.{length, set, length-append}
 use borrow.Author.Tests.{eq-eqb, ne-eqb}
 use Rattle.text_opening.specs.Reading.{Entry, kept}
 use Rattle.text_plan.specs.Stored.{startsOf, RowsWithin, EntriesStored}
-use Rattle.text_plan.specs.Call.{Cleared}
+use Rattle.text_plan.specs.Call.{NothingStored}
 use Rattle.text_plan.proofs.StoredForm.{starts-none, columns-none, values-none, rows-wider, rows-more, starts-more, columns-more, values-more}
 
 -- lists that are all zero hold nothing
-pub cleared-stores-none : (st co va : List ℕ) → Cleared st co va → EntriesStored 0 (length co) [] 0 st co va
+pub cleared-stores-none : (st co va : List ℕ) → NothingStored st co va → EntriesStored 0 (length co) [] 0 st co va
 unfolding RowsWithin
 cleared-stores-none st co va h =
     record {

@@ -3,11 +3,11 @@
 --   refusalOf c d       what a refusal returns: its number and detail, and 0 for all else
 --   refuses c d ..      the answer that is a refusal: all lists cleared
 --   answerBy stored room o   the answer for a text that is read as o, where `stored` says what is stored of the triples
---   answerOf room o     what is stored is `placed`, sorted; answerRisingOf: what was stored while triples had to rise
+--   readAnswerOf room o     what is stored is `placed`, sorted; answerRisingOf: what was stored while triples had to rise
 --   callOf text a b c   the answer for lists of the lengths a, b and c: 9 where one is wrong
 --   Gives x r ..        the result and the lists are what the answer x says
---   Cleared             the lists have their lengths and are all zero
---   Begins, Shows       what reading triples that rise starts from, and what it returns and leaves
+--   NothingStored             the lists have their lengths and are all zero
+--   ReadingReady, Shows       what reading triples that rise starts from, and what it returns and leaves
 --   StoresAll, Settles  the entries that the lists hold in the end, and what reading triples in any order returns and leaves
 use Prim.Native.Nat.{ℕ, _≤_}
 use mathlib.Core.Path.{_≡_}
@@ -22,7 +22,7 @@ use Rattle.text_opening.specs.Limits.{startsLength}
 use Rattle.text_opening.specs.Reading.{Entry, kept, placed, ReadResult, refused, accepted, readOf}
 use Rattle.text_opening.specs.Opening.{Limits}
 use Rattle.text_plan.specs.Rising.{lastRow}
-use Rattle.text_plan.specs.Stored.{startsOf, columnsOf, valuesOf, EntriesStored}
+use Rattle.text_plan.specs.Stored.{startsOf, columnsStored, valuesOf, EntriesStored}
 use Rattle.text_plan.specs.declared.Reading.{Reading}
 use Rattle.text_judge.specs.declared.judge.Sizes.{Sizes}
 use Rattle.text_plan.specs.declared.triples.TripleLines.{TripleLines}
@@ -47,19 +47,19 @@ answerBy stored room (accepted s seen) =
     record {
       result = record { number = 0; detail = 0; p = s .modulus .p; n = s .n; m = s .m; count = length es };
       starts = startsOf (s .n) es;
-      columns = columnsOf room es;
+      columns = columnsStored room es;
       values = valuesOf room es;
     }
 
-abbrev pub answerOf : ℕ → ReadResult → ReadAnswer
-answerOf = answerBy placed
+abbrev pub readAnswerOf : ℕ → ReadResult → ReadAnswer
+readAnswerOf = answerBy placed
 
 -- before triples could stand in any order they were stored as they stood
 abbrev pub answerRisingOf : ℕ → ReadResult → ReadAnswer
 answerRisingOf = answerBy (λ s seen. kept seen)
 
 unfoldable pub callOf : List ℕ → ℕ → ℕ → ℕ → ReadAnswer
-callOf text a b c = cond (eqb a startsLength && eqb b c) (answerOf b (readOf b text)) (refuses wrongLength 0 a b c)
+callOf text a b c = cond (eqb a startsLength && eqb b c) (readAnswerOf b (readOf b text)) (refuses wrongLength 0 a b c)
 
 pub record Gives (x : ReadAnswer) (r : Reading) (starts columns values : List ℕ) : Type 0 where
   pub result-is : r ≡ x .result
@@ -68,15 +68,15 @@ pub record Gives (x : ReadAnswer) (r : Reading) (starts columns values : List �
   pub values-are : values ≡ x .values
 
 -- lists of the right lengths, all zero
-pub record Cleared (starts columns values : List ℕ) : Type 0 where
+pub record NothingStored (starts columns values : List ℕ) : Type 0 where
   pub starts-zero : starts ≡ zeros startsLength
   pub columns-zero : columns ≡ zeros (length columns)
   pub values-zero : values ≡ zeros (length columns)
 
 -- ---- the triples
-pub record Begins (text : List ℕ) (from : Place) (s : Sizes) (starts columns values : List ℕ) : Type 0 where
+pub record ReadingReady (text : List ℕ) (from : Place) (s : Sizes) (starts columns values : List ℕ) : Type 0 where
   pub limits : Limits text s from
-  pub cleared : Cleared starts columns values
+  pub cleared : NothingStored starts columns values
 
 abbrev pub Shows : ℕ → ReadResult → TripleLines → List ℕ → List ℕ → List ℕ → Type 0
 Shows room (refused c k) r starts columns values = r ≡ Refused c k

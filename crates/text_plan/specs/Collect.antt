@@ -1,13 +1,13 @@
 -- Reading without 5: the lines are collected, and repetitions looked for afterwards.
 --   Collected          the triples collected, the latest first, and the result where no place is repeated
 --   collect            the lines from number k on; what 6 or 7 refuses is collected too and ends it
---   distinct es        how many of the triples, from the first on, repeat no place: the index of the first repetition, or how many there are
+--   beforeRepeated es        how many of the triples, from the first on, repeat no place: the index of the first repetition, or how many there are
 --   settled k c        5 at the line of the first repetition, where the first line has the number k, else the result
 --   outcomeOf o        what a result returns: passed, or a refusal
---   numbers n          0 to n - 1, in their order
+--   upTo n          0 to n - 1, in their order
 --   sorted R C s n     the numbers of n lines by row, then by column, where R and C give their rows and columns
 --   tripleIn ..        the triple of a number, in three lists
---   Held E ts          E gives the triples ts by their numbers, the latest first
+--   ByNumber E ts          E gives the triples ts by their numbers, the latest first
 use Prim.Native.Nat.{ℕ, zero, suc, _+_}
 use mathlib.Core.Path.{_≡_}
 use mathlib.Core.List.{List, [], _∷_, _++_}
@@ -44,28 +44,28 @@ collect s room k seen (last l) = record { all = seen; result = refused malformed
 collect s room k seen (more l rest) =
     gather s k seen rest (λ t. collect s room (k + 1) (t ∷ seen) rest) (sight (leb room (length (kept seen))) s (lineOf l))
 
-unfoldable pub distinct : List Entry → ℕ
-distinct [] = 0
-distinct (t ∷ ts) = cond (ltb (distinct ts) (length ts)) (distinct ts) (cond (fresh ts (t .row) (t .column)) (suc (length ts)) (length ts))
+unfoldable pub beforeRepeated : List Entry → ℕ
+beforeRepeated [] = 0
+beforeRepeated (t ∷ ts) = cond (ltb (beforeRepeated ts) (length ts)) (beforeRepeated ts) (cond (fresh ts (t .row) (t .column)) (suc (length ts)) (length ts))
 
 abbrev pub settled : ℕ → Collected → ReadResult
-settled k c = cond (ltb (distinct (c .all)) (length (c .all))) (refused repeatedPlace (distinct (c .all) + k)) (c .result)
+settled k c = cond (ltb (beforeRepeated (c .all)) (length (c .all))) (refused repeatedPlace (beforeRepeated (c .all) + k)) (c .result)
 
 abbrev pub outcomeOf : ReadResult → Outcome
 outcomeOf (refused c k) = Refused c k
 outcomeOf (accepted s seen) = Passed
 
 -- ---- by number
-unfoldable pub numbers : ℕ → List ℕ
-numbers zero = []
-numbers (suc n) = numbers n ++ (n ∷ [])
+unfoldable pub upTo : ℕ → List ℕ
+upTo zero = []
+upTo (suc n) = upTo n ++ (n ∷ [])
 
 abbrev pub sorted : (ℕ → ℕ) → (ℕ → ℕ) → Sizes → ℕ → List ℕ
-sorted R C s n = grouped R (s .n + 1) (grouped C (s .m + 1) (numbers n))
+sorted R C s n = grouped R (s .n + 1) (grouped C (s .m + 1) (upTo n))
 
 abbrev pub tripleIn : List ℕ → List ℕ → List ℕ → ℕ → Entry
 tripleIn rows columns values x = tripleOf (keyOf rows x) (keyOf columns x) (keyOf values x)
 
-abbrev pub Held : (ℕ → Entry) → List Entry → Type 0
-Held E [] = Unit {0}
-Held E (t ∷ ts) = (E (length ts) ≡ t) × Held E ts
+abbrev pub ByNumber : (ℕ → Entry) → List Entry → Type 0
+ByNumber E [] = Unit {0}
+ByNumber E (t ∷ ts) = (E (length ts) ≡ t) × ByNumber E ts

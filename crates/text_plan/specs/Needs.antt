@@ -14,9 +14,9 @@ use Rattle.text_lines.specs.declared.Place.{Place}
 use Rattle.grouping.specs.Grouping.{keyOf}
 use Rattle.call_plan.specs.Limits.{largestSize}
 use Rattle.text_opening.specs.Reading.{kept}
-use Rattle.text_plan.specs.Call.{Cleared}
+use Rattle.text_plan.specs.Call.{NothingStored}
 use Rattle.text_opening.specs.Opening.{Limits}
-use Rattle.text_plan.specs.Collect.{Collected, outcomeOf, tripleIn, Held}
+use Rattle.text_plan.specs.Collect.{Collected, outcomeOf, tripleIn, ByNumber}
 use Rattle.text_judge.specs.declared.judge.Sizes.{Sizes}
 use Rattle.text_plan.specs.declared.collecting.Gathered.{Gathered}
 
@@ -40,7 +40,7 @@ pub record Collects (c : Collected) (r : Gathered) (rows columns values : List �
   pub outcome-is : r .outcome ≡ outcomeOf (c .result)
   pub count-is : r .count ≡ length (c .all)
   pub few : r .count ≤ mostLines
-  pub held : Held (tripleIn rows columns values) (c .all)
+  pub held : ByNumber (tripleIn rows columns values) (c .all)
 
 pub record Sortable (s : Sizes) (rows columns order : List ℕ) : Type 0 where
   pub n-limit : s .n ≤ largestSize
@@ -55,7 +55,7 @@ abbrev pub RowsTo : ℕ → List ℕ → List ℕ → Type 0
 RowsTo n rows order = (k : ℕ) → k < length order → keyOf rows (getD order k 0) ≤ n
 
 pub record Risen (rows columns values order starts cols vals : List ℕ) : Type 0 where
-  pub cleared : Cleared starts cols vals
+  pub cleared : NothingStored starts cols vals
   pub few : length order ≤ mostLines
   pub rows-long : (k : ℕ) → k < length order → getD order k 0 < length rows
   pub columns-long : (k : ℕ) → k < length order → getD order k 0 < length columns

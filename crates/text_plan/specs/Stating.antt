@@ -9,7 +9,7 @@
 --   entryOf p t          the triple with its value modulo p
 --   entriesOf p ts       the triples with their values modulo p, the latest first
 --   Stands s seen t      t stands in the plan, at a place where none of the triples seen stands, and its value is in range
---   Apart s seen ts      each of the triples ts stands apart from those before it and from those seen
+--   StandApart s seen ts      each of the triples ts stands apart from those before it and from those seen
 --   Plan room s ts       a plan within the limits that lists with room for so many entries can hold
 --   statedAt p ts i j    the residue stated at row i + 1 and column j + 1, 0 where none is
 --   States room s text out   the text states a plan with the sizes s whose entries are `out`
@@ -73,15 +73,15 @@ pub record Stands (s : Sizes) (seen : List Entry) (t : StatedEntry) : Type 0 whe
   pub range : inRange (t .value) ≡ true
   pub proper : Proper (t .value)
 
-abbrev pub Apart : Sizes → List Entry → List StatedEntry → Type 0
-Apart s seen [] = Unit {0}
-Apart s seen (t ∷ ts) = Stands s seen t × Apart s (entryOf (s .modulus .p) t ∷ seen) ts
+abbrev pub StandApart : Sizes → List Entry → List StatedEntry → Type 0
+StandApart s seen [] = Unit {0}
+StandApart s seen (t ∷ ts) = Stands s seen t × StandApart s (entryOf (s .modulus .p) t ∷ seen) ts
 
 pub record Plan (room : ℕ) (s : Sizes) (ts : List StatedEntry) : Type 0 where
   pub modulus : isModulus (s .modulus .p) ≡ true
   pub rows : s .n ≤ largestSize
   pub columns : s .m ≤ largestSize
-  pub apart : Apart s [] ts
+  pub apart : StandApart s [] ts
   pub fits : length (kept (entriesOf (s .modulus .p) ts)) ≤ room
   pub short : length (planText s ts) ≤ largestText
 

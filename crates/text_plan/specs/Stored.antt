@@ -1,7 +1,7 @@
 -- The stored form of entries that stand in order, as the lent lists hold it. Rows and columns are stored from 0.
 --   countTo k es             how many entries stand in the first k rows
 --   startsOf n es            the row starts of n rows, zero past them
---   columnsOf, valuesOf      the columns and the values, zero past the last entry
+--   columnsStored, valuesOf      the columns and the values, zero past the last entry
 --   RowsWithin n es          every entry stands in a row from 1 to n
 --   EntriesStored n room es ..   the lists, with room for so many entries, hold the entries es, all in the first n rows
 --   Storable ..              the lists have room for the entry v at i and j, after the row given
@@ -23,8 +23,8 @@ countTo k (t ∷ ts) = cond (leb (t .row) k) (countTo k ts + 1) (countTo k ts)
 unfoldable pub startsOf : ℕ → List Entry → List ℕ
 startsOf n es = filled startsLength (tabulate (n + 1) (λ k. countTo k es))
 
-unfoldable pub columnsOf : ℕ → List Entry → List ℕ
-columnsOf room es = filled room (map (λ (t : Entry). t .column - 1) es)
+unfoldable pub columnsStored : ℕ → List Entry → List ℕ
+columnsStored room es = filled room (map (λ (t : Entry). t .column - 1) es)
 
 unfoldable pub valuesOf : ℕ → List Entry → List ℕ
 valuesOf room es = filled room (map (λ (t : Entry). t .value) es)
@@ -37,7 +37,7 @@ pub record EntriesStored (n room : ℕ) (es : List Entry) (count : ℕ) (starts 
   pub rows : RowsWithin n es
   pub number : count ≡ length es
   pub starts-are : starts ≡ startsOf n es
-  pub columns-are : columns ≡ columnsOf room es
+  pub columns-are : columns ≡ columnsStored room es
   pub values-are : values ≡ valuesOf room es
 
 pub record Storable (starts columns values count row i j v : ℕ) : Type 0 where

@@ -4,7 +4,7 @@ ghost use mathlib.Core.List.{[]};
 ghost use lib.ListN.{length, drop};
 ghost use Rattle.text_fields.specs.Pieces.{pieces};
 ghost use Rattle.text_opening.specs.Reading.{fresh, triples, readOf};
-ghost use Rattle.text_plan.specs.Call.{answerOf, callOf, refusalOf, Gives, Cleared, Begins, Settles};
+ghost use Rattle.text_plan.specs.Call.{readAnswerOf, callOf, refusalOf, Gives, NothingStored, ReadingReady, Settles};
 use text_lines::Place;
 use text_judge::judge::Sizes;
 use text_opening::opening::Opening;
@@ -51,7 +51,7 @@ fn read_lines(
     columns: &mut [u32],
     values: &mut [u32],
 ) -> TripleLines
-    requires { ⌜ Begins (now text) third s (now starts) (now columns) (now values) ⌝ }
+    requires { ⌜ ReadingReady (now text) third s (now starts) (now columns) (now values) ⌝ }
     ensures { λ r. ⌜ Settles (length (now (columns .entry))) (triples fresh s (length (now (columns .entry))) (third .line) [] (pieces 10 (drop (third .at) (now (text .entry))))) r (now (starts .exit)) (now (columns .exit)) (now (values .exit)) ⌝ }
 {
     match triples::read_triples(text, third, s, starts, columns, values) {
@@ -70,8 +70,8 @@ fn read_lines(
 
 // Reads into lists of the right lengths that are all zero.
 fn fill(text: &[u8], starts: &mut [u32], columns: &mut [u32], values: &mut [u32]) -> Reading
-    requires { ⌜ Cleared (now starts) (now columns) (now values) ⌝ }
-    ensures { λ r. ⌜ Gives (answerOf (length (now (columns .entry))) (readOf (length (now (columns .entry))) (now (text .entry)))) r (now (starts .exit)) (now (columns .exit)) (now (values .exit)) ⌝ }
+    requires { ⌜ NothingStored (now starts) (now columns) (now values) ⌝ }
+    ensures { λ r. ⌜ Gives (readAnswerOf (length (now (columns .entry))) (readOf (length (now (columns .entry))) (now (text .entry)))) r (now (starts .exit)) (now (columns .exit)) (now (values .exit)) ⌝ }
 {
     match text_opening::opening::open(text) {
         Opening::Refused { number, detail } => refusal(number, detail),

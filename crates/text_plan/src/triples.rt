@@ -4,7 +4,7 @@ ghost use lib.ListN.{length, drop};
 ghost use Rattle.text_fields.specs.Pieces.{pieces};
 ghost use Rattle.text_opening.specs.Reading.{triples};
 ghost use Rattle.text_plan.specs.Rising.{rises};
-ghost use Rattle.text_plan.specs.Call.{Begins, Shows};
+ghost use Rattle.text_plan.specs.Call.{ReadingReady, Shows};
 use text_lines::Place;
 use text_judge::judge::Sizes;
 use text_judge::judge::Verdict;
@@ -24,7 +24,7 @@ pub fn read_triples(
     columns: &mut [u32],
     values: &mut [u32],
 ) -> TripleLines
-    requires { ⌜ Begins (now text) from s (now starts) (now columns) (now values) ⌝ }
+    requires { ⌜ ReadingReady (now text) from s (now starts) (now columns) (now values) ⌝ }
     ensures { λ r. ⌜ Shows (length (now (columns .entry))) (triples rises s (length (now (columns .entry))) (from .line) [] (pieces 10 (drop (from .at) (now (text .entry))))) r (now (starts .exit)) (now (columns .exit)) (now (values .exit)) ⌝ }
 {
     let room = columns.len();

@@ -6,7 +6,7 @@ use denote.Ref.{now}
 use borrow.Author.Needs.{needs}
 use Rattle.lists.specs.Filled.{zeros}
 use Rattle.text_opening.specs.Reading.{readOf}
-use Rattle.text_plan.specs.Call.{answerOf, Gives}
+use Rattle.text_plan.specs.Call.{readAnswerOf, Gives}
 use Rattle.text_plan.proofs.Answers.{call-reads, call-starts, call-lists}
 use Rattle.text_plan.proofs.read.Statement.{statement}
 use Rattle.text_plan.proofs.read.Tie as tie
@@ -89,7 +89,7 @@ returns-3 c =
     let h = kept k in
     let text = now (k .before .before .before .before .before .before .before .before .before .before .before .before .before .before .before .before .args .text) in
     call-reads text _ _ _ _ _ _ _ (sym (h .0) ∙ e .before .if1 .left) (sym (h .1) ∙ e .if2 .left ∙ h .2)
-    (subst (λ (n : ℕ). Gives (answerOf n (readOf n text)) (f .fill .result) (f .fill .last .1 .0) (f .fill .last .1 .1 .0) (f .fill .last .1 .1 .1 .0)) (h .1) (f .fill .ensures))
+    (subst (λ (n : ℕ). Gives (readAnswerOf n (readOf n text)) (f .fill .result) (f .fill .last .1 .0) (f .fill .last .1 .1 .0) (f .fill .last .1 .1 .1 .0)) (h .1) (f .fill .ensures))
 
 pub read-spec : {M : Type 1} → statement M
 read-spec =

@@ -9,7 +9,7 @@ use Rattle.lists.specs.Tabulate.{tabulate}
 use Rattle.algebra.specs.Matrix.{vector}
 use Rattle.sparse.specs.Words.{view}
 use Rattle.sparse.specs.Matrix.{Compressed, viewed, matrix}
-use Rattle.answer_open.specs.Opening.{openCell, FactorReady}
+use Rattle.answer_open.specs.Opening.{openCell, EchelonPassed}
 use Rattle.answer_open.proofs.PivotLaws.{pivot-inside}
 use Rattle.answer_open.proofs.PivotLoop.{cleared-long, cleared-factor, Opening, opening-starts, opening-at, opening-next, opening-ends}
 use Rattle.answer_open.proofs.pivots.open_pivots.Statement.{statement}
@@ -33,7 +33,7 @@ C s = view (s .args .co .now) (s .args .cob .now)
 long : (c : tie.At-loop Inv-loop μ-loop) → length (c .before .before .before .clear .last .0) ≡ length (start c .args .marks .now)
 long c = cleared-long (start c .args .q .p) _ _ _ _ _ _ (start c .pre) (c .before .before .before .clear .ensures)
 
-factor : (c : tie.At-loop Inv-loop μ-loop) → FactorReady (start c .args .q .p) (start c .args .r) (U (start c)) (C (start c)) (length (c .before .before .before .clear .last .0))
+factor : (c : tie.At-loop Inv-loop μ-loop) → EchelonPassed (start c .args .q .p) (start c .args .r) (U (start c)) (C (start c)) (length (c .before .before .before .clear .last .0))
 factor c = cleared-factor _ _ _ _ _ _ _ (start c .pre) (c .before .before .before .clear .ensures)
 
 -- the index is C[k - 1], a place in the list

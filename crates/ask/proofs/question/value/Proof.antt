@@ -1,6 +1,6 @@
 -- `value` meets its contract. Assumes nothing.
 use mathlib.Core.Path.{sym, ap, _∙_}
-use Rattle.ask.specs.Values.{valueOf}
+use Rattle.ask.specs.Values.{valueRead}
 use borrow.Author.Needs.{needs}
 use Rattle.ask.proofs.question.value.Statement.{statement}
 use Rattle.ask.proofs.question.value.Tie as tie
@@ -18,10 +18,10 @@ enum-told : tie.Need-enum-told
 enum-told c = search needs
 
 returns : tie.Need-returns
-returns c = c .small .ensures ∙ ap valueOf (sym (c .before .before .v .given .1) ∙ c .before .before .before .before .number-of .ensures)
+returns c = c .small .ensures ∙ ap valueRead (sym (c .before .before .v .given .1) ∙ c .before .before .before .before .number-of .ensures)
 
 returns-2 : tie.Need-returns-2
-returns-2 c = ap valueOf (sym (c .enum-told .given .1) ∙ c .before .before .number-of .ensures)
+returns-2 c = ap valueRead (sym (c .enum-told .given .1) ∙ c .before .before .number-of .ensures)
 
 pub value-spec : {M : Type 1} → statement M
 value-spec =

@@ -1,7 +1,7 @@
 -- `signed_of` meets its contract: the first byte picks a case of `signedOf`. Assumes nothing.
 use denote.Ref.{now}
 use mathlib.Core.Path.{sym, ap, _∙_}
-use Rattle.text_fields.specs.Number.{negative, positive, numberOf}
+use Rattle.text_fields.specs.Number.{negative, positive, numberIn}
 use Rattle.text_fields.proofs.Values.{signed-empty, signed-minus, signed-plus, take-rest}
 use borrow.Author.Needs.{needs}
 use Rattle.text_fields.proofs.numbers.signed_of.Statement.{statement}
@@ -37,7 +37,7 @@ with-plus-requires c κs = search needs
 returns-2 : tie.Need-returns-2
 returns-2 c =
     let l = now (c .before .before .before .before .before .before .before .args .field) in
-    c .with-minus .ensures ∙ ap negative (c .before .number-of .ensures ∙ ap numberOf (take-rest 1 l)) ∙ sym (signed-minus l (c .before .before .before .before .before .if1 .left) (c .before .before .before .if2 .taken))
+    c .with-minus .ensures ∙ ap negative (c .before .number-of .ensures ∙ ap numberIn (take-rest 1 l)) ∙ sym (signed-minus l (c .before .before .before .before .before .if1 .left) (c .before .before .before .if2 .taken))
 
 returns-3 : tie.Need-returns-3
 returns-3 c = c .with-plus .ensures ∙ ap positive (c .before .number-of2 .ensures) ∙ sym (signed-plus _ (c .before .before .before .before .if1 .left) (c .before .before .if2 .left))
