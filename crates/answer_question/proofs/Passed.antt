@@ -8,8 +8,8 @@ use lib.Dec.{leb, ltb}
 use lib.ListN.{length, getD}
 use borrow.Author.Tests.{leb-true, ltb-true}
 use Rattle.lists.specs.Tests.{first}
-use Rattle.lists.specs.Refusals.{unless}
-use Rattle.lists.specs.declared.Outcome.the-variants.{Passed}
+use Rattle.refusals.specs.Refusals.{unless}
+use Rattle.refusals.specs.declared.Outcome.the-variants.{Passed}
 use Rattle.lists.proofs.Tests.{first-before}
 use Rattle.algebra.specs.Prime.{Prime}
 use Rattle.algebra.specs.Matrix.{vector}
@@ -19,7 +19,7 @@ use Rattle.sparse.specs.Set.{Set}
 use Rattle.pluq.specs.Order.{permutation}
 use Rattle.pluq.specs.Shape.{lower, upper}
 use Rattle.pluq.specs.Judge.{judge, judgeFactors}
-use Rattle.lists.proofs.Refusals.{unless-passed}
+use Rattle.refusals.proofs.Refusals.{unless-passed}
 use Rattle.row_space.specs.Question.{questionOutcome}
 use Rattle.answer_question.specs.Answering.{SetReady}
 

@@ -3,7 +3,8 @@ ghost use mathlib.Core.Path.{_≡_};
 ghost use Prim.Native.Nat.{_^_, _<_};
 ghost use lib.ListN.{length};
 ghost use Rattle.row_space.specs.Question.{questionOutcome};
-use lists::Outcome;
+use refusals::Outcome;
+use refusals::numbers::QUESTION_TOO_LARGE;
 
 // Refuses a question with a value that is p or more: 15, at the first such index.
 pub fn question_ok(y: &[u32], p: u32) -> Outcome
@@ -13,7 +14,7 @@ pub fn question_ok(y: &[u32], p: u32) -> Outcome
     let mut j = 0;
     while j < y.len() {
         if p <= y[j] {
-            return Outcome::Refused(15, j as u32);
+            return Outcome::Refused(QUESTION_TOO_LARGE, j as u32);
         }
         j += 1;
     }

@@ -3,6 +3,9 @@
 // the plan on standard input. One line is printed: `open` and x, `closed` and z, or `refused`, a number and its detail.
 ghost use Prim.Native.Nat.{_≤_};
 ghost use lib.ListN.{length};
+use limits::PRINT_ROOM;
+use limits::START_CELLS;
+use limits::WORK_CELLS;
 
 mod arguments;
 mod question;
@@ -11,21 +14,21 @@ mod text;
 fn print_answer(plan: &[u8], y: &[u32])
     requires { ⌜ length (now y) ≤ 2049 ⌝ }
 {
-    let mut out = [0u8; 65536];
-    let mut work = [0u64; 2048];
+    let mut out = [0u8; PRINT_ROOM];
+    let mut work = [0u64; WORK_CELLS];
     let size = ask_lib::ask(plan, y, &mut out, &mut work);
     io::write_all(1, &out[..size]);
 }
 
 // All of the text is the plan.
 fn ask_by_arguments(text: &[u8]) {
-    let mut y = [0u32; 2049];
+    let mut y = [0u32; START_CELLS];
     let count = arguments::question(&mut y);
     print_answer(text, &y[..count]);
 }
 
 fn ask_by_text(text: &[u8]) {
-    let mut y = [0u32; 2049];
+    let mut y = [0u32; START_CELLS];
     let end = text::plan_end(text);
     let count = question::from_text(&text[end..], &mut y);
     print_answer(&text[..end], &y[..count]);

@@ -9,8 +9,8 @@ use lib.ListN.{length, take, drop}
 use lib.Seq.{length-take-le, take-at}
 use Rattle.lists.specs.Filled.{filled}
 use Rattle.lists.specs.Tabulate.{tabulate}
-use Rattle.lists.specs.Refusals.{detailOf}
-use Rattle.lists.specs.declared.Outcome.{Outcome}
+use Rattle.refusals.specs.Refusals.{detailOf}
+use Rattle.refusals.specs.declared.Outcome.{Outcome}
 use Rattle.lists.proofs.Filled.{length-zeros, filled-whole}
 use Rattle.lists.proofs.Tabulate.{length-tabulate}
 use Rattle.algebra.specs.Sum.{δ, place}
@@ -20,7 +20,7 @@ use Rattle.sparse.specs.Set.{Set}
 use Rattle.row_space.specs.Substitution.{backL, backU}
 use Rattle.row_space.specs.Solve.{Solved, coefficients, opened, closed, lowest, solve}
 use Rattle.row_space.specs.declared.Verdict.{Verdict}
-use Rattle.call_plan.specs.Limits.{workLength}
+use Rattle.limits.specs.Limits.{workLength}
 use Rattle.call_check.specs.Calls.{checkFactorsOf}
 use Rattle.call_answer.specs.Calls.{Given, answerOf, questionAfter, given, answerFactorsOf, Answers}
 use Rattle.call_answer.specs.declared.Answer.{Answer}

@@ -8,16 +8,16 @@ use lib.Dec.{eqb}
 use lib.ListN.{length, take}
 use borrow.Author.Tests.{eqb-true, eq-eqb, ne-eqb}
 use Rattle.lists.specs.Filled.{zeros}
-use Rattle.lists.specs.Refusals.{unless, _▷_}
+use Rattle.refusals.specs.Refusals.{unless, _▷_}
 use Rattle.lists.proofs.Filled.{length-zeros}
-use Rattle.lists.specs.declared.Outcome.{Outcome}
-use Rattle.lists.specs.declared.Outcome.the-variants.{Passed, Refused}
+use Rattle.refusals.specs.declared.Outcome.{Outcome}
+use Rattle.refusals.specs.declared.Outcome.the-variants.{Passed, Refused}
 use Rattle.byte_buffer.specs.Stored.{Fills}
 use Rattle.sparse.specs.Matrix.{Compressed}
 use Rattle.text_plan.specs.Call.{ReadAnswer}
 use Rattle.text_plan.specs.declared.Reading.{Reading}
 use Rattle.factor_all.specs.Outcome.{Outcome as Factoring}
-use Rattle.call_plan.specs.Limits.{largestSize, workLength}
+use Rattle.limits.specs.Limits.{largestSize, workLength}
 use Rattle.call_answer.specs.declared.Answer.{Answer}
 use Rattle.call_answer.specs.Calls.{answerFactorsOf}
 use Rattle.print_text.specs.Report.{refusalText}

@@ -6,9 +6,9 @@ use native.Mathlib.Omega.{arith}
 use lib.Dec.{eqb, leb, ltb}
 use lib.ListN.{length, getD}
 use Rattle.lists.specs.Tests.{first}
-use Rattle.lists.specs.Refusals.{_▷_, unless, detailOf}
-use Rattle.lists.specs.declared.Outcome.{Outcome}
-use Rattle.lists.specs.declared.Outcome.the-variants.{Passed, Refused}
+use Rattle.refusals.specs.Refusals.{_▷_, unless, detailOf}
+use Rattle.refusals.specs.declared.Outcome.{Outcome}
+use Rattle.refusals.specs.declared.Outcome.the-variants.{Passed, Refused}
 use Rattle.residue.specs.Range.{isModulus}
 use Rattle.algebra.specs.Matrix.{vector}
 use Rattle.sparse.specs.Matrix.{Compressed, matrix, form}
@@ -17,7 +17,7 @@ use Rattle.pluq.specs.Order.{permutation}
 use Rattle.pluq.specs.Shape.{lower, upper}
 use Rattle.pluq.specs.Judge.{agrees, productOutcome, judgeFactors, judge}
 use Rattle.row_space.specs.Question.{questionOutcome}
-use Rattle.call_plan.specs.Limits.{workLength}
+use Rattle.limits.specs.Limits.{workLength}
 use Rattle.call_plan.specs.Tests.{planLengths, setLengths, limitsOk, planOutcome}
 use Rattle.call_check.specs.Calls.{factorsOutcome, checkFactorsOf}
 use Rattle.call_answer.specs.Calls.{questionLengths, questionAfter}

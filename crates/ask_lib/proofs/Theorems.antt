@@ -15,10 +15,10 @@ use lib.ListN.{length, getD, take}
 use borrow.Author.Tests.{eq-eqb, leb-false, ltb-true, ltb-false}
 use Rattle.lists.specs.Filled.{zeros, filled}
 use Rattle.lists.specs.Tests.{first}
-use Rattle.lists.specs.Table.{textFaults, storageTooShort, wrongLength, questionTooLarge}
-use Rattle.lists.specs.Refusals.{unless, numberOf, detailOf}
-use Rattle.lists.specs.declared.Outcome.{Outcome}
-use Rattle.lists.specs.declared.Outcome.the-variants.{Passed, Refused}
+use Rattle.refusals.specs.Table.{textFaults, storageTooShort, wrongLength, questionTooLarge}
+use Rattle.refusals.specs.Refusals.{unless, numberOf, detailOf}
+use Rattle.refusals.specs.declared.Outcome.{Outcome}
+use Rattle.refusals.specs.declared.Outcome.the-variants.{Passed, Refused}
 use Rattle.lists.proofs.Filled.{length-zeros, filled-whole}
 use Rattle.lists.proofs.Tests.{first-before, first-here}
 use Rattle.algebra.specs.Matrix.{vector}
@@ -28,7 +28,7 @@ use Rattle.sparse.specs.Set.{Set}
 use Rattle.row_space.specs.Question.{questionOutcome}
 use Rattle.row_space.specs.Solve.{Solved, solve}
 use Rattle.answer_question.proofs.Passed.{question-passed}
-use Rattle.call_plan.specs.Limits.{largestEntries, workLength}
+use Rattle.limits.specs.Limits.{largestEntries, workLength}
 use Rattle.text_plan.specs.Held.{planOf, StatesPlan}
 use Rattle.call_check.specs.Calls.{checkFactorsOf}
 use Rattle.call_check.specs.Passing.{StoredPasses}

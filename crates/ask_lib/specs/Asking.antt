@@ -12,10 +12,10 @@ use mathlib.Core.Bool.{Bool, true, false}
 use mathlib.Core.List.{List}
 use lib.ListN.{length}
 use Rattle.lists.specs.Filled.{zeros}
-use Rattle.lists.specs.Table.{storageTooShort, questionTooLarge}
+use Rattle.refusals.specs.Table.{storageTooShort, questionTooLarge}
 use Rattle.byte_buffer.specs.Stored.{Fills}
 use Rattle.text_plan.specs.Call.{ReadAnswer}
-use Rattle.call_plan.specs.Limits.{workLength}
+use Rattle.limits.specs.Limits.{workLength, startsLength, printRoom}
 use Rattle.factor_all.specs.Outcome.{Outcome}
 use Rattle.call_answer.specs.Calls.{Given, answerFactorsOf}
 use Rattle.call_answer.specs.declared.Answer.{Answer}
@@ -46,8 +46,8 @@ unfoldable pub askOf : List ℕ → List ℕ → List ℕ
 askOf text y = askReadOf (reading text) y
 
 pub record AskLists (y out w : List ℕ) : Type 0 where
-  pub few : length y ≤ 2049
-  pub room : 65536 ≤ length out
+  pub few : length y ≤ startsLength
+  pub room : printRoom ≤ length out
   pub work-length : length w ≡ workLength
 
 pub record Asks (text y : List ℕ) (size : ℕ) (b₀ b w₀ w : List ℕ) : Type 0 where

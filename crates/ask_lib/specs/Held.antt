@@ -15,11 +15,11 @@ use mathlib.Core.List.{List}
 use lib.Dec.{eqb}
 use lib.ListN.{length, take}
 use Rattle.lists.specs.Filled.{zeros}
-use Rattle.lists.specs.Table.{storageTooShort, questionTooLarge}
-use Rattle.lists.specs.Refusals.{unless, _▷_}
-use Rattle.lists.specs.declared.Outcome.{Outcome}
+use Rattle.refusals.specs.Table.{storageTooShort, questionTooLarge}
+use Rattle.refusals.specs.Refusals.{unless, _▷_}
+use Rattle.refusals.specs.declared.Outcome.{Outcome}
 use Rattle.sparse.specs.Matrix.{Compressed}
-use Rattle.call_plan.specs.Limits.{largestSize, workLength}
+use Rattle.limits.specs.Limits.{largestSize, workLength, startsLength, printRoom}
 use Rattle.call_answer.specs.Calls.{Given, answerDetail, answerFactorsOf}
 use Rattle.call_answer.specs.declared.Answer.{Answer}
 use Rattle.print_text.specs.Answer.{answerLine}
@@ -39,12 +39,12 @@ answerLineOf Answer.Open x z = answerLine true x
 answerLineOf Answer.Closed x z = answerLine false z
 
 pub record LineReady (a : Answer) (n m : ℕ) (x z out : List ℕ) : Type 0 where
-  pub detail-small : answerDetail a ≤ 2049
+  pub detail-small : answerDetail a ≤ startsLength
   pub x-few : n ≤ largestSize
   pub z-few : m ≤ largestSize
   pub x-length : length x ≡ largestSize
   pub z-length : length z ≡ largestSize
-  pub room : 65536 ≤ length out
+  pub room : printRoom ≤ length out
 
 -- ---- the answer
 
@@ -59,12 +59,12 @@ pub record Answerable (s : Stages) (A : Compressed) (R C : List ℕ) (L U : Comp
   pub columns-small : s .reading .m ≤ largestSize
   pub x-length : length x ≡ largestSize
   pub z-length : length z ≡ largestSize
-  pub few : length y ≤ 2049
+  pub few : length y ≤ startsLength
   pub work-length : length w ≡ workLength
 
 pub record AnswerHeld (g : Given) (a : Answer) (n m : ℕ) (x z w₀ w : List ℕ) : Type 0 where
   pub line-is : answerLineOf a (take n x) (take m z) ≡ givenLine g
-  pub detail-small : answerDetail a ≤ 2049
+  pub detail-small : answerDetail a ≤ startsLength
   pub cleared : w ≡ zeros (length w₀)
 
 -- ---- what the stages came to

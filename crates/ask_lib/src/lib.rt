@@ -8,12 +8,15 @@ ghost use Rattle.print_text.specs.Printed.{Prints};
 ghost use Rattle.ask_lib.specs.Held.{answerLineOf, LineReady, heldAnswer, Answerable, AnswerHeld, RowCountable, stagesRefusal, stagedLine, AskStagedReady};
 use call_answer::Answer;
 use call_answer::from_factors::answer_from_factors;
-use lists::Outcome;
+use refusals::Outcome;
 use print_text::answer::write_answer;
 use print_text::report::from_one;
 use print_text::report::write_refusal;
 use stages::Stages;
 use stages::factor_text;
+use limits::ENTRY_CELLS;
+use limits::SIZE_CELLS;
+use limits::START_CELLS;
 
 // Writes the line of an answer: of a refusal, whose index counts from 1 in print, or the verdict with the n values of x or the m of z.
 fn write_line(answer: Answer, n: u32, m: u32, xs: &[u32], zs: &[u32], out: &mut [u8]) -> usize
@@ -123,8 +126,8 @@ fn ask_staged(
     if let Outcome::Refused(number, detail) = refused {
         return write_refusal(number, detail, out);
     }
-    let mut x = [0u32; 2048];
-    let mut z = [0u32; 2048];
+    let mut x = [0u32; SIZE_CELLS];
+    let mut z = [0u32; SIZE_CELLS];
     let answer = answer_held(
         s,
         starts,
@@ -154,17 +157,17 @@ pub fn ask(text: &[u8], y: &[u32], out: &mut [u8], work: &mut [u64]) -> usize
     requires { ⌜ AskLists (now y) (now out) (now work) ⌝ }
     ensures { λ size. ⌜ Asks (now (text .entry)) (now (y .entry)) size (now (out .entry)) (now (out .exit)) (now (work .entry)) (now (work .exit)) ⌝ }
 {
-    let mut starts = [0u32; 2049];
-    let mut columns = [0u32; 16384];
-    let mut values = [0u32; 16384];
-    let mut rows = [0u32; 2048];
-    let mut cols = [0u32; 2048];
-    let mut ls = [0u32; 2049];
-    let mut lc = [0u32; 16384];
-    let mut lv = [0u32; 16384];
-    let mut us = [0u32; 2049];
-    let mut uc = [0u32; 16384];
-    let mut uv = [0u32; 16384];
+    let mut starts = [0u32; START_CELLS];
+    let mut columns = [0u32; ENTRY_CELLS];
+    let mut values = [0u32; ENTRY_CELLS];
+    let mut rows = [0u32; SIZE_CELLS];
+    let mut cols = [0u32; SIZE_CELLS];
+    let mut ls = [0u32; START_CELLS];
+    let mut lc = [0u32; ENTRY_CELLS];
+    let mut lv = [0u32; ENTRY_CELLS];
+    let mut us = [0u32; START_CELLS];
+    let mut uc = [0u32; ENTRY_CELLS];
+    let mut uv = [0u32; ENTRY_CELLS];
     let s = factor_text(
         text,
         &mut starts,

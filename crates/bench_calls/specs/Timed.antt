@@ -2,15 +2,15 @@
 --   ifPassed o k         k where the outcome is passed, else 0
 --   heldRank s           the rank that stages found, 0 where one of them refused
 --   timedRank text       the rank of a text's plan by reading and factoring, 0 where one of them refuses
---   reportRoom           the bytes that hold any report
 --   timedReport text b   the report of a text, for a buffer of b bytes; nothing where these are too few
 use Prim.Native.Nat.{ℕ}
 use mathlib.Core.Bool.{cond}
 use mathlib.Core.List.{List, []}
 use lib.Dec.{eqb, ltb}
-use Rattle.lists.specs.Refusals.{_▷_, unless}
-use Rattle.lists.specs.declared.Outcome.{Outcome}
-use Rattle.lists.specs.declared.Outcome.the-variants.{Passed, Refused}
+use Rattle.limits.specs.Limits.{printRoom}
+use Rattle.refusals.specs.Refusals.{_▷_, unless}
+use Rattle.refusals.specs.declared.Outcome.{Outcome}
+use Rattle.refusals.specs.declared.Outcome.the-variants.{Passed, Refused}
 use Rattle.stages.specs.declared.Stages.{Stages}
 use Rattle.stages.specs.Stages.{reading, readOutcome, factoredOf, factorOutcome}
 use Rattle.report_lib.specs.Reporting.{reportOf}
@@ -34,8 +34,5 @@ timedRank text =
 
 -- ---- the report
 
-abbrev pub reportRoom : ℕ
-reportRoom = 65536
-
 unfoldable pub timedReport : List ℕ → ℕ → List ℕ
-timedReport text b = cond (ltb b reportRoom) [] (reportOf text)
+timedReport text b = cond (ltb b printRoom) [] (reportOf text)

@@ -8,9 +8,11 @@ use lists::clear_bytes;
 use report_lib::report;
 use stages::Stages;
 use stages::factor_text;
-
-// The bytes that hold any report.
-const REPORT_ROOM: usize = 65536;
+use limits::ENTRY_CELLS;
+use limits::PRINT_ROOM;
+use limits::SIZE_CELLS;
+use limits::START_CELLS;
+use limits::WORK_CELLS;
 
 // The rank that the stages found, 0 where one of them refused.
 fn rank_staged(s: Stages) -> u64
@@ -35,18 +37,18 @@ fn rank_staged(s: Stages) -> u64
 pub extern "C" fn plq_time_factoring(text: &[u8]) -> u64
     ensures { λ z. ⌜ z ≡ timedRank (now (text .entry)) ⌝ }
 {
-    let mut starts = [0u32; 2049];
-    let mut columns = [0u32; 16384];
-    let mut values = [0u32; 16384];
-    let mut rows = [0u32; 2048];
-    let mut cols = [0u32; 2048];
-    let mut ls = [0u32; 2049];
-    let mut lc = [0u32; 16384];
-    let mut lv = [0u32; 16384];
-    let mut us = [0u32; 2049];
-    let mut uc = [0u32; 16384];
-    let mut uv = [0u32; 16384];
-    let mut work = [0u64; 2048];
+    let mut starts = [0u32; START_CELLS];
+    let mut columns = [0u32; ENTRY_CELLS];
+    let mut values = [0u32; ENTRY_CELLS];
+    let mut rows = [0u32; SIZE_CELLS];
+    let mut cols = [0u32; SIZE_CELLS];
+    let mut ls = [0u32; START_CELLS];
+    let mut lc = [0u32; ENTRY_CELLS];
+    let mut lv = [0u32; ENTRY_CELLS];
+    let mut us = [0u32; START_CELLS];
+    let mut uc = [0u32; ENTRY_CELLS];
+    let mut uv = [0u32; ENTRY_CELLS];
+    let mut work = [0u64; WORK_CELLS];
     let s = factor_text(
         text,
         &mut starts,
@@ -73,10 +75,10 @@ pub extern "C" fn plq_time_factoring(text: &[u8]) -> u64
 pub extern "C" fn plq_time_report(text: &[u8], out: &mut [u8]) -> u64
     ensures { λ size. ⌜ Fills (now (out .entry)) (now (out .exit)) size (timedReport (now (text .entry)) (length (now (out .entry)))) ⌝ }
 {
-    if out.len() < REPORT_ROOM {
+    if out.len() < PRINT_ROOM {
         clear_bytes(out);
         return 0;
     }
-    let mut work = [0u64; 2048];
+    let mut work = [0u64; WORK_CELLS];
     report(text, out, &mut work) as u64
 }

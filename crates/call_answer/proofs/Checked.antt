@@ -12,10 +12,10 @@ use mathlib.Core.Bool.{true}
 use mathlib.Core.List.{List, _++_}
 use Prim.Native.Nat.{ℕ, _≤_}
 use native.Mathlib.Omega.{arith}
-use Rattle.lists.specs.Table.{planFaults, setFaults}
-use Rattle.lists.specs.declared.Outcome.{Outcome}
-use Rattle.lists.specs.declared.Outcome.the-variants.{Passed}
-use Rattle.lists.proofs.Refusals.{RefusedBy, both-passed}
+use Rattle.refusals.specs.Table.{planFaults, setFaults}
+use Rattle.refusals.specs.declared.Outcome.{Outcome}
+use Rattle.refusals.specs.declared.Outcome.the-variants.{Passed}
+use Rattle.refusals.proofs.Refusals.{RefusedBy, both-passed}
 use Rattle.algebra.specs.Prime.{Prime}
 use Rattle.residue.proofs.Primes.{modulus-prime}
 use Rattle.sparse.specs.Matrix.{Compressed}

@@ -17,14 +17,14 @@ use lib.Dec.{eqb, leb, ltb}
 use lib.ListN.{length, getD}
 use borrow.Author.Tests.{eq-eqb, le-leb, lt-ltb}
 use Rattle.lists.specs.Tests.{among, first}
-use Rattle.lists.specs.Table.{planFaults, setFaults, wrongLength, questionTooLarge}
+use Rattle.refusals.specs.Table.{planFaults, setFaults, wrongLength, questionTooLarge}
 use Rattle.lists.specs.Filled.{zeros, filled}
-use Rattle.lists.specs.Refusals.{_▷_, unless, numberOf, NumberFrom}
-use Rattle.lists.specs.declared.Outcome.{Outcome}
+use Rattle.refusals.specs.Refusals.{_▷_, unless, numberOf, NumberFrom}
+use Rattle.refusals.specs.declared.Outcome.{Outcome}
 use Rattle.lists.proofs.Bools.{and-both}
 use Rattle.lists.proofs.Tests.{first-all}
 use Rattle.lists.proofs.Filled.{length-zeros, filled-none, filled-whole}
-use Rattle.lists.proofs.Refusals.{RefusedBy, number-from, after-passed, unless-holds, refused-unless, refused-then, zero-passed}
+use Rattle.refusals.proofs.Refusals.{RefusedBy, number-from, after-passed, unless-holds, refused-unless, refused-then, zero-passed}
 use Rattle.algebra.specs.Matrix.{vector}
 use Rattle.algebra.specs.RowSpace.{InRowSpace}
 use Rattle.algebra.specs.Answer.{OpenAnswer, ClosedAnswer}
@@ -41,7 +41,7 @@ use Rattle.row_space.proofs.Theorems as sets
 use Rattle.answer_question.proofs.Passed.{question-passed}
 use Rattle.certificate.specs.Layout.{Sized}
 use Rattle.certificate.specs.Reading.{headerOk, setOfCertificate}
-use Rattle.call_plan.specs.Limits.{workLength}
+use Rattle.limits.specs.Limits.{workLength}
 use Rattle.call_plan.specs.Accepted.{GoodPlan}
 use Rattle.call_check.specs.Calls.{checkFactorsOf, checkCertificateOf, Checks}
 use Rattle.call_check.specs.Passing.{StoredPasses, CertificatePasses}

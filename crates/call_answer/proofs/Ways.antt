@@ -6,12 +6,11 @@ use Prim.Native.Nat.{ℕ}
 use native.Mathlib.Omega.{arith}
 use lib.ListN.{length}
 use Rattle.lists.specs.Filled.{zeros, filled}
-use Rattle.lists.specs.Refusals.{_▷_, numberOf, detailOf}
-use Rattle.lists.specs.declared.Outcome.{Outcome}
+use Rattle.refusals.specs.Refusals.{_▷_, numberOf, detailOf}
+use Rattle.refusals.specs.declared.Outcome.{Outcome}
 use Rattle.lists.proofs.Filled.{length-zeros, filled-none, filled-whole}
-use Rattle.lists.proofs.Refusals.{fails, holds, refused, passed, both-passed}
+use Rattle.refusals.proofs.Refusals.{fails, holds, refused, passed, both-passed, unless-passed}
 use Rattle.answer_question.proofs.Passed.{question-passed}
-use Rattle.lists.proofs.Refusals.{unless-passed}
 use Rattle.algebra.specs.Matrix.{vector}
 use Rattle.sparse.specs.Matrix.{Compressed}
 use Rattle.sparse.specs.Set.{Set}

@@ -17,9 +17,9 @@ use mathlib.Core.List.{List, []}
 use lib.Dec.{eqb}
 use lib.ListN.{length}
 use Rattle.lists.specs.Filled.{zeros, filled}
-use Rattle.lists.specs.Table.{wrongLength}
-use Rattle.lists.specs.Refusals.{_▷_, unless, numberOf, detailOf}
-use Rattle.lists.specs.declared.Outcome.{Outcome}
+use Rattle.refusals.specs.Table.{wrongLength}
+use Rattle.refusals.specs.Refusals.{_▷_, unless, numberOf, detailOf}
+use Rattle.refusals.specs.declared.Outcome.{Outcome}
 use Rattle.algebra.specs.Matrix.{vector}
 use Rattle.sparse.specs.Matrix.{Compressed}
 use Rattle.sparse.specs.Set.{Set}

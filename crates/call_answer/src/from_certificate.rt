@@ -15,11 +15,12 @@ use answer_question::question::question_ok;
 use certificate::parts::number;
 use certificate::parts::places_in;
 use call_check::from_certificate::check_bytes;
-use lists::Outcome;
+use refusals::Outcome;
 use lists::clear;
 use lists::clear_row;
 use residue::Modulus;
 use row_space::Verdict;
+use refusals::numbers::WRONG_LENGTH;
 
 // The tests of a call with a certificate: 9, 1, 2, 8, 10, 11 to 14, 15. The working row is left all zero.
 fn asked_of_certificate(
@@ -39,7 +40,7 @@ fn asked_of_certificate(
 {
     if !question_lengths(n, m, y, xlen, zlen) {
         clear_row(work);
-        return Outcome::Refused(9, 0);
+        return Outcome::Refused(WRONG_LENGTH, 0);
     }
     let checked = check_bytes(q, n, m, ss, cols, vals, cert, work);
     let Outcome::Passed = checked else {

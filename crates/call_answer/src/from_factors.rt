@@ -13,11 +13,12 @@ use crate::question::question_lengths;
 use answer_question::answer::answer;
 use answer_question::question::question_ok;
 use call_check::from_factors::check_stored;
-use lists::Outcome;
+use refusals::Outcome;
 use lists::clear;
 use lists::clear_row;
 use residue::Modulus;
 use row_space::Verdict;
+use refusals::numbers::WRONG_LENGTH;
 
 // The tests of a call with stored factors: 9, 1, 2, 8, 11 to 14, 15. The working row is left all zero.
 fn asked_of_factors(
@@ -45,7 +46,7 @@ fn asked_of_factors(
 {
     if !question_lengths(n, m, y, xlen, zlen) {
         clear_row(work);
-        return Outcome::Refused(9, 0);
+        return Outcome::Refused(WRONG_LENGTH, 0);
     }
     let checked = check_stored(
         q,

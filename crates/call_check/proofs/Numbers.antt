@@ -15,7 +15,7 @@ use Rattle.sparse.proofs.StoredNumbers.{stored-few, starts-small, columns-small
 use Rattle.pluq.specs.Judge.{Passes}
 use Rattle.certificate.specs.Layout.{factorNumbers, numbersOf, Sized}
 use Rattle.certificate.proofs.ReadBack.{factor-below, numbers-below}
-use Rattle.call_plan.specs.Limits.{largestSize}
+use Rattle.limits.specs.Limits.{largestSize}
 use Rattle.call_plan.specs.Accepted.{GoodPlan}
 use Rattle.call_plan.proofs.Plans.{small-product}
 

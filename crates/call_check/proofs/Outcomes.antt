@@ -4,8 +4,8 @@ use mathlib.Core.List.{List}
 use Prim.Native.Nat.{ℕ}
 use lib.ListN.{length}
 use Rattle.lists.specs.Filled.{zeros}
-use Rattle.lists.specs.Refusals.{numberOf, detailOf}
-use Rattle.lists.specs.declared.Outcome.{Outcome}
+use Rattle.refusals.specs.Refusals.{numberOf, detailOf}
+use Rattle.refusals.specs.declared.Outcome.{Outcome}
 use Rattle.call_check.specs.Calls.{Checks}
 
 pub checks : (o r : Outcome) (w₀ w : List ℕ) → r ≡ o → w ≡ zeros (length w₀) → Checks o r w₀ w

@@ -2,7 +2,7 @@
 use mathlib.Core.Path.{_≡_}
 use mathlib.Core.List.{List, []}
 use Prim.Native.Nat.{ℕ}
-use Rattle.lists.specs.declared.Outcome.{Outcome}
+use Rattle.refusals.specs.declared.Outcome.{Outcome}
 use Rattle.sparse.specs.Words.{view}
 use Rattle.sparse.specs.Matrix.{Compressed, compressed, viewed}
 use Rattle.sparse.specs.Set.{Set, setOf}

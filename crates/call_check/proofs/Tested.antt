@@ -8,17 +8,17 @@ use lib.Dec.{eqb}
 use lib.ListN.{length}
 use borrow.Author.Tests.{eqb-true, eq-eqb, ne-eqb}
 use Rattle.lists.specs.Filled.{zeros}
-use Rattle.lists.specs.Refusals.{_▷_, unless}
-use Rattle.lists.specs.declared.Outcome.{Outcome}
-use Rattle.lists.specs.declared.Outcome.the-variants.{Passed, Refused}
+use Rattle.refusals.specs.Refusals.{_▷_, unless}
+use Rattle.refusals.specs.declared.Outcome.{Outcome}
+use Rattle.refusals.specs.declared.Outcome.the-variants.{Passed, Refused}
 use Rattle.lists.proofs.Bools.{and-left, and-right, chain-false, chain-true, and-both}
-use Rattle.lists.proofs.Refusals.{fails, holds, passed, unless-true}
+use Rattle.refusals.proofs.Refusals.{fails, holds, passed, unless-true}
 use Rattle.sparse.specs.Matrix.{Compressed}
 use Rattle.sparse.specs.Set.{Set}
 use Rattle.check_set.specs.Needs.{Checkable}
 use Rattle.certificate.specs.Reading.{headerOk}
 use Rattle.certificate.specs.Layout.{Sized}
-use Rattle.call_plan.specs.Limits.{workLength}
+use Rattle.limits.specs.Limits.{workLength}
 use Rattle.call_plan.specs.Tests.{pairedLengths, planLengths, setLengths, planOutcome, callOutcome}
 use Rattle.call_plan.specs.Accepted.{GoodPlan}
 use Rattle.call_plan.proofs.Plans.{good-plan, good-positive}

@@ -18,12 +18,12 @@ use lib.Dec.{eqb}
 use lib.ListN.{length}
 use borrow.Author.Tests.{eq-eqb}
 use Rattle.lists.specs.Tests.{among}
-use Rattle.lists.specs.Table.{planFaults, setFaults}
-use Rattle.lists.specs.Refusals.{_▷_, unless, numberOf, NumberFrom}
-use Rattle.lists.specs.declared.Outcome.{Outcome}
-use Rattle.lists.specs.declared.Outcome.the-variants.{Passed}
+use Rattle.refusals.specs.Table.{planFaults, setFaults}
+use Rattle.refusals.specs.Refusals.{_▷_, unless, numberOf, NumberFrom}
+use Rattle.refusals.specs.declared.Outcome.{Outcome}
+use Rattle.refusals.specs.declared.Outcome.the-variants.{Passed}
 use Rattle.lists.proofs.Bools.{and-both}
-use Rattle.lists.proofs.Refusals.{RefusedBy, number-from, both-passed, unless-passed, unless-holds, after-passed, then-after, then-nothing, refused-next, refused-then, zero-passed, none-among}
+use Rattle.refusals.proofs.Refusals.{RefusedBy, number-from, both-passed, unless-passed, unless-holds, after-passed, then-after, then-nothing, refused-next, refused-then, zero-passed, none-among}
 use Rattle.algebra.specs.Matrix.{vector}
 use Rattle.algebra.specs.Rank.{Rank}
 use Rattle.algebra.specs.Factors.{Factors}
@@ -36,7 +36,7 @@ use Rattle.certificate.specs.Layout.{certificateOf, Sized}
 use Rattle.certificate.specs.Reading.{headerOk, setOfCertificate}
 use Rattle.certificate.proofs.Passed.{passed-sized}
 use Rattle.certificate.proofs.ReadBack.{written-passes, written-reads-back}
-use Rattle.call_plan.specs.Limits.{workLength}
+use Rattle.limits.specs.Limits.{workLength}
 use Rattle.call_plan.specs.Tests.{planLengths, setLengths, callOutcome}
 use Rattle.call_plan.specs.Accepted.{GoodPlan}
 use Rattle.call_plan.proofs.Plans.{good-prime, good-positive, good-passes, plan-numbers}

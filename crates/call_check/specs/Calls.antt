@@ -11,14 +11,14 @@ use mathlib.Core.List.{List}
 use lib.Dec.{eqb}
 use lib.ListN.{length}
 use Rattle.lists.specs.Filled.{zeros}
-use Rattle.lists.specs.Table.{badHeader}
-use Rattle.lists.specs.Refusals.{_▷_, unless, numberOf, detailOf}
-use Rattle.lists.specs.declared.Outcome.{Outcome}
+use Rattle.refusals.specs.Table.{badHeader}
+use Rattle.refusals.specs.Refusals.{_▷_, unless, numberOf, detailOf}
+use Rattle.refusals.specs.declared.Outcome.{Outcome}
 use Rattle.sparse.specs.Matrix.{Compressed}
 use Rattle.sparse.specs.Set.{Set}
 use Rattle.pluq.specs.Judge.{judge}
 use Rattle.certificate.specs.Reading.{headerOk, setOfCertificate}
-use Rattle.call_plan.specs.Limits.{workLength}
+use Rattle.limits.specs.Limits.{workLength}
 use Rattle.call_plan.specs.Tests.{setLengths, callOutcome}
 
 unfoldable pub factorsOutcome : (p n m : ℕ) → Compressed → Set → ℕ → Outcome

@@ -12,7 +12,7 @@ use Rattle.sparse.specs.Set.{Set}
 use Rattle.pluq.specs.Judge.{Passes}
 use Rattle.certificate.specs.Layout.{Sized}
 use Rattle.certificate.specs.Reading.{headerOk, setOfCertificate}
-use Rattle.call_plan.specs.Limits.{workLength}
+use Rattle.limits.specs.Limits.{workLength}
 use Rattle.call_plan.specs.Accepted.{GoodPlan}
 
 pub record StoredPasses (p n m : ℕ) (A : Compressed) (s : Set) (w : ℕ) : Type 0 where

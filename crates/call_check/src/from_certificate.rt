@@ -9,9 +9,12 @@ use certificate::header::header_ok;
 use certificate::parts::number;
 use certificate::parts::places_in;
 use check_set::check;
-use lists::Outcome;
+use refusals::Outcome;
 use lists::clear_row;
 use residue::Modulus;
+use limits::WORK_CELLS;
+use refusals::numbers::BAD_HEADER;
+use refusals::numbers::WRONG_LENGTH;
 
 // The lengths, the plan and the header of a call with a certificate: 9, 1, 2, 8, 10.
 fn certificate_outcome(
@@ -27,17 +30,17 @@ fn certificate_outcome(
     ensures { λ o. ⌜ o ≡ certificateOutcome p n m (compressed (now (ss .entry)) (now (cols .entry)) (now (vals .entry))) (now (cert .entry)) width ⌝ }
 {
     if !plan_lengths(n, ss, cols, vals) {
-        return Outcome::Refused(9, 0);
+        return Outcome::Refused(WRONG_LENGTH, 0);
     }
-    if width != 2048 {
-        return Outcome::Refused(9, 0);
+    if width != WORK_CELLS {
+        return Outcome::Refused(WRONG_LENGTH, 0);
     }
     let plan = plan_outcome(p, n, m, ss, cols, vals);
     let Outcome::Passed = plan else {
         return plan;
     };
     if !header_ok(cert, p, n, m) {
-        return Outcome::Refused(10, 0);
+        return Outcome::Refused(BAD_HEADER, 0);
     }
     Outcome::Passed
 }

@@ -8,9 +8,11 @@ use call_plan::plan_lengths;
 use call_plan::plan_outcome;
 use call_plan::set_lengths;
 use check_set::check;
-use lists::Outcome;
+use refusals::Outcome;
 use lists::clear_row;
 use residue::Modulus;
+use limits::WORK_CELLS;
+use refusals::numbers::WRONG_LENGTH;
 
 // The lengths and the plan of a call with stored factors: 9, 1, 2, 8.
 fn factors_outcome(
@@ -34,13 +36,13 @@ fn factors_outcome(
     ensures { λ o. ⌜ o ≡ factorsOutcome p n m (compressed (now (ss .entry)) (now (cols .entry)) (now (vals .entry))) (setOf r (now (ro .entry)) (now (co .entry)) (compressed (now (ls .entry)) (now (lc .entry)) (now (lv .entry))) (compressed (now (us .entry)) (now (uc .entry)) (now (uv .entry)))) width ⌝ }
 {
     if !plan_lengths(n, ss, cols, vals) {
-        return Outcome::Refused(9, 0);
+        return Outcome::Refused(WRONG_LENGTH, 0);
     }
     if !set_lengths(n, m, r, ro, co, ls, lc, lv, us, uc, uv) {
-        return Outcome::Refused(9, 0);
+        return Outcome::Refused(WRONG_LENGTH, 0);
     }
-    if width != 2048 {
-        return Outcome::Refused(9, 0);
+    if width != WORK_CELLS {
+        return Outcome::Refused(WRONG_LENGTH, 0);
     }
     plan_outcome(p, n, m, ss, cols, vals)
 }

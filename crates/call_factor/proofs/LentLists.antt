@@ -6,7 +6,7 @@ use native.Mathlib.Omega.{arith}
 use lib.Dec.{eqb}
 use borrow.Author.Tests.{eqb-true, eq-eqb, ne-eqb}
 use Rattle.lists.proofs.Bools.{and-left, and-right, chain-false, chain-true}
-use Rattle.call_plan.specs.Limits.{workLength}
+use Rattle.limits.specs.Limits.{workLength}
 use Rattle.call_factor.specs.Lengths.{lentLengths}
 use Rattle.call_factor.specs.Accepted.{LentRight}
 use Rattle.call_factor.specs.declared.Lent.{Lent}

@@ -6,11 +6,11 @@ use Prim.Native.Nat.{ℕ, _≤_}
 use native.Mathlib.Omega.{arith}
 use lib.ListN.{length}
 use Rattle.lists.proofs.Filled.{cleared-filled}
-use Rattle.lists.specs.declared.Outcome as tests
-use Rattle.lists.specs.declared.Outcome.the-variants.{Passed, Refused}
+use Rattle.refusals.specs.declared.Outcome as tests
+use Rattle.refusals.specs.declared.Outcome.the-variants.{Passed, Refused}
 use Rattle.residue.proofs.Primes.{modulus-prime}
 use Rattle.sparse.specs.Matrix.{Compressed, form}
-use Rattle.call_plan.specs.Limits.{largestSize}
+use Rattle.limits.specs.Limits.{largestSize}
 use Rattle.call_plan.proofs.Plans.{good-plan, small-product}
 use Rattle.factor_all.specs.Outcome.{Outcome, factoring, Leaves}
 use Rattle.factor_all.specs.Needs.{AllClear, FactorReady}

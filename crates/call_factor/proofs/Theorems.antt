@@ -17,12 +17,12 @@ use Prim.Native.Nat.{ℕ, _<_}
 use native.Mathlib.Omega.{arith}
 use lib.ListN.{length}
 use Rattle.lists.specs.Tests.{among}
-use Rattle.lists.specs.Table.{planFaults, storageTooShort}
-use Rattle.lists.specs.Refusals.{numberOf, NumberFrom}
-use Rattle.lists.specs.declared.Outcome as tests
-use Rattle.lists.specs.declared.Outcome.the-variants.{Passed, Refused}
+use Rattle.refusals.specs.Table.{planFaults, storageTooShort}
+use Rattle.refusals.specs.Refusals.{numberOf, NumberFrom}
+use Rattle.refusals.specs.declared.Outcome as tests
+use Rattle.refusals.specs.declared.Outcome.the-variants.{Passed, Refused}
 use Rattle.lists.proofs.Filled.{filled-none}
-use Rattle.lists.proofs.Refusals.{RefusedBy, among-left, zero-passed}
+use Rattle.refusals.proofs.Refusals.{RefusedBy, among-left, zero-passed}
 use Rattle.algebra.specs.Rank.{Rank}
 use Rattle.sparse.specs.Matrix.{Compressed, matrix, rowOf}
 use Rattle.sparse.specs.Set.{Set}

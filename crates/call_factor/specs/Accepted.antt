@@ -10,7 +10,7 @@ use lib.ListN.{length}
 use Rattle.lists.specs.Filled.{zeros}
 use Rattle.sparse.specs.Matrix.{Compressed}
 use Rattle.elimination.specs.Factoring.{factor}
-use Rattle.call_plan.specs.Limits.{workLength}
+use Rattle.limits.specs.Limits.{workLength}
 use Rattle.call_plan.specs.Accepted.{GoodPlan}
 use Rattle.call_factor.specs.declared.Lent.{Lent}
 

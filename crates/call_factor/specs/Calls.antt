@@ -4,8 +4,8 @@
 --   factorCallOf ..        9, 1, 2, 8, then what factoring gives: 7 at a row, or the factors
 use Prim.Native.Nat.{ℕ}
 use mathlib.Core.List.{[]}
-use Rattle.lists.specs.declared.Outcome as tests
-use Rattle.lists.specs.declared.Outcome.the-variants.{Passed, Refused}
+use Rattle.refusals.specs.declared.Outcome as tests
+use Rattle.refusals.specs.declared.Outcome.the-variants.{Passed, Refused}
 use Rattle.sparse.specs.Matrix.{Compressed, compressed}
 use Rattle.factor_all.specs.Outcome.{Outcome, factoring}
 use Rattle.call_factor.specs.Lengths.{lentOutcome}

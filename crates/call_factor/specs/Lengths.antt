@@ -9,9 +9,9 @@ use mathlib.Core.Bool.{Bool, _&&_}
 use mathlib.Core.List.{List}
 use lib.Dec.{eqb}
 use lib.ListN.{length}
-use Rattle.lists.specs.declared.Outcome.{Outcome}
+use Rattle.refusals.specs.declared.Outcome.{Outcome}
 use Rattle.sparse.specs.Matrix.{Compressed}
-use Rattle.call_plan.specs.Limits.{workLength}
+use Rattle.limits.specs.Limits.{workLength}
 use Rattle.call_plan.specs.Tests.{callOutcome}
 use Rattle.call_factor.specs.declared.Lent.{Lent}
 

@@ -8,9 +8,11 @@ use call_plan::plan_lengths;
 use call_plan::plan_outcome;
 use factor_all::clearing::clear_all;
 use factor_all::factor::Factored;
-use lists::Outcome;
+use refusals::Outcome;
 use lists::index;
 use residue::Modulus;
+use limits::WORK_CELLS;
+use refusals::numbers::WRONG_LENGTH;
 
 // How long the lists are that are lent to factoring.
 pub struct Lent {
@@ -48,7 +50,7 @@ fn lent_lengths(n: u32, m: u32, lent: Lent) -> bool
     if lent.ucols != lent.uvals {
         return false;
     }
-    lent.work == 2048
+    lent.work == WORK_CELLS
 }
 
 // The lengths and the plan: 9, 1, 2, 8.
@@ -64,10 +66,10 @@ fn lent_outcome(
     ensures { λ o. ⌜ o ≡ lentOutcome p n m (compressed (now (ss .entry)) (now (cols .entry)) (now (vals .entry))) lent ⌝ }
 {
     if !plan_lengths(n, ss, cols, vals) {
-        return Outcome::Refused(9, 0);
+        return Outcome::Refused(WRONG_LENGTH, 0);
     }
     if !lent_lengths(n, m, lent) {
-        return Outcome::Refused(9, 0);
+        return Outcome::Refused(WRONG_LENGTH, 0);
     }
     plan_outcome(p, n, m, ss, cols, vals)
 }

@@ -13,14 +13,14 @@ use lib.Dec.{eqb}
 use lib.ListN.{length}
 use borrow.Author.Tests.{eqb-true, eq-eqb}
 use Rattle.lists.specs.Tests.{among}
-use Rattle.lists.specs.Table.{planFaults, setFaults, wrongLength}
+use Rattle.refusals.specs.Table.{planFaults, setFaults, wrongLength}
 use Rattle.lists.specs.Filled.{zeros, filled}
-use Rattle.lists.specs.Refusals.{_▷_, unless, numberOf, NumberFrom}
-use Rattle.lists.specs.declared.Outcome.{Outcome}
-use Rattle.lists.specs.declared.Outcome.the-variants.{Passed, Refused}
+use Rattle.refusals.specs.Refusals.{_▷_, unless, numberOf, NumberFrom}
+use Rattle.refusals.specs.declared.Outcome.{Outcome}
+use Rattle.refusals.specs.declared.Outcome.the-variants.{Passed, Refused}
 use Rattle.lists.proofs.Filled.{filled-none, filled-whole}
 use Rattle.lists.proofs.Tabulate.{length-tabulate}
-use Rattle.lists.proofs.Refusals.{RefusedBy, number-from, then-nothing, unless-passed, unless-holds, refused-unless, refused-then, zero-passed}
+use Rattle.refusals.proofs.Refusals.{RefusedBy, number-from, then-nothing, unless-passed, unless-holds, refused-unless, refused-then, zero-passed}
 use Rattle.sparse.specs.Matrix.{Compressed}
 use Rattle.sparse.specs.Set.{Set}
 use Rattle.pluq.specs.Judge.{Passes}
@@ -28,7 +28,7 @@ use Rattle.row_space.specs.Solve.{openColumns}
 use Rattle.row_space.proofs.Theorems.{open-columns, closed-columns}
 use Rattle.certificate.specs.Layout.{Sized}
 use Rattle.certificate.specs.Reading.{headerOk, setOfCertificate}
-use Rattle.call_plan.specs.Limits.{workLength}
+use Rattle.limits.specs.Limits.{workLength}
 use Rattle.call_plan.specs.Accepted.{GoodPlan}
 use Rattle.call_check.specs.Passing.{StoredPasses, CertificatePasses}
 use Rattle.call_check.proofs.Theorems.{factors-none, certificate-none}

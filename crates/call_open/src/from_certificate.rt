@@ -9,10 +9,11 @@ use certificate::parts::number;
 use certificate::parts::places_in;
 use call_check::from_certificate::check_bytes;
 use answer_open::pivots::open_columns;
-use lists::Outcome;
+use refusals::Outcome;
 use lists::clear;
 use lists::clear_row;
 use residue::Modulus;
+use refusals::numbers::WRONG_LENGTH;
 
 // The open columns from a certificate that passed: its parts are read where they stand.
 fn open_columns_of_parts(
@@ -72,7 +73,7 @@ pub fn open_columns_from_certificate(
     if marks.len() != m as usize {
         clear(marks);
         clear_row(work);
-        return Outcome::Refused(9, 0);
+        return Outcome::Refused(WRONG_LENGTH, 0);
     }
     let checked = check_bytes(q, n, m, ss, cols, vals, cert, work);
     let Outcome::Passed = checked else {

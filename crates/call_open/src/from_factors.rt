@@ -5,10 +5,11 @@ ghost use Rattle.sparse.specs.Set.{setOf};
 ghost use Rattle.call_open.specs.Calls.{openFactorsOf, Lists};
 use call_check::from_factors::check_stored;
 use answer_open::pivots::open_columns;
-use lists::Outcome;
+use refusals::Outcome;
 use lists::clear;
 use lists::clear_row;
 use residue::Modulus;
+use refusals::numbers::WRONG_LENGTH;
 
 // Lists the open columns from stored factors.
 //   takes    a stored plan (p, n, m, row starts, columns, values), a stored set (r, row order, column order, L, U), a list of m cells
@@ -41,7 +42,7 @@ pub fn open_columns_from_factors(
     if marks.len() != m as usize {
         clear(marks);
         clear_row(work);
-        return Outcome::Refused(9, 0);
+        return Outcome::Refused(WRONG_LENGTH, 0);
     }
     let checked = check_stored(
         q,

@@ -6,11 +6,11 @@ use native.Mathlib.Omega.{arith}
 use lib.Dec.{eqb}
 use lib.ListN.{length}
 use borrow.Author.Tests.{eq-eqb, ne-eqb}
-use Rattle.lists.specs.Refusals.{_▷_, unless}
-use Rattle.lists.specs.declared.Outcome.{Outcome}
-use Rattle.lists.specs.declared.Outcome.the-variants.{Passed, Refused}
+use Rattle.refusals.specs.Refusals.{_▷_, unless}
+use Rattle.refusals.specs.declared.Outcome.{Outcome}
+use Rattle.refusals.specs.declared.Outcome.the-variants.{Passed, Refused}
 use Rattle.lists.proofs.Bools.{chain-false, chain-true}
-use Rattle.lists.proofs.Refusals.{fails, holds}
+use Rattle.refusals.proofs.Refusals.{fails, holds}
 use Rattle.residue.specs.Range.{isModulus}
 use Rattle.sparse.specs.Matrix.{Compressed, form}
 use Rattle.sparse.specs.Set.{Set}

@@ -16,16 +16,16 @@ use lib.Dec.{eqb, leb}
 use lib.ListN.{length}
 use borrow.Author.Tests.{eq-eqb, eqb-true, le-leb, leb-true}
 use Rattle.lists.specs.Tests.{among}
-use Rattle.lists.specs.Table.{planFaults}
-use Rattle.lists.specs.Refusals.{_▷_, unless}
-use Rattle.lists.specs.declared.Outcome.the-variants.{Passed}
+use Rattle.refusals.specs.Table.{planFaults}
+use Rattle.refusals.specs.Refusals.{_▷_, unless}
+use Rattle.refusals.specs.declared.Outcome.the-variants.{Passed}
 use Rattle.lists.proofs.Bools.{and-left, and-right, and-both}
-use Rattle.lists.proofs.Refusals.{RefusedBy, unless-passed, unless-holds, unless-true, refused-unless, refused-then}
+use Rattle.refusals.proofs.Refusals.{RefusedBy, unless-passed, unless-holds, unless-true, refused-unless, refused-then}
 use Rattle.algebra.specs.Prime.{Prime}
 use Rattle.residue.specs.Range.{isModulus}
 use Rattle.residue.proofs.Primes.{modulus-prime}
 use Rattle.sparse.specs.Matrix.{Compressed, form}
-use Rattle.call_plan.specs.Limits.{largestSize, largestEntries}
+use Rattle.limits.specs.Limits.{largestSize, largestEntries}
 use Rattle.call_plan.specs.Tests.{pairedLengths, planLengths, limitsOk, planOutcome, callOutcome}
 use Rattle.call_plan.specs.Accepted.{GoodPlan}
 

@@ -7,7 +7,7 @@ use mathlib.Core.Bool.{true}
 use lib.ListN.{length}
 use Rattle.residue.specs.Range.{isModulus}
 use Rattle.sparse.specs.Matrix.{Compressed, form}
-use Rattle.call_plan.specs.Limits.{largestSize, largestEntries}
+use Rattle.limits.specs.Limits.{largestSize, largestEntries}
 
 pub record GoodPlan (p n m : ℕ) (A : Compressed) : Type 0 where
   pub modulus : isModulus p ≡ true

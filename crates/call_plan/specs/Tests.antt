@@ -10,13 +10,13 @@ use mathlib.Core.Bool.{Bool, _&&_}
 use mathlib.Core.List.{List}
 use lib.Dec.{eqb, leb}
 use lib.ListN.{length}
-use Rattle.lists.specs.Table.{badModulus, overLimit, badPlan, wrongLength}
-use Rattle.lists.specs.Refusals.{_▷_, unless}
-use Rattle.lists.specs.declared.Outcome.{Outcome}
+use Rattle.refusals.specs.Table.{badModulus, overLimit, badPlan, wrongLength}
+use Rattle.refusals.specs.Refusals.{_▷_, unless}
+use Rattle.refusals.specs.declared.Outcome.{Outcome}
 use Rattle.residue.specs.Range.{isModulus}
 use Rattle.sparse.specs.Matrix.{Compressed, form}
 use Rattle.sparse.specs.Set.{Set}
-use Rattle.call_plan.specs.Limits.{largestSize, largestEntries}
+use Rattle.limits.specs.Limits.{largestSize, largestEntries}
 
 abbrev pub pairedLengths : List ℕ → List ℕ → Bool
 pairedLengths xs ys = eqb (length xs) (length ys)

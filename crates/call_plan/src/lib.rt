@@ -3,10 +3,15 @@ ghost use mathlib.Core.Path.{_≡_};
 ghost use Rattle.sparse.specs.Matrix.{compressed};
 ghost use Rattle.sparse.specs.Set.{setOf};
 ghost use Rattle.call_plan.specs.Tests.{planLengths, setLengths, limitsOk, planOutcome};
-use lists::Outcome;
+use refusals::Outcome;
 use lists::index;
 use residue::is_modulus;
 use sparse::form::form_ok;
+use limits::ENTRY_CELLS;
+use limits::LARGEST_SIZE;
+use refusals::numbers::BAD_MODULUS;
+use refusals::numbers::BAD_PLAN;
+use refusals::numbers::OVER_LIMIT;
 
 // Whether the lists of a matrix of n rows have their lengths.
 pub fn plan_lengths(n: u32, ss: &[u32], cols: &[u32], vals: &[u32]) -> bool
@@ -50,13 +55,13 @@ pub fn set_lengths(
 fn limits_ok(n: u32, m: u32, ss: &[u32], cols: &[u32], vals: &[u32]) -> bool
     ensures { λ r. ⌜ r ≡ limitsOk n m (compressed (now (ss .entry)) (now (cols .entry)) (now (vals .entry))) ⌝ }
 {
-    if 2048 < n {
+    if LARGEST_SIZE < n {
         return false;
     }
-    if 2048 < m {
+    if LARGEST_SIZE < m {
         return false;
     }
-    cols.len() <= 16384
+    cols.len() <= ENTRY_CELLS
 }
 
 // 1, 2 and 8.
@@ -64,13 +69,13 @@ pub fn plan_outcome(p: u32, n: u32, m: u32, ss: &[u32], cols: &[u32], vals: &[u3
     ensures { λ o. ⌜ o ≡ planOutcome p n m (compressed (now (ss .entry)) (now (cols .entry)) (now (vals .entry))) ⌝ }
 {
     if !is_modulus(p) {
-        return Outcome::Refused(1, 0);
+        return Outcome::Refused(BAD_MODULUS, 0);
     }
     if !limits_ok(n, m, ss, cols, vals) {
-        return Outcome::Refused(2, 0);
+        return Outcome::Refused(OVER_LIMIT, 0);
     }
     if !form_ok(ss, b"", cols, b"", vals, b"", m, p) {
-        return Outcome::Refused(8, 0);
+        return Outcome::Refused(BAD_PLAN, 0);
     }
     Outcome::Passed
 }

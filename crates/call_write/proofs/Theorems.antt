@@ -14,19 +14,19 @@ use lib.Dec.{leb}
 use lib.ListN.{length, take}
 use borrow.Author.Tests.{le-leb, leb-true}
 use Rattle.lists.specs.Tests.{among}
-use Rattle.lists.specs.Table.{planFaults, setFaults, wrongLength}
+use Rattle.refusals.specs.Table.{planFaults, setFaults, wrongLength}
 use Rattle.lists.specs.Filled.{zeros, filled}
-use Rattle.lists.specs.Refusals.{unless, numberOf, NumberFrom}
-use Rattle.lists.specs.declared.Outcome.{Outcome}
-use Rattle.lists.specs.declared.Outcome.the-variants.{Passed, Refused}
+use Rattle.refusals.specs.Refusals.{unless, numberOf, NumberFrom}
+use Rattle.refusals.specs.declared.Outcome.{Outcome}
+use Rattle.refusals.specs.declared.Outcome.the-variants.{Passed, Refused}
 use Rattle.lists.proofs.Filled.{filled-none, filled-cut}
-use Rattle.lists.proofs.Refusals.{RefusedBy, number-from, both-passed, after-passed, unless-true, refused-unless, refused-then, zero-passed}
+use Rattle.refusals.proofs.Refusals.{RefusedBy, number-from, both-passed, after-passed, unless-true, refused-unless, refused-then, zero-passed}
 use Rattle.sparse.specs.Matrix.{Compressed}
 use Rattle.sparse.specs.Set.{Set}
 use Rattle.pluq.specs.Judge.{Passes}
 use Rattle.certificate.specs.Layout.{certificateOf, Sized}
 use Rattle.certificate.specs.Writing.{roomFor}
-use Rattle.call_plan.specs.Limits.{workLength}
+use Rattle.limits.specs.Limits.{workLength}
 use Rattle.call_plan.specs.Accepted.{GoodPlan}
 use Rattle.call_check.specs.Calls.{checkFactorsOf, checkCertificateOf, Checks}
 use Rattle.call_check.proofs.Theorems.{factors-exactly, factors-numbers, factors-none, certificate-exactly, stored-certificate, bytes-pass}

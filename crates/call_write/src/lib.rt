@@ -6,8 +6,9 @@ ghost use Rattle.certificate.specs.Layout.{certificateOf};
 ghost use Rattle.call_write.specs.Call.{writeOutcome, WritesCertificate};
 use certificate::writer::write;
 use call_check::check_factors;
-use lists::Outcome;
+use refusals::Outcome;
 use lists::clear_bytes;
+use refusals::numbers::WRONG_LENGTH;
 
 // What writing returns: the outcome, and the certificate's length, 0 on a refusal.
 pub struct Written {
@@ -69,7 +70,7 @@ pub fn write_certificate(
     let length = write(p, n, m, r, ro, co, ls, lc, lv, us, uc, uv, buffer);
     if length == 0 {
         return Written {
-            outcome: Outcome::Refused(9, 0),
+            outcome: Outcome::Refused(WRONG_LENGTH, 0),
             length: 0,
         };
     }

@@ -8,8 +8,8 @@ use lib.ListN.{take}
 use Rattle.lists.specs.Filled.{zeros}
 use Rattle.lists.specs.Tabulate.{tabulate}
 use Rattle.lists.specs.Tests.{all, first}
-use Rattle.lists.specs.declared.Outcome.{Outcome}
-use Rattle.lists.specs.declared.Outcome.the-variants.{Passed, Refused}
+use Rattle.refusals.specs.declared.Outcome.{Outcome}
+use Rattle.refusals.specs.declared.Outcome.the-variants.{Passed, Refused}
 use Rattle.algebra.specs.Sum.{sum, dot, δ, place}
 use Rattle.algebra.specs.Prime.{Prime}
 use Rattle.algebra.specs.Matrix.{vector}
@@ -41,7 +41,7 @@ use Rattle.elimination.proofs.Theorem.{factor-rank}
 use Rattle.elimination.proofs.Example.{roomD, D-pairs as pairs-computed, D-factors as factors-computed, D-rooms as rooms-computed}
 use Rattle.certificate.specs.Layout.{bytes, mark, version, factorNumbers, numbersOf, certificateOf}
 use Rattle.certificate.specs.Reading.{placesOf, field, setIn, setOfCertificate, begins, lengthOk, sizesOk, headerOk}
-use Rattle.call_plan.specs.Limits.{workLength}
+use Rattle.limits.specs.Limits.{workLength}
 use Rattle.call_plan.specs.Tests.{planLengths, setLengths, limitsOk, planOutcome}
 use Rattle.call_check.specs.Calls.{certificateOutcome, checkCertificateOf}
 use Rattle.case_table.specs.Plans.{none as silent, blank, ones, D, setD, earlierD}

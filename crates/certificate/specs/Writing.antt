@@ -11,9 +11,9 @@ use mathlib.Core.Path.{_≡_}
 use lib.Dec.{leb}
 use lib.ListN.{length}
 use Rattle.lists.specs.Filled.{filled}
-use Rattle.lists.specs.Table.{wrongLength}
-use Rattle.lists.specs.Refusals.{unless}
-use Rattle.lists.specs.declared.Outcome.{Outcome}
+use Rattle.refusals.specs.Table.{wrongLength}
+use Rattle.refusals.specs.Refusals.{unless}
+use Rattle.refusals.specs.declared.Outcome.{Outcome}
 use Rattle.sparse.specs.Set.{Set}
 use Rattle.certificate.specs.Layout.{certificateOf, Sized}
 

@@ -6,13 +6,17 @@ ghost use Rattle.sparse.specs.Matrix.{viewed};
 ghost use Rattle.sparse.specs.Set.{setOf};
 ghost use Rattle.pluq.specs.Judge.{judgeFactors, judge};
 ghost use Rattle.check_set.specs.Needs.{Judgeable, Checkable};
-use lists::Outcome;
+use refusals::Outcome;
 use check_product::first_differing;
 use residue::Modulus;
 use check_shape::lower::lower_ok;
 use check_shape::order::is_permutation;
 use check_shape::upper::upper_ok;
 use sparse::form::form_ok;
+use refusals::numbers::BAD_FACTORS;
+use refusals::numbers::NO_PERMUTATION;
+use refusals::numbers::PRODUCT_DIFFERS;
+use refusals::numbers::RANK_TOO_LARGE;
 
 // 13, then 14.
 pub fn judge_factors(
@@ -48,16 +52,16 @@ pub fn judge_factors(
     ensures { λ o. ⌜ (o ≡ judgeFactors (q .p) n m (viewed (now (ss .entry)) (now (sb .entry)) (now (cols .entry)) (now (cb .entry)) (now (vals .entry)) (now (vb .entry))) (setOf r (view (now (ro .entry)) (now (rob .entry))) (view (now (co .entry)) (now (cob .entry))) (viewed (now (ls .entry)) (now (lsb .entry)) (now (lc .entry)) (now (lcb .entry)) (now (lv .entry)) (now (lvb .entry))) (viewed (now (us .entry)) (now (usb .entry)) (now (uc .entry)) (now (ucb .entry)) (now (uv .entry)) (now (uvb .entry))))) × (now (work .exit) ≡ now (work .entry)) ⌝ }
 {
     if !form_ok(ls, lsb, lc, lcb, lv, lvb, r, q.p) {
-        return Outcome::Refused(13, 0);
+        return Outcome::Refused(BAD_FACTORS, 0);
     }
     if !form_ok(us, usb, uc, ucb, uv, uvb, m, q.p) {
-        return Outcome::Refused(13, 0);
+        return Outcome::Refused(BAD_FACTORS, 0);
     }
     if !lower_ok(ls, lsb, lc, lcb, lv, lvb, q.p, r as usize) {
-        return Outcome::Refused(13, 0);
+        return Outcome::Refused(BAD_FACTORS, 0);
     }
     if !upper_ok(us, usb, uc, ucb, uv, uvb, co, cob, q.p, r as usize, work) {
-        return Outcome::Refused(13, 0);
+        return Outcome::Refused(BAD_FACTORS, 0);
     }
     let i = first_differing(
         q,
@@ -86,7 +90,7 @@ pub fn judge_factors(
         work,
     );
     if i < n as usize {
-        return Outcome::Refused(14, i as u32);
+        return Outcome::Refused(PRODUCT_DIFFERS, i as u32);
     }
     Outcome::Passed
 }
@@ -125,16 +129,16 @@ pub fn check(
     ensures { λ o. ⌜ (o ≡ judge (q .p) n m (viewed (now (ss .entry)) (now (sb .entry)) (now (cols .entry)) (now (cb .entry)) (now (vals .entry)) (now (vb .entry))) (setOf r (view (now (ro .entry)) (now (rob .entry))) (view (now (co .entry)) (now (cob .entry))) (viewed (now (ls .entry)) (now (lsb .entry)) (now (lc .entry)) (now (lcb .entry)) (now (lv .entry)) (now (lvb .entry))) (viewed (now (us .entry)) (now (usb .entry)) (now (uc .entry)) (now (ucb .entry)) (now (uv .entry)) (now (uvb .entry))))) × (now (work .exit) ≡ now (work .entry)) ⌝ }
 {
     if !is_permutation(ro, rob, work) {
-        return Outcome::Refused(11, 0);
+        return Outcome::Refused(NO_PERMUTATION, 0);
     }
     if !is_permutation(co, cob, work) {
-        return Outcome::Refused(11, 0);
+        return Outcome::Refused(NO_PERMUTATION, 0);
     }
     if n < r {
-        return Outcome::Refused(12, 0);
+        return Outcome::Refused(RANK_TOO_LARGE, 0);
     }
     if m < r {
-        return Outcome::Refused(12, 0);
+        return Outcome::Refused(RANK_TOO_LARGE, 0);
     }
     judge_factors(
         q,

@@ -12,7 +12,7 @@ use mathlib.Core.List.{List, []}
 use mathlib.Core.Option.{Option, none, some}
 use lib.ListN.{length}
 use Rattle.lists.specs.Filled.{zeros, filled}
-use Rattle.lists.specs.Table.{storageTooShort}
+use Rattle.refusals.specs.Table.{storageTooShort}
 use Rattle.algebra.specs.Matrix.{Matrix}
 use Rattle.sparse.specs.Matrix.{Compressed, compressed, matrix}
 use Rattle.sparse.specs.Set.{Set}

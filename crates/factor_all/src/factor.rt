@@ -11,6 +11,7 @@ use factor_order::pairs::structural_pairs;
 use factor_passes::passes::pass_one;
 use factor_passes::passes::pass_two;
 use residue::Modulus;
+use refusals::numbers::STORAGE_TOO_SHORT;
 
 // What factoring returns: document 01's number with its detail, the rank and the number of structural pivots.
 pub struct Factored {
@@ -65,7 +66,7 @@ pub fn factor_from(
     if over {
         clear_all(rows, columns, ls, lc, lv, us, uc, uv, work);
         return Factored {
-            number: 7,
+            number: STORAGE_TOO_SHORT,
             detail: stop,
             rank: 0,
             structural: 0,

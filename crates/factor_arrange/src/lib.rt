@@ -3,6 +3,7 @@
 ghost use lib.ListN.{length};
 ghost use Rattle.sparse.specs.Matrix.{compressed};
 ghost use Rattle.factor_arrange.specs.Needs.{ArrangeReady, Arranged, ListReady, OrderReady};
+use limits::SIZE_CELLS;
 
 pub mod degrees;
 pub mod release;
@@ -87,9 +88,9 @@ pub fn arrange(
     requires { ⌜ ArrangeReady p n (compressed (now ss) (now cols) (now vals)) (now work) (now chosen) (now rows) (now columns) ⌝ }
     ensures { λ s. ⌜ Arranged n (length (now (work .entry))) (compressed (now (ss .entry)) (now (cols .entry)) (now (vals .entry))) s (now (rows .exit)) (now (columns .exit)) ⌝ }
 {
-    let mut waits = [0u32; 2048];
-    let mut counts = [0u32; 2048];
-    let mut ready = [0u64; 2048];
+    let mut waits = [0u32; SIZE_CELLS];
+    let mut counts = [0u32; SIZE_CELLS];
+    let mut ready = [0u64; SIZE_CELLS];
     order_pairs(
         ss,
         cols,

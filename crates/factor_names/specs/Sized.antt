@@ -6,6 +6,7 @@ use mathlib.Core.Path.{_≡_}
 use mathlib.Core.Bool.{true}
 use mathlib.Core.List.{List}
 use lib.ListN.{length, getD}
+use Rattle.limits.specs.Limits.{largestSize}
 use Rattle.sparse.specs.Matrix.{Compressed, form}
 
 pub record RowWithin (ss cols : List ℕ) (i : ℕ) : Type 0 where
@@ -16,5 +17,5 @@ pub record RowWithin (ss cols : List ℕ) (i : ℕ) : Type 0 where
 pub record SmallMatrix (p n m : ℕ) (A : Compressed) : Type 0 where
   pub formed : form p m A ≡ true
   pub rows : length (A .starts) ≡ n + 1
-  pub n-small : n ≤ 2048
-  pub m-small : m ≤ 2048
+  pub n-small : n ≤ largestSize
+  pub m-small : m ≤ largestSize

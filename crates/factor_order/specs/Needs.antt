@@ -7,6 +7,7 @@ use mathlib.Core.Path.{_≡_}
 use mathlib.Core.Bool.{true}
 use mathlib.Core.List.{List}
 use lib.ListN.{length}
+use Rattle.limits.specs.Limits.{largestSize}
 use Rattle.lists.specs.Filled.{zeros}
 use Rattle.algebra.specs.Matrix.{Distinct, vector}
 use Rattle.sparse.specs.Matrix.{Compressed, form}
@@ -14,8 +15,8 @@ use Rattle.sparse.specs.Matrix.{Compressed, form}
 pub record Searchable (p n m : ℕ) (A : Compressed) (R C w : List ℕ) : Type 0 where
   pub formed : form p m A ≡ true
   pub rows : length (A .starts) ≡ n + 1
-  pub n-small : n ≤ 2048
-  pub m-small : m ≤ 2048
+  pub n-small : n ≤ largestSize
+  pub m-small : m ≤ largestSize
   pub R-clear : R ≡ zeros n
   pub C-clear : C ≡ zeros m
   pub w-clear : w ≡ zeros m

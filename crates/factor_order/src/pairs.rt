@@ -8,6 +8,7 @@ ghost use Rattle.sparse.specs.Matrix.{compressed};
 ghost use Rattle.factor_order.specs.Needs.{Searchable, Findable};
 ghost use Rattle.factor_order.specs.Search.{RowWithin, PreferReady, Preferred, Chosen, ChooseReady, ConsiderReady, PairsFound};
 use lists::index;
+use limits::SIZE_CELLS;
 
 // How many entries row i has.
 fn entries(ss: &[u32], i: usize) -> u32
@@ -92,6 +93,6 @@ pub fn structural_pairs(
     requires { ⌜ Searchable p n (length (now columns)) (compressed (now ss) (now cols) (now vals)) (now rows) (now columns) (now work) ⌝ }
     ensures { λ s. ⌜ PairsFound n (length (now (columns .entry))) (compressed (now (ss .entry)) (now (cols .entry)) (now (vals .entry))) s (now (rows .exit)) (now (columns .exit)) (now (work .exit)) ⌝ }
 {
-    let mut named = [0u32; 2048];
+    let mut named = [0u32; SIZE_CELLS];
     find_pairs(ss, cols, vals, p, n, &mut named[..n], rows, columns, work)
 }

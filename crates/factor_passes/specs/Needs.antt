@@ -10,6 +10,7 @@ use mathlib.Core.Path.{_≡_}
 use mathlib.Core.Bool.{true}
 use mathlib.Core.List.{List, _++_}
 use lib.ListN.{length, take}
+use Rattle.limits.specs.Limits.{largestSize}
 use Rattle.lists.specs.Filled.{zeros}
 use Rattle.algebra.specs.Prime.{Prime}
 use Rattle.algebra.specs.Matrix.{Permutation, vector}
@@ -30,8 +31,8 @@ pub record PassLists (p : ℕ) (A : Compressed) (R C : List ℕ) (L U : Compress
   pub U-starts : length (U .starts) ≡ length R + 1
   pub L-paired : length (L .cols) ≡ length (L .vals)
   pub U-paired : length (U .cols) ≡ length (U .vals)
-  pub n-narrow : length R ≤ 2048
-  pub m-narrow : length C ≤ 2048
+  pub n-narrow : length R ≤ largestSize
+  pub m-narrow : length C ≤ largestSize
   pub small : length R * length C < 2 ^ 32
   pub n-fits : length R ≤ length w
   pub m-fits : length C ≤ length w

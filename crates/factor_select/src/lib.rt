@@ -8,6 +8,7 @@ ghost use Rattle.sparse.specs.Matrix.{compressed};
 ghost use Rattle.elimination.specs.Structural.{leading};
 ghost use Rattle.factor_names.specs.Named.{ByRow, Named};
 ghost use Rattle.factor_select.specs.Needs.{NameReady, Extended, ExtendReady, SelectReady};
+use limits::SIZE_CELLS;
 
 pub mod fit;
 pub mod search;
@@ -97,8 +98,8 @@ pub fn select(
     ensures { λ _. ⌜ Named (compressed (now (ss .entry)) (now (cols .entry)) (now (vals .entry))) n (length (now (work .entry))) n (now (work .exit)) (now (chosen .exit)) ⌝ }
 {
     let m = work.len();
-    let mut stamps = [0u32; 2048];
-    let mut queue = [0u32; 2048];
+    let mut stamps = [0u32; SIZE_CELLS];
+    let mut queue = [0u32; SIZE_CELLS];
     name_rows(ss, cols, vals, p, n, work, chosen);
     extend_all(
         ss,

@@ -7,14 +7,14 @@ use lib.Dec.{eqb}
 use lib.ListN.{length}
 use borrow.Author.Tests.{eq-eqb, ne-eqb, eqb-true}
 use Rattle.lists.specs.Filled.{zeros, filled}
-use Rattle.lists.specs.Refusals.{_▷_, unless}
-use Rattle.lists.specs.declared.Outcome.{Outcome}
-use Rattle.lists.specs.declared.Outcome.the-variants.{Refused}
+use Rattle.refusals.specs.Refusals.{_▷_, unless}
+use Rattle.refusals.specs.declared.Outcome.{Outcome}
+use Rattle.refusals.specs.declared.Outcome.the-variants.{Refused}
 use Rattle.lists.proofs.Filled.{filled-none}
 use Rattle.sparse.specs.Matrix.{Compressed}
 use Rattle.text_plan.specs.Call.{ReadAnswer}
 use Rattle.text_plan.specs.declared.Reading.{Reading}
-use Rattle.call_plan.specs.Limits.{workLength}
+use Rattle.limits.specs.Limits.{workLength}
 use Rattle.certificate.specs.Layout.{certificateOf}
 use Rattle.call_write.specs.Call.{writeOutcome, bytesGiven}
 use Rattle.factor_all.specs.Outcome as factoring

@@ -7,12 +7,12 @@ use mathlib.Core.Logic.{_↔_}
 use mathlib.Core.List.{List}
 use Prim.Native.Nat.{ℕ, _≤_}
 use lib.ListN.{length}
-use Rattle.lists.specs.Refusals.{numberOf}
-use Rattle.lists.specs.declared.Outcome.{Outcome}
+use Rattle.refusals.specs.Refusals.{numberOf}
+use Rattle.refusals.specs.declared.Outcome.{Outcome}
 use Rattle.sparse.specs.Matrix.{Compressed}
 use Rattle.sparse.specs.Set.{Set}
 use Rattle.certificate.specs.Layout.{certificateOf, Sized}
-use Rattle.call_plan.specs.Limits.{workLength}
+use Rattle.limits.specs.Limits.{workLength}
 use Rattle.call_check.specs.Calls.{checkFactorsOf, checkCertificateOf, Checks}
 use Rattle.call_check.specs.Passing.{StoredPasses}
 use Rattle.call_check.proofs.Theorems.{certificate-exactly, stored-certificate, stored-passes, bytes-pass}

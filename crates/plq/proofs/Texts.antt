@@ -26,13 +26,13 @@ use lib.Dec.{leb}
 use lib.ListN.{length, take}
 use borrow.Author.Tests.{le-leb, lt-leb, leb-true, leb-false}
 use Rattle.lists.specs.Tests.{among}
-use Rattle.lists.specs.Table.{textFaults, setFaults, storageTooShort, wrongLength}
+use Rattle.refusals.specs.Table.{textFaults, setFaults, storageTooShort, wrongLength}
 use Rattle.lists.specs.Filled.{zeros, filled}
-use Rattle.lists.specs.Refusals.{_▷_, unless, numberOf, detailOf}
-use Rattle.lists.specs.declared.Outcome.{Outcome}
-use Rattle.lists.specs.declared.Outcome.the-variants.{Passed, Refused}
+use Rattle.refusals.specs.Refusals.{_▷_, unless, numberOf, detailOf}
+use Rattle.refusals.specs.declared.Outcome.{Outcome}
+use Rattle.refusals.specs.declared.Outcome.the-variants.{Passed, Refused}
 use Rattle.lists.proofs.Filled.{filled-none, filled-cut}
-use Rattle.lists.proofs.Refusals.{RefusedBy, number-from, both-passed, after-passed, refused-unless, refused-then, zero-passed}
+use Rattle.refusals.proofs.Refusals.{RefusedBy, number-from, both-passed, after-passed, refused-unless, refused-then, zero-passed}
 use Rattle.algebra.specs.Matrix.{vector}
 use Rattle.algebra.specs.Rank.{Rank}
 use Rattle.algebra.specs.Factors.{Factors}
@@ -42,7 +42,7 @@ use Rattle.sparse.specs.Set.{Set}
 use Rattle.certificate.specs.Layout.{certificateOf}
 use Rattle.certificate.specs.Reading.{setOfCertificate}
 use Rattle.certificate.specs.Writing.{roomFor}
-use Rattle.call_plan.specs.Limits.{workLength, largestEntries}
+use Rattle.limits.specs.Limits.{workLength, largestEntries}
 use Rattle.call_plan.proofs.Plans.{good-prime}
 use Rattle.text_plan.specs.Held.{planOf, StatesPlan}
 use Rattle.call_check.specs.Calls.{checkCertificateOf}

@@ -11,10 +11,10 @@ use mathlib.Core.Path.{_≡_}
 use mathlib.Core.List.{List}
 use lib.ListN.{length}
 use Rattle.lists.specs.Filled.{filled}
-use Rattle.lists.specs.Refusals.{_▷_, numberOf, detailOf}
-use Rattle.lists.specs.declared.Outcome.{Outcome}
+use Rattle.refusals.specs.Refusals.{_▷_, numberOf, detailOf}
+use Rattle.refusals.specs.declared.Outcome.{Outcome}
 use Rattle.text_plan.specs.Call.{ReadAnswer}
-use Rattle.call_plan.specs.Limits.{workLength}
+use Rattle.limits.specs.Limits.{workLength}
 use Rattle.certificate.specs.Layout.{certificateOf}
 use Rattle.call_check.specs.Calls.{checkCertificateOf}
 use Rattle.call_write.specs.Call.{writeOutcome, bytesGiven}

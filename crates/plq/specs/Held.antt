@@ -10,8 +10,8 @@ use mathlib.Core.List.{List}
 use lib.Dec.{eqb}
 use lib.ListN.{length}
 use Rattle.lists.specs.Filled.{filled}
-use Rattle.lists.specs.Refusals.{_▷_, unless}
-use Rattle.lists.specs.declared.Outcome.{Outcome}
+use Rattle.refusals.specs.Refusals.{_▷_, unless}
+use Rattle.refusals.specs.declared.Outcome.{Outcome}
 use Rattle.sparse.specs.Matrix.{Compressed}
 use Rattle.certificate.specs.Layout.{certificateOf}
 use Rattle.call_write.specs.Call.{writeOutcome, bytesGiven}

@@ -5,7 +5,7 @@ use mathlib.Core.Path.{_≡_}
 use mathlib.Core.List.{List}
 use lib.ListN.{length}
 use Rattle.sparse.specs.Matrix.{Compressed}
-use Rattle.call_plan.specs.Limits.{workLength}
+use Rattle.limits.specs.Limits.{workLength}
 use Rattle.stages.specs.Lists.{Largest}
 
 pub record CheckLists (A : Compressed) (w : List ℕ) : Type 0 where

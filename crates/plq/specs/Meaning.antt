@@ -10,13 +10,13 @@ use mathlib.Core.Path.{_≡_}
 use mathlib.Core.Bool.{true}
 use mathlib.Core.List.{List}
 use lib.ListN.{length}
-use Rattle.lists.specs.Refusals.{NumberFrom}
+use Rattle.refusals.specs.Refusals.{NumberFrom}
 use Rattle.text_plan.specs.Call.{ReadAnswer}
 use Rattle.text_plan.specs.Held.{planOf, StatesPlan}
 use Rattle.pluq.specs.Judge.{Passes}
 use Rattle.certificate.specs.Layout.{certificateOf}
 use Rattle.certificate.specs.Reading.{headerOk, setOfCertificate}
-use Rattle.call_plan.specs.Limits.{largestEntries}
+use Rattle.limits.specs.Limits.{largestEntries}
 use Rattle.stages.specs.Stages.{reading}
 use Rattle.stages.specs.Meaning.{factorsOf, FitsAll}
 

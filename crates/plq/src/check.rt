@@ -8,7 +8,7 @@ ghost use Rattle.stages.specs.Lists.{Held};
 ghost use Rattle.plq.specs.Calls.{checkTextOf};
 ghost use Rattle.plq.specs.Lists.{CheckLists};
 use call_check::check_certificate;
-use lists::Outcome;
+use refusals::Outcome;
 use text_plan::Reading;
 
 // Checks a certificate against the plan that a reading left in lists.

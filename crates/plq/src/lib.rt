@@ -12,9 +12,13 @@ pub use call_write::write_certificate;
 ghost use mathlib.Core.Path.{_≡_};
 ghost use Rattle.plq.specs.Calls.{checkTextOf, packed, Makes};
 use check::check_text;
-use lists::Outcome;
+use refusals::Outcome;
 use make::make_staged;
 use stages::factor_text;
+use limits::ENTRY_CELLS;
+use limits::SIZE_CELLS;
+use limits::START_CELLS;
+use limits::WORK_CELLS;
 
 pub mod check;
 pub mod make;
@@ -38,18 +42,18 @@ fn pack(o: Outcome) -> u64
 pub extern "C" fn plq_make_certificate(text: &[u8], buffer: &mut [u8]) -> u64
     ensures { λ z. ⌜ Makes (now (text .entry)) z (now (buffer .entry)) (now (buffer .exit)) ⌝ }
 {
-    let mut starts = [0u32; 2049];
-    let mut columns = [0u32; 16384];
-    let mut values = [0u32; 16384];
-    let mut rows = [0u32; 2048];
-    let mut cols = [0u32; 2048];
-    let mut ls = [0u32; 2049];
-    let mut lc = [0u32; 16384];
-    let mut lv = [0u32; 16384];
-    let mut us = [0u32; 2049];
-    let mut uc = [0u32; 16384];
-    let mut uv = [0u32; 16384];
-    let mut work = [0u64; 2048];
+    let mut starts = [0u32; START_CELLS];
+    let mut columns = [0u32; ENTRY_CELLS];
+    let mut values = [0u32; ENTRY_CELLS];
+    let mut rows = [0u32; SIZE_CELLS];
+    let mut cols = [0u32; SIZE_CELLS];
+    let mut ls = [0u32; START_CELLS];
+    let mut lc = [0u32; ENTRY_CELLS];
+    let mut lv = [0u32; ENTRY_CELLS];
+    let mut us = [0u32; START_CELLS];
+    let mut uc = [0u32; ENTRY_CELLS];
+    let mut uv = [0u32; ENTRY_CELLS];
+    let mut work = [0u64; WORK_CELLS];
     let s = factor_text(
         text,
         &mut starts,
@@ -92,10 +96,10 @@ pub extern "C" fn plq_make_certificate(text: &[u8], buffer: &mut [u8]) -> u64
 pub extern "C" fn plq_check_certificate(text: &[u8], certificate: &[u8]) -> u64
     ensures { λ z. ⌜ z ≡ packed (checkTextOf (now (text .entry)) (now (certificate .entry))) ⌝ }
 {
-    let mut starts = [0u32; 2049];
-    let mut columns = [0u32; 16384];
-    let mut values = [0u32; 16384];
-    let mut work = [0u64; 2048];
+    let mut starts = [0u32; START_CELLS];
+    let mut columns = [0u32; ENTRY_CELLS];
+    let mut values = [0u32; ENTRY_CELLS];
+    let mut work = [0u64; WORK_CELLS];
     pack(check_text(
         text,
         certificate,

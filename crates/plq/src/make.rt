@@ -3,7 +3,7 @@ ghost use lib.ListN.{length};
 ghost use Rattle.sparse.specs.Matrix.{compressed};
 ghost use Rattle.stages.specs.Staged.{Fits};
 ghost use Rattle.plq.specs.Held.{heldCertificate, writtenOf, stagedOutcome, Puts, StagedFits};
-use lists::Outcome;
+use refusals::Outcome;
 use lists::clear_bytes;
 use stages::Stages;
 use call_write::write_certificate;

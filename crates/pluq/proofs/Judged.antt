@@ -9,15 +9,15 @@ use lib.Dec.{leb, eqb}
 use lib.ListN.{length}
 use borrow.Author.Tests.{leb-true, leb-false, le-leb, eqb-false}
 use Rattle.lists.specs.Tests.{all, first, among}
-use Rattle.lists.specs.Table.{setFaults}
+use Rattle.refusals.specs.Table.{setFaults}
 use Rattle.lists.proofs.Tests.{first-all, first-before, first-here}
-use Rattle.lists.proofs.Refusals.{RefusedBy, unless-passed, unless-holds, refused-unless, refused-next}
+use Rattle.refusals.proofs.Refusals.{RefusedBy, unless-passed, unless-holds, refused-unless, refused-next}
 use Rattle.algebra.specs.Congruence.{_≈⟨_⟩_}
 use Rattle.algebra.specs.Sum.{dot}
 use Rattle.algebra.specs.Matrix.{vector}
-use Rattle.lists.specs.Refusals.{_▷_, unless, numberOf, detailOf}
-use Rattle.lists.specs.declared.Outcome.{Outcome}
-use Rattle.lists.specs.declared.Outcome.the-variants.{Passed, Refused}
+use Rattle.refusals.specs.Refusals.{_▷_, unless, numberOf, detailOf}
+use Rattle.refusals.specs.declared.Outcome.{Outcome}
+use Rattle.refusals.specs.declared.Outcome.the-variants.{Passed, Refused}
 use Rattle.sparse.specs.Matrix.{Compressed, matrix, form}
 use Rattle.sparse.specs.Set.{Set}
 use Rattle.sparse.proofs.Rows.{form-below}

@@ -5,10 +5,10 @@ use mathlib.Core.Path.{_≡_, refl, sym, ap, _∙_}
 use mathlib.Core.List.{List}
 use Prim.Native.Nat.{ℕ}
 use lib.ListN.{length, take}
-use Rattle.lists.specs.declared.Outcome.{Outcome}
-use Rattle.lists.specs.declared.Outcome.the-variants.{Passed, Refused}
+use Rattle.refusals.specs.declared.Outcome.{Outcome}
+use Rattle.refusals.specs.declared.Outcome.the-variants.{Passed, Refused}
 use Rattle.lists.proofs.Filled.{filled-cut}
-use Rattle.lists.proofs.Refusals.{RefusedBy}
+use Rattle.refusals.proofs.Refusals.{RefusedBy}
 use Rattle.byte_buffer.specs.Stored.{Fills}
 use Rattle.print_text.specs.Printed.{printed, PrintsRefusal}
 

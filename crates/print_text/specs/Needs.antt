@@ -5,18 +5,19 @@
 use Prim.Native.Nat.{ℕ, _+_, _≤_, _<_}
 use mathlib.Core.List.{List}
 use lib.ListN.{length}
+use Rattle.limits.specs.Limits.{largestSize}
 use Rattle.print_text.specs.declared.lines.Summary.{Summary}
 use Rattle.print_text.specs.Lines.{openLines}
 use Rattle.print_text.specs.Report.{reportText}
 
 pub record LineFits (j : ℕ) (text out : List ℕ) (at : ℕ) : Type 0 where
-  pub column : j < 2048
+  pub column : j < largestSize
   pub room : at + length text ≤ length out
 
 pub record LinesFit (cells out : List ℕ) (at : ℕ) : Type 0 where
-  pub columns : length cells ≤ 2048
+  pub columns : length cells ≤ largestSize
   pub room : at + length (openLines 0 cells) ≤ length out
 
 pub record Printable (s : Summary) (cells out : List ℕ) : Type 0 where
-  pub columns : length cells ≤ 2048
+  pub columns : length cells ≤ largestSize
   pub room : length (reportText s cells) ≤ length out

@@ -12,8 +12,8 @@ use lib.Dec.{eqb}
 use lib.ListN.{length}
 use Rattle.lists.specs.Filled.{zeros}
 use Rattle.lists.specs.Tests.{among}
-use Rattle.lists.specs.declared.Outcome.{Outcome}
-use Rattle.lists.specs.declared.Outcome.the-variants.{Passed, Refused}
+use Rattle.refusals.specs.declared.Outcome.{Outcome}
+use Rattle.refusals.specs.declared.Outcome.the-variants.{Passed, Refused}
 use Rattle.byte_buffer.specs.Stored.{Fills}
 use Rattle.print_text.specs.Report.{refusalText}
 

@@ -7,15 +7,15 @@ use lib.Dec.{eqb}
 use lib.ListN.{length}
 use borrow.Author.Tests.{eq-eqb, ne-eqb}
 use Rattle.lists.specs.Filled.{zeros, filled}
-use Rattle.lists.specs.Refusals.{unless}
-use Rattle.lists.specs.Table.{storageTooShort}
-use Rattle.lists.specs.declared.Outcome.{Outcome}
-use Rattle.lists.specs.declared.Outcome.the-variants.{Passed, Refused}
+use Rattle.refusals.specs.Refusals.{unless}
+use Rattle.refusals.specs.Table.{storageTooShort}
+use Rattle.refusals.specs.declared.Outcome.{Outcome}
+use Rattle.refusals.specs.declared.Outcome.the-variants.{Passed, Refused}
 use Rattle.lists.proofs.Filled.{filled-whole}
 use Rattle.sparse.specs.Matrix.{Compressed}
 use Rattle.row_space.specs.Solve.{openColumns}
 use Rattle.byte_buffer.specs.Stored.{Fills}
-use Rattle.call_plan.specs.Limits.{workLength}
+use Rattle.limits.specs.Limits.{workLength}
 use Rattle.call_check.specs.Calls.{checkFactorsOf}
 use Rattle.call_open.specs.Calls.{Listed, listed, columnsAfter, openFactorsOf, Lists}
 use Rattle.call_open.proofs.Theorems.{columns-long}

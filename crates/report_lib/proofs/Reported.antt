@@ -7,13 +7,13 @@ use lib.Dec.{eqb}
 use lib.ListN.{length}
 use borrow.Author.Tests.{eqb-true}
 use Rattle.lists.specs.Filled.{zeros}
-use Rattle.lists.specs.Refusals.{unless}
-use Rattle.lists.specs.Table.{storageTooShort}
+use Rattle.refusals.specs.Refusals.{unless}
+use Rattle.refusals.specs.Table.{storageTooShort}
 use Rattle.lists.proofs.Filled.{length-zeros}
 use Rattle.sparse.specs.Matrix.{Compressed}
 use Rattle.text_plan.specs.Call.{ReadAnswer}
 use Rattle.text_plan.specs.declared.Reading.{Reading}
-use Rattle.call_plan.specs.Limits.{largestSize, workLength}
+use Rattle.limits.specs.Limits.{largestSize, workLength}
 use Rattle.call_open.specs.Calls.{openFactorsOf}
 use Rattle.print_text.specs.Report.{reportText}
 use Rattle.print_text.specs.Printed.{countedFromOne, printed, Prints}

@@ -9,17 +9,17 @@ use lib.Dec.{eqb}
 use lib.ListN.{length, take}
 use borrow.Author.Tests.{eq-eqb}
 use Rattle.lists.specs.Filled.{zeros, filled}
-use Rattle.lists.specs.Table.{textFaults, storageTooShort}
-use Rattle.lists.specs.Refusals.{numberOf, detailOf}
-use Rattle.lists.specs.declared.Outcome.{Outcome}
-use Rattle.lists.specs.declared.Outcome.the-variants.{Passed}
+use Rattle.refusals.specs.Table.{textFaults, storageTooShort}
+use Rattle.refusals.specs.Refusals.{numberOf, detailOf}
+use Rattle.refusals.specs.declared.Outcome.{Outcome}
+use Rattle.refusals.specs.declared.Outcome.the-variants.{Passed}
 use Rattle.lists.proofs.Filled.{length-zeros, filled-whole}
-use Rattle.lists.proofs.Refusals.{unless-holds}
+use Rattle.refusals.proofs.Refusals.{unless-holds}
 use Rattle.sparse.specs.Matrix.{Compressed}
 use Rattle.sparse.specs.Set.{Set}
 use Rattle.elimination.proofs.Theorem.{factor-rank}
 use Rattle.row_space.specs.Solve.{openColumns}
-use Rattle.call_plan.specs.Limits.{largestEntries, workLength}
+use Rattle.limits.specs.Limits.{largestEntries, workLength}
 use Rattle.call_plan.specs.Accepted.{GoodPlan}
 use Rattle.call_plan.proofs.Plans.{good-prime}
 use Rattle.text_plan.specs.Held.{planOf, StatesPlan}

@@ -11,10 +11,10 @@ use mathlib.Core.List.{List}
 use lib.Dec.{eqb}
 use lib.ListN.{length}
 use Rattle.lists.specs.Filled.{zeros}
-use Rattle.lists.specs.Refusals.{unless}
-use Rattle.lists.specs.Table.{storageTooShort}
+use Rattle.refusals.specs.Refusals.{unless}
+use Rattle.refusals.specs.Table.{storageTooShort}
 use Rattle.sparse.specs.Matrix.{Compressed}
-use Rattle.call_plan.specs.Limits.{largestSize, workLength}
+use Rattle.limits.specs.Limits.{largestSize, workLength, printRoom}
 use Rattle.call_open.specs.Calls.{Listed, openFactorsOf}
 use Rattle.print_text.specs.declared.lines.Summary.{Summary}
 use Rattle.print_text.specs.Report.{reportText}
@@ -57,7 +57,7 @@ pub record HeldReady (s : Stages) (A : Compressed) (R C : List ℕ) (L U : Compr
   pub fits : Fits s A R C L U
   pub columns-small : s .reading .m ≤ largestSize
   pub marks-length : length marks ≡ s .reading .m
-  pub room : 65536 ≤ length out
+  pub room : printRoom ≤ length out
   pub work-length : length w ≡ workLength
 
 pub record ReportStagedReady (s : Stages) (A : Compressed) (R C : List ℕ) (L U : Compressed) (marks out w : List ℕ) : Type 0 where
@@ -65,6 +65,6 @@ pub record ReportStagedReady (s : Stages) (A : Compressed) (R C : List ℕ) (L U
   pub columns-small : s .reading .number ≡ 0 → s .reading .m ≤ largestSize
   pub detail-small : s .reading .number ≡ 0 → s .factored .detail ≤ largestSize
   pub marks-length : length marks ≡ largestSize
-  pub room : 65536 ≤ length out
+  pub room : printRoom ≤ length out
   pub work-length : length w ≡ workLength
   pub clear : w ≡ zeros (length w)

@@ -10,10 +10,10 @@ use mathlib.Core.Path.{_≡_}
 use mathlib.Core.List.{List}
 use lib.ListN.{length}
 use Rattle.lists.specs.Filled.{zeros}
-use Rattle.lists.specs.Table.{storageTooShort}
+use Rattle.refusals.specs.Table.{storageTooShort}
 use Rattle.byte_buffer.specs.Stored.{Fills}
 use Rattle.text_plan.specs.Call.{ReadAnswer}
-use Rattle.call_plan.specs.Limits.{workLength}
+use Rattle.limits.specs.Limits.{workLength, printRoom}
 use Rattle.factor_all.specs.Outcome.{Outcome}
 use Rattle.call_open.specs.Calls.{Listed, openFactorsOf}
 use Rattle.print_text.specs.declared.lines.Summary.{Summary}
@@ -50,7 +50,7 @@ unfoldable pub reportOf : List ℕ → List ℕ
 reportOf text = reportReadOf (reading text)
 
 pub record ReportLists (out w : List ℕ) : Type 0 where
-  pub room : 65536 ≤ length out
+  pub room : printRoom ≤ length out
   pub work-length : length w ≡ workLength
 
 pub record Reports (text : List ℕ) (size : ℕ) (b₀ b w₀ w : List ℕ) : Type 0 where

@@ -8,13 +8,16 @@ ghost use Rattle.print_text.specs.Printed.{Prints};
 ghost use Rattle.report_lib.specs.Held.{heldSummary, heldList, heldText, stagedText, HeldReady, ReportStagedReady};
 ghost use Rattle.report_lib.specs.Reporting.{ReportLists, Reports};
 use call_open::from_factors::open_columns_from_factors;
-use lists::Outcome;
+use refusals::Outcome;
 use print_text::lines::Summary;
 use print_text::report::from_one;
 use print_text::report::write_refusal;
 use print_text::report::write_report;
 use stages::Stages;
 use stages::factor_text;
+use limits::ENTRY_CELLS;
+use limits::SIZE_CELLS;
+use limits::START_CELLS;
 
 // The number whose detail is a row of the plan, which counts from 1 in print: lent entry storage is too short.
 const STORAGE_TOO_SHORT: u32 = 7;
@@ -187,18 +190,18 @@ pub fn report(text: &[u8], out: &mut [u8], work: &mut [u64]) -> usize
     requires { ⌜ ReportLists (now out) (now work) ⌝ }
     ensures { λ size. ⌜ Reports (now (text .entry)) size (now (out .entry)) (now (out .exit)) (now (work .entry)) (now (work .exit)) ⌝ }
 {
-    let mut starts = [0u32; 2049];
-    let mut columns = [0u32; 16384];
-    let mut values = [0u32; 16384];
-    let mut rows = [0u32; 2048];
-    let mut cols = [0u32; 2048];
-    let mut ls = [0u32; 2049];
-    let mut lc = [0u32; 16384];
-    let mut lv = [0u32; 16384];
-    let mut us = [0u32; 2049];
-    let mut uc = [0u32; 16384];
-    let mut uv = [0u32; 16384];
-    let mut marks = [0u32; 2048];
+    let mut starts = [0u32; START_CELLS];
+    let mut columns = [0u32; ENTRY_CELLS];
+    let mut values = [0u32; ENTRY_CELLS];
+    let mut rows = [0u32; SIZE_CELLS];
+    let mut cols = [0u32; SIZE_CELLS];
+    let mut ls = [0u32; START_CELLS];
+    let mut lc = [0u32; ENTRY_CELLS];
+    let mut lv = [0u32; ENTRY_CELLS];
+    let mut us = [0u32; START_CELLS];
+    let mut uc = [0u32; ENTRY_CELLS];
+    let mut uv = [0u32; ENTRY_CELLS];
+    let mut marks = [0u32; SIZE_CELLS];
     let s = factor_text(
         text,
         &mut starts,

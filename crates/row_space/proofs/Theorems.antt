@@ -28,7 +28,7 @@ use native.Mathlib.Omega.{arith}
 use lib.ListN.{length, getD}
 use lib.Seq.{ext-getD}
 use Rattle.lists.specs.Filled.{zeros}
-use Rattle.lists.specs.declared.Outcome.the-variants.{Passed}
+use Rattle.refusals.specs.declared.Outcome.the-variants.{Passed}
 use Rattle.lists.proofs.Filled.{zeros-replicate}
 use Rattle.algebra.specs.Congruence.{_≈⟨_⟩_}
 use Rattle.algebra.specs.Sum.{dot, δ}

@@ -5,9 +5,9 @@ use mathlib.Core.List.{List}
 use lib.Dec.{leb, ltb}
 use lib.ListN.{length, getD}
 use Rattle.lists.specs.Tests.{first}
-use Rattle.lists.specs.Table.{questionTooLarge}
-use Rattle.lists.specs.Refusals.{unless}
-use Rattle.lists.specs.declared.Outcome.{Outcome}
+use Rattle.refusals.specs.Table.{questionTooLarge}
+use Rattle.refusals.specs.Refusals.{unless}
+use Rattle.refusals.specs.declared.Outcome.{Outcome}
 
 unfoldable pub questionOutcome : ℕ → List ℕ → Outcome
 questionOutcome p y =

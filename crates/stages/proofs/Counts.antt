@@ -5,9 +5,9 @@ use mathlib.Core.Option.{Option, none, some}
 use Prim.Native.Nat.{ℕ, _≤_}
 use native.Mathlib.Omega.{arith}
 use lib.ListN.{length, getD}
-use Rattle.lists.specs.Refusals.{_▷_, unless, detailOf}
-use Rattle.lists.specs.declared.Outcome as tests
-use Rattle.lists.specs.declared.Outcome.the-variants.{Passed, Refused}
+use Rattle.refusals.specs.Refusals.{_▷_, unless, detailOf}
+use Rattle.refusals.specs.declared.Outcome as tests
+use Rattle.refusals.specs.declared.Outcome.the-variants.{Passed, Refused}
 use Rattle.residue.specs.Range.{isModulus}
 use Rattle.residue.proofs.Primes.{modulus-prime}
 use Rattle.sparse.specs.Matrix.{Compressed, matrix, form}

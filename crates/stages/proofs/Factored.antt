@@ -10,7 +10,7 @@ use Rattle.sparse.specs.Matrix.{Compressed, compressed}
 use Rattle.sparse.specs.Set.{setOf}
 use Rattle.text_plan.specs.Call.{ReadAnswer, callOf, Gives}
 use Rattle.text_plan.specs.declared.Reading.{Reading}
-use Rattle.call_plan.specs.Limits.{largestEntries}
+use Rattle.limits.specs.Limits.{largestEntries}
 use Rattle.call_plan.specs.Accepted.{GoodPlan}
 use Rattle.factor_all.specs.Outcome.{Outcome, factoring, Leaves}
 use Rattle.factor_all.specs.OwnSet.{ownSet}
@@ -18,7 +18,7 @@ use Rattle.factor_all.specs.declared.factor.Factored.{Factored}
 use Rattle.factor_all.proofs.OwnSet.{own-set, own-outcome}
 use Rattle.call_factor.specs.Lengths.{lentOf, lentOutcome}
 use Rattle.call_factor.proofs.Ready.{Kept}
-use Rattle.lists.specs.declared.Outcome.the-variants.{Passed}
+use Rattle.refusals.specs.declared.Outcome.the-variants.{Passed}
 use Rattle.call_factor.specs.Calls.{factorCallOf}
 use Rattle.stages.specs.declared.Stages.{Stages}
 use Rattle.stages.specs.Stages.{reading, lentFor, factoredOf, setFactored}

@@ -11,7 +11,7 @@ use Rattle.text_plan.specs.declared.Reading.{Reading}
 use Rattle.text_plan.proofs.Accepted.{accepted-states}
 use Rattle.text_plan.proofs.Scattered.{plan-scattered, placed-length}
 use Rattle.sparse.specs.Matrix.{Compressed}
-use Rattle.call_plan.specs.Limits.{largestSize, largestEntries}
+use Rattle.limits.specs.Limits.{largestSize, largestEntries}
 use Rattle.stages.specs.Stages.{reading}
 use Rattle.text_plan.specs.Held.{heldPlan, planOf}
 use Rattle.stages.specs.Lists.{Largest, Held}

@@ -8,7 +8,7 @@ use Rattle.sparse.proofs.Rows.{form-paired}
 use Rattle.elimination.specs.Factoring.{factor}
 use Rattle.elimination.proofs.Theorem.{StoredFactors, factor-stored}
 use Rattle.certificate.specs.Layout.{Sized}
-use Rattle.call_plan.specs.Limits.{workLength}
+use Rattle.limits.specs.Limits.{workLength}
 use Rattle.call_plan.specs.Accepted.{GoodPlan}
 use Rattle.call_plan.proofs.Plans.{good-prime}
 use Rattle.call_check.specs.Passing.{StoredPasses}

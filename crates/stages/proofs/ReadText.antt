@@ -15,16 +15,15 @@ use mathlib.Core.Option.{Option, none, some}
 use Prim.Native.Nat.{ℕ}
 use lib.Dec.{eqb}
 use borrow.Author.Tests.{eq-eqb, eqb-false}
-use Rattle.lists.specs.Table.{textFaults, storageTooShort}
-use Rattle.lists.specs.Refusals.{unless, NumberFrom}
-use Rattle.lists.specs.declared.Outcome.the-variants.{Passed, Refused}
-use Rattle.lists.proofs.Refusals.{RefusedBy, number-passed}
+use Rattle.refusals.specs.Table.{textFaults, storageTooShort}
+use Rattle.refusals.specs.Refusals.{unless, NumberFrom}
+use Rattle.refusals.specs.declared.Outcome.the-variants.{Passed, Refused}
+use Rattle.refusals.proofs.Refusals.{RefusedBy, number-passed}
 use Rattle.sparse.specs.Matrix.{Compressed, matrix}
 use Rattle.elimination.specs.Selection.{structural}
 use Rattle.elimination.proofs.Room.{some-overflows}
-use Rattle.call_plan.specs.Limits.{largestEntries}
+use Rattle.limits.specs.Limits.{largestEntries, startsLength}
 use Rattle.call_plan.specs.Accepted.{GoodPlan}
-use Rattle.text_opening.specs.Limits.{startsLength}
 use Rattle.text_plan.specs.Call.{callOf, Gives}
 use Rattle.text_plan.specs.Held.{planOf, StatesPlan, HoldsPlan}
 use Rattle.text_plan.proofs.Done.{done-exactly, holds-stated, read-good, read-by}

@@ -9,9 +9,8 @@ use mathlib.Core.Path.{_≡_}
 use mathlib.Core.List.{List}
 use lib.ListN.{length}
 use Rattle.sparse.specs.Matrix.{Compressed}
-use Rattle.text_opening.specs.Limits.{startsLength}
+use Rattle.limits.specs.Limits.{startsLength, largestSize, largestEntries, workLength}
 use Rattle.text_plan.specs.declared.Reading.{Reading}
-use Rattle.call_plan.specs.Limits.{largestSize, largestEntries, workLength}
 
 pub record Largest (h : Compressed) : Type 0 where
   pub starts-length : length (h .starts) ≡ startsLength

@@ -10,7 +10,7 @@ use Rattle.text_plan.specs.Held.{planOf}
 use Rattle.elimination.specs.Selection.{structural}
 use Rattle.elimination.specs.Factoring.{schedule, nothing, factor}
 use Rattle.elimination.specs.Overflow.{Overflows}
-use Rattle.call_plan.specs.Limits.{largestEntries}
+use Rattle.limits.specs.Limits.{largestEntries}
 use Rattle.call_factor.specs.Accepted.{FactorsFit}
 use Rattle.stages.specs.Stages.{lentFor}
 

@@ -11,7 +11,7 @@ use Rattle.lists.specs.Filled.{zeros}
 use Rattle.sparse.specs.Matrix.{Compressed, compressed}
 use Rattle.sparse.specs.Set.{Set, setOf}
 use Rattle.text_plan.specs.Call.{ReadAnswer}
-use Rattle.call_plan.specs.Limits.{largestSize}
+use Rattle.limits.specs.Limits.{largestSize}
 use Rattle.stages.specs.declared.Stages.{Stages}
 use Rattle.stages.specs.Stages.{reading, factoredOf, setFactored}
 use Rattle.text_plan.specs.Held.{heldPlan, planOf}

@@ -8,14 +8,13 @@
 use Prim.Native.Nat.{ℕ, _+_}
 use mathlib.Core.List.{List}
 use lib.Dec.{eqb}
-use Rattle.lists.specs.Refusals.{unless}
-use Rattle.lists.specs.declared.Outcome as tests
+use Rattle.refusals.specs.Refusals.{unless}
+use Rattle.refusals.specs.declared.Outcome as tests
 use Rattle.sparse.specs.Set.{Set, setOf}
-use Rattle.text_opening.specs.Limits.{startsLength}
+use Rattle.limits.specs.Limits.{startsLength, largestEntries, workLength}
 use Rattle.text_plan.specs.Call.{ReadAnswer, callOf}
 use Rattle.text_plan.specs.Held.{planOf}
 use Rattle.text_plan.specs.declared.Reading.{Reading}
-use Rattle.call_plan.specs.Limits.{largestEntries, workLength}
 use Rattle.factor_all.specs.Outcome.{Outcome}
 use Rattle.call_factor.specs.Calls.{factorCallOf}
 use Rattle.call_factor.specs.declared.Lent.{Lent}

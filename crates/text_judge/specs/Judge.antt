@@ -12,7 +12,7 @@
 use Prim.Native.Nat.{ℕ}
 use mathlib.Core.Bool.{Bool, false, cond, _&&_, _||_, not}
 use lib.Dec.{eqb, ltb, leb}
-use Rattle.lists.specs.Table.{malformed, outsidePlan, repeatedPlace, valueOutOfRange, storageTooShort}
+use Rattle.refusals.specs.Table.{malformed, outsidePlan, repeatedPlace, valueOutOfRange, storageTooShort}
 use Rattle.text_fields.specs.Number.{isNegative, magnitude}
 use Rattle.text_fields.specs.declared.numbers.Signed.{Signed}
 use Rattle.text_fields.specs.declared.numbers.Signed.the-variants.{Plus, Minus, NotSigned}

@@ -5,7 +5,7 @@
 use Prim.Native.Nat.{ℕ}
 use mathlib.Core.Bool.{Bool, cond, _&&_, not}
 use lib.Dec.{eqb}
-use Rattle.lists.specs.Table.{malformed, outsidePlan, repeatedPlace, valueOutOfRange, storageTooShort}
+use Rattle.refusals.specs.Table.{malformed, outsidePlan, repeatedPlace, valueOutOfRange, storageTooShort}
 use Rattle.text_judge.specs.Judge.{inRange, residueAt, isLast, within}
 use Rattle.text_judge.specs.declared.line.Line.{Line}
 use Rattle.text_judge.specs.declared.line.Line.the-variants.{Triple, NotTriple}

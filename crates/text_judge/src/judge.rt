@@ -7,6 +7,7 @@ ghost use Rattle.text_judge.specs.Sight.{judgedFrom};
 use crate::line::Line;
 use crate::sight::Sight;
 use residue::Modulus;
+use refusals::numbers::REPEATED_PLACE;
 
 // The modulus and the sizes of a plan.
 pub struct Sizes {
@@ -56,13 +57,13 @@ fn verdict_from(stands: bool, seen: Sight) -> Verdict
             if stands {
                 return Verdict::Entry { i, j, v };
             }
-            Verdict::Refused(5)
+            Verdict::Refused(REPEATED_PLACE)
         }
         Sight::Fails { number, i: _, j: _ } => {
             if stands {
                 return Verdict::Refused(number);
             }
-            Verdict::Refused(5)
+            Verdict::Refused(REPEATED_PLACE)
         }
     }
 }

@@ -9,6 +9,8 @@ use crate::judge::Sizes;
 use crate::line::Line;
 use text_fields::numbers::Signed;
 use residue::Modulus;
+use refusals::numbers::STORAGE_TOO_SHORT;
+use refusals::numbers::VALUE_OUT_OF_RANGE;
 
 // The range of v: from -2,147,483,648 to 2,147,483,647.
 const LARGEST_V: u64 = 2147483647;
@@ -94,7 +96,7 @@ fn stands_if(full: bool, i: u64, j: u64, v: u32) -> Sight
         return Sight::Stands { i, j, v };
     }
     if full {
-        return Sight::Fails { number: 7, i, j };
+        return Sight::Fails { number: STORAGE_TOO_SHORT, i, j };
     }
     Sight::Stands { i, j, v }
 }
@@ -111,7 +113,7 @@ fn sight_triple(full: bool, s: Sizes, i: u64, j: u64, v: Signed) -> Sight
         return Sight::Stops(4);
     }
     if !in_range(v) {
-        return Sight::Fails { number: 6, i, j };
+        return Sight::Fails { number: VALUE_OUT_OF_RANGE, i, j };
     }
     let modulus = s.modulus;
     stands_if(full, i, j, residue_of(modulus, v))

@@ -17,8 +17,7 @@ use Rattle.residue.specs.Range.{isModulus}
 use Rattle.text_judge.specs.declared.judge.Sizes.{Sizes}
 use Rattle.text_judge.specs.declared.header.Header.{Header}
 use Rattle.text_judge.specs.declared.header.Header.the-variants.{Given, NotHeader}
-use Rattle.call_plan.specs.Limits.{largestSize}
-use Rattle.text_opening.specs.Limits.{largestText}
+use Rattle.limits.specs.Limits.{largestSize, largestText}
 use Rattle.text_judge.specs.Line.{headerOf}
 use Rattle.text_opening.specs.Reading.{Entry, refused, triples, withSizes, fromSecond, withModulus, fromFirst, readBy}
 use Rattle.text_opening.specs.Opening.{Limits, Second}

@@ -10,9 +10,8 @@ use lib.ListN.{length, drop}
 use Rattle.residue.specs.Range.{isModulus}
 use Rattle.text_fields.specs.Pieces.{pieces}
 use Rattle.text_lines.specs.declared.Place.{Place}
-use Rattle.call_plan.specs.Limits.{largestSize}
+use Rattle.limits.specs.Limits.{largestSize, largestText}
 use Rattle.text_judge.specs.declared.judge.Sizes.{Sizes}
-use Rattle.text_opening.specs.Limits.{largestText}
 use Rattle.text_opening.specs.Reading.{Entry, ReadResult, refused, triples}
 use Rattle.text_opening.specs.declared.opening.Opening.{Opening}
 use Rattle.text_opening.specs.declared.opening.Opening.the-variants.{Refused as NotOpened, Opened}

@@ -16,15 +16,14 @@ use mathlib.Core.List.{List, [], _∷_, _++_}
 use mathlib.Core.Bool.{Bool, true, cond, _&&_, not}
 use lib.Dec.{eqb, ltb, leb}
 use lib.ListN.{length}
-use Rattle.lists.specs.Table.{badModulus, overLimit, malformed}
+use Rattle.refusals.specs.Table.{badModulus, overLimit, malformed}
 use Rattle.grouping.specs.Grouping.{grouped}
 use Rattle.text_fields.specs.Pieces.{Pieces, last, more, pieces}
 use Rattle.text_fields.specs.Number.{numberIn}
 use Rattle.text_fields.specs.declared.numbers.Number.{Number}
 use Rattle.text_fields.specs.declared.numbers.Number.the-variants.{Value, NotNumber}
 use Rattle.residue.specs.Range.{isModulus}
-use Rattle.call_plan.specs.Limits.{largestSize}
-use Rattle.text_opening.specs.Limits.{largestText}
+use Rattle.limits.specs.Limits.{largestSize, largestText}
 use Rattle.text_judge.specs.Line.{lineOf, headerOf}
 use Rattle.text_judge.specs.Judge.{judgeLine, mayStand}
 use Rattle.text_judge.specs.declared.header.Header.{Header}

@@ -13,10 +13,11 @@ use text_lines::Place;
 use text_judge::header::Header;
 use text_judge::judge::Sizes;
 use residue::Modulus;
-
-const LARGEST_TEXT: usize = 65536;
-
-const LARGEST_SIZE: u64 = 2048;
+use limits::LARGEST_STATED;
+use limits::LARGEST_TEXT;
+use refusals::numbers::BAD_MODULUS;
+use refusals::numbers::MALFORMED;
+use refusals::numbers::OVER_LIMIT;
 
 // What the first two lines lead to: a refusal, or the sizes, and the place and number of the third line.
 pub enum Opening {
@@ -42,20 +43,20 @@ fn open_second(text: &[u8], second: Place, modulus: Modulus) -> Opening
     let detail = second.line;
     let l = text_lines::line_from(text, second.at, second.line);
     if second.at + l.len() == text.len() {
-        return Opening::Refused { number: 3, detail };
+        return Opening::Refused { number: MALFORMED, detail };
     }
     let third = text_lines::next_from(text, second.at, second.line, l.len());
     match text_judge::header::header_of(l) {
         Header::Given { n, m } => {
-            if LARGEST_SIZE < n {
+            if LARGEST_STATED < n {
                 return Opening::Refused {
-                    number: 2,
+                    number: OVER_LIMIT,
                     detail: 0,
                 };
             }
-            if LARGEST_SIZE < m {
+            if LARGEST_STATED < m {
                 return Opening::Refused {
-                    number: 2,
+                    number: OVER_LIMIT,
                     detail: 0,
                 };
             }
@@ -68,7 +69,7 @@ fn open_second(text: &[u8], second: Place, modulus: Modulus) -> Opening
                 third,
             }
         }
-        Header::NotHeader => Opening::Refused { number: 3, detail },
+        Header::NotHeader => Opening::Refused { number: MALFORMED, detail },
     }
 }
 
@@ -78,7 +79,7 @@ pub fn open(text: &[u8]) -> Opening
 {
     if LARGEST_TEXT < text.len() {
         return Opening::Refused {
-            number: 2,
+            number: OVER_LIMIT,
             detail: 0,
         };
     }
@@ -86,7 +87,7 @@ pub fn open(text: &[u8]) -> Opening
     let detail = first.line;
     let l = text_lines::line_from(text, first.at, first.line);
     if first.at + l.len() == text.len() {
-        return Opening::Refused { number: 3, detail };
+        return Opening::Refused { number: MALFORMED, detail };
     }
     let second = text_lines::next_from(text, first.at, first.line, l.len());
     match text_fields::numbers::number_of(l) {
@@ -95,10 +96,10 @@ pub fn open(text: &[u8]) -> Opening
                 return open_second(text, second, Modulus { p: p as u32 });
             }
             Opening::Refused {
-                number: 1,
+                number: BAD_MODULUS,
                 detail: 0,
             }
         }
-        Number::NotNumber => Opening::Refused { number: 3, detail },
+        Number::NotNumber => Opening::Refused { number: MALFORMED, detail },
     }
 }

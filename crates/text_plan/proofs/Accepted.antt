@@ -26,8 +26,7 @@ use Rattle.text_judge.specs.declared.header.Header.the-variants.{Given, NotHead
 use Rattle.text_judge.specs.declared.judge.Sizes.{Sizes}
 use Rattle.text_judge.specs.declared.judge.Verdict.{Verdict}
 use Rattle.text_judge.specs.declared.judge.Verdict.the-variants.{Refused, Last, Entry as AnEntry}
-use Rattle.call_plan.specs.Limits.{largestSize}
-use Rattle.text_opening.specs.Limits.{largestText}
+use Rattle.limits.specs.Limits.{largestSize, largestText}
 use Rattle.text_judge.specs.Line.{fieldsOf, lineOf, lineIn, lineWith, headerOf, headerIn, headerWith, isM}
 use Rattle.text_judge.specs.Judge.{mayStand}
 use Rattle.text_opening.specs.Reading.{Entry, refused, accepted, kept, fresh, verdictOn, ending, onward, triples, withSizes, fromSecond, withModulus, fromFirst, readBy, readOf}

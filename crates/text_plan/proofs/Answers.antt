@@ -11,8 +11,7 @@ use Rattle.text_judge.specs.declared.judge.Sizes.{Sizes}
 use Rattle.text_plan.specs.declared.Reading.{Reading}
 use Rattle.text_plan.specs.declared.triples.TripleLines.{TripleLines}
 use Rattle.text_plan.specs.declared.triples.TripleLines.the-variants.{Refused, Read}
-use Rattle.call_plan.specs.Limits.{largestSize}
-use Rattle.text_opening.specs.Limits.{startsLength}
+use Rattle.limits.specs.Limits.{largestSize, startsLength}
 use Rattle.text_opening.specs.Reading.{Entry, ReadResult, refused, accepted, fresh, placed, triples, readOf}
 use Rattle.text_plan.specs.Stored.{RowsWithin, startsOf}
 use Rattle.text_plan.specs.Call.{StoresAll, Settles, Gives, answerBy, readAnswerOf, callOf, refusalOf}

@@ -22,7 +22,7 @@ use Rattle.sparse.proofs.DenseTable.{denseRows, dense-count, dense-cell, dense-
 use Rattle.grouping.proofs.Every.{All, all-map}
 use Rattle.grouping.proofs.Stable.{all-member, member-right}
 use Rattle.text_judge.specs.declared.judge.Sizes.{Sizes}
-use Rattle.text_opening.specs.Limits.{startsLength}
+use Rattle.limits.specs.Limits.{startsLength}
 use Rattle.text_opening.specs.Reading.{Entry, accepted, kept, placed}
 use Rattle.text_plan.specs.Stored.{countTo, startsOf, columnsStored, valuesOf}
 use Rattle.text_plan.specs.Stating.{StatedEntry, integerOf, StandApart, Plan, entryOf, entriesOf, statedAt}

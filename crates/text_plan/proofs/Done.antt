@@ -18,8 +18,8 @@ use lib.Dec.{eqb, leb, ltb}
 use lib.ListN.{length}
 use borrow.Author.Tests.{eqb-true, eq-eqb}
 use Rattle.lists.specs.Tests.{among}
-use Rattle.lists.specs.Table.{textFaults}
-use Rattle.lists.specs.Refusals.{NumberFrom}
+use Rattle.refusals.specs.Table.{textFaults}
+use Rattle.refusals.specs.Refusals.{NumberFrom}
 use Rattle.lists.specs.Filled.{zeros}
 use Rattle.lists.proofs.Bools.{and-left, and-right}
 use Rattle.text_fields.specs.Pieces.{Pieces, last, more, pieces}
@@ -39,9 +39,8 @@ use Rattle.text_judge.specs.declared.judge.Sizes.{Sizes}
 use Rattle.text_judge.specs.declared.judge.Verdict.{Verdict}
 use Rattle.text_judge.specs.declared.judge.Verdict.the-variants.{Refused, Last, Entry as AnEntry}
 use Rattle.text_plan.specs.declared.Reading.{Reading}
-use Rattle.call_plan.specs.Limits.{largestSize}
+use Rattle.limits.specs.Limits.{largestSize, largestText, startsLength}
 use Rattle.call_plan.specs.Accepted.{GoodPlan}
-use Rattle.text_opening.specs.Limits.{largestText, startsLength}
 use Rattle.text_judge.specs.Line.{headerOf}
 use Rattle.text_judge.specs.Judge.{judgeLine, inRange, isLast, within, residueAt}
 use Rattle.text_opening.specs.Reading.{Entry, ReadResult, refused, accepted, fresh, ending, onward, triples, verdictOn, withSizes, fromSecond, withModulus, fromFirst, readBy, readOf}

@@ -8,8 +8,8 @@ use native.Mathlib.Omega.{arith}
 use lib.Dec.{eqb, leb}
 use lib.ListN.{length, drop, set, length-append, length-set}
 use borrow.Author.Tests.{eqb-true, eqb-false}
-use Rattle.lists.specs.declared.Outcome.{Outcome}
-use Rattle.lists.specs.declared.Outcome.the-variants.{Passed, Refused}
+use Rattle.refusals.specs.declared.Outcome.{Outcome}
+use Rattle.refusals.specs.declared.Outcome.the-variants.{Passed, Refused}
 use Rattle.text_fields.specs.Pieces.{Pieces, pieces}
 use Rattle.text_lines.specs.Line.{lineAt, lineEnd, Ends}
 use Rattle.text_lines.specs.declared.Place.{Place}

@@ -22,8 +22,7 @@ use Rattle.text_judge.specs.declared.line.Line.the-variants.{Triple}
 use Rattle.text_judge.specs.declared.header.Header.the-variants.{Given}
 use Rattle.text_judge.specs.declared.judge.Sizes.{Sizes}
 use Rattle.text_judge.specs.declared.judge.Verdict.the-variants.{Last, Entry as AnEntry}
-use Rattle.call_plan.specs.Limits.{largestSize}
-use Rattle.text_opening.specs.Limits.{largestText}
+use Rattle.limits.specs.Limits.{largestSize, largestText}
 use Rattle.text_judge.specs.Line.{fieldsOf, lineOf, withSigned, headerOf}
 use Rattle.text_judge.specs.Judge.{judgeLine, inRange, isLast, residueAt}
 use Rattle.text_opening.specs.Reading.{Entry, accepted, kept, fresh, verdictOn, triples, readBy, readOf}

@@ -14,7 +14,7 @@ use Rattle.text_judge.specs.declared.judge.Sizes.{Sizes}
 use Rattle.text_judge.specs.declared.judge.Verdict.{Verdict}
 use Rattle.text_judge.specs.declared.judge.Verdict.the-variants.{Refused, Last, Entry as AnEntry}
 use Rattle.text_plan.specs.declared.triples.TripleLines.the-variants.{Read}
-use Rattle.text_opening.specs.Limits.{startsLength}
+use Rattle.limits.specs.Limits.{startsLength}
 use Rattle.text_judge.specs.Line.{lineOf}
 use Rattle.text_judge.specs.Judge.{judgeLine, mayStand, before}
 use Rattle.text_opening.specs.Reading.{Entry, ReadResult, refused, accepted, kept, onward, triples, verdictOn}

@@ -9,14 +9,13 @@ use lib.Dec.{eqb, leb, ltb}
 use lib.ListN.{length}
 use borrow.Author.Tests.{eq-eqb, ne-eqb, ltb-true, eqb-true}
 use Rattle.lists.proofs.Bools.{or-cases, and-left, and-right}
-use Rattle.lists.specs.Table.{repeatedPlace}
+use Rattle.refusals.specs.Table.{repeatedPlace}
 use Rattle.text_fields.specs.Pieces.{Pieces, last, more, pieces}
 use Rattle.text_fields.specs.Number.{numberIn}
 use Rattle.text_fields.specs.declared.numbers.Number.{Number}
 use Rattle.text_fields.specs.declared.numbers.Number.the-variants.{Value, NotNumber}
 use Rattle.residue.specs.Range.{isModulus}
-use Rattle.call_plan.specs.Limits.{largestSize}
-use Rattle.text_opening.specs.Limits.{largestText}
+use Rattle.limits.specs.Limits.{largestSize, largestText}
 use Rattle.text_judge.specs.Line.{lineOf, headerOf}
 use Rattle.text_judge.specs.Judge.{mayStand, before}
 use Rattle.text_opening.specs.Reading.{Entry, ReadResult, refused, accepted, kept, fresh, placed, ending, onward, triples, withSizes, fromSecond, withModulus, fromFirst, readBy, readOf}

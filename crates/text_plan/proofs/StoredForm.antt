@@ -14,7 +14,7 @@ use Rattle.lists.specs.Filled.{zeros, filled}
 use Rattle.lists.specs.Tabulate.{tabulate}
 use Rattle.lists.proofs.Filled.{filled-none, length-filled}
 use Rattle.lists.proofs.Tabulate.{length-tabulate, tabulate-more, tabulate-ext}
-use Rattle.text_opening.specs.Limits.{startsLength}
+use Rattle.limits.specs.Limits.{startsLength}
 use Rattle.text_opening.specs.Reading.{Entry}
 use Rattle.text_plan.specs.Stored.{countTo, startsOf, columnsStored, valuesOf, RowsWithin}
 

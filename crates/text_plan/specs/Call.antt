@@ -15,10 +15,10 @@ use mathlib.Core.List.{List}
 use mathlib.Core.Bool.{cond, _&&_}
 use lib.Dec.{eqb}
 use lib.ListN.{length}
-use Rattle.lists.specs.Table.{wrongLength}
+use Rattle.refusals.specs.Table.{wrongLength}
 use Rattle.lists.specs.Filled.{zeros}
 use Rattle.text_lines.specs.declared.Place.{Place}
-use Rattle.text_opening.specs.Limits.{startsLength}
+use Rattle.limits.specs.Limits.{startsLength}
 use Rattle.text_opening.specs.Reading.{Entry, kept, placed, ReadResult, refused, accepted, readOf}
 use Rattle.text_opening.specs.Opening.{Limits}
 use Rattle.text_plan.specs.Rising.{lastRow}

@@ -14,9 +14,9 @@ use mathlib.Core.List.{List, [], _∷_, _++_}
 use mathlib.Core.Bool.{cond}
 use lib.Dec.{ltb, leb}
 use lib.ListN.{length}
-use Rattle.lists.specs.Table.{malformed, repeatedPlace}
-use Rattle.lists.specs.declared.Outcome.{Outcome}
-use Rattle.lists.specs.declared.Outcome.the-variants.{Passed, Refused}
+use Rattle.refusals.specs.Table.{malformed, repeatedPlace}
+use Rattle.refusals.specs.declared.Outcome.{Outcome}
+use Rattle.refusals.specs.declared.Outcome.the-variants.{Passed, Refused}
 use Rattle.grouping.specs.Grouping.{keyOf, grouped}
 use Rattle.text_fields.specs.Pieces.{Pieces, last, more}
 use Rattle.text_judge.specs.Line.{lineOf}

@@ -12,7 +12,7 @@ use mathlib.Core.List.{List, map, reverse}
 use lib.ListN.{length, getD}
 use Rattle.text_lines.specs.declared.Place.{Place}
 use Rattle.grouping.specs.Grouping.{keyOf}
-use Rattle.call_plan.specs.Limits.{largestSize}
+use Rattle.limits.specs.Limits.{largestSize}
 use Rattle.text_opening.specs.Reading.{kept}
 use Rattle.text_plan.specs.Call.{NothingStored}
 use Rattle.text_opening.specs.Opening.{Limits}

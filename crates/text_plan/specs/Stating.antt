@@ -28,8 +28,7 @@ use Rattle.text_fields.specs.Decimal.{decimal, signedText, Proper}
 use Rattle.text_fields.specs.declared.numbers.Signed.{Signed}
 use Rattle.text_fields.specs.declared.numbers.Signed.the-variants.{Plus}
 use Rattle.text_judge.specs.declared.judge.Sizes.{Sizes}
-use Rattle.call_plan.specs.Limits.{largestSize}
-use Rattle.text_opening.specs.Limits.{largestText}
+use Rattle.limits.specs.Limits.{largestSize, largestText}
 use Rattle.text_judge.specs.Judge.{inRange, within}
 use Rattle.text_opening.specs.Reading.{Entry, kept, fresh}
 

@@ -8,9 +8,10 @@ ghost use Rattle.text_fields.specs.Pieces.{pieces};
 ghost use Rattle.text_plan.specs.Collect.{collect};
 ghost use Rattle.text_plan.specs.Needs.{Keepable, Collectable, Collects};
 use text_lines::Place;
-use lists::Outcome;
+use refusals::Outcome;
 use text_judge::judge::Sizes;
 use text_judge::sight::Sight;
+use refusals::numbers::MALFORMED;
 
 // How many lines were collected, and what ended it, places that are taken twice left aside: the last line, or a refusal.
 pub struct Gathered {
@@ -54,7 +55,7 @@ fn after_last(next: Place, length: usize) -> Outcome
     if next.at == length {
         return Outcome::Passed;
     }
-    Outcome::Refused(3, next.line)
+    Outcome::Refused(MALFORMED, next.line)
 }
 
 // Collects the lines from the one at `from` on, where the lent entry storage has room for `room` values.
@@ -78,7 +79,7 @@ pub fn collect_lines(
         let line = here.line;
         let l = text_lines::line_from(text, here.at, line);
         if here.at + l.len() == text.len() {
-            let outcome = Outcome::Refused(3, line);
+            let outcome = Outcome::Refused(MALFORMED, line);
             return Gathered { count, outcome };
         }
         let next = text_lines::next_from(text, here.at, line, l.len());
@@ -106,6 +107,6 @@ pub fn collect_lines(
         count += 1;
         here = next;
     }
-    let outcome = Outcome::Refused(3, here.line);
+    let outcome = Outcome::Refused(MALFORMED, here.line);
     Gathered { count, outcome }
 }

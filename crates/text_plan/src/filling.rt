@@ -3,7 +3,7 @@ ghost use mathlib.Core.Path.{_≡_};
 ghost use mathlib.Core.List.{List, _∷_};
 ghost use Prim.Native.Nat.{_≤_, _<_};
 ghost use lib.ListN.{length};
-ghost use Rattle.text_opening.specs.Limits.{startsLength};
+ghost use Rattle.limits.specs.Limits.{startsLength};
 ghost use Rattle.text_opening.specs.Reading.{Entry, kept};
 ghost use Rattle.text_plan.specs.Stored.{RowsWithin, startsOf, EntriesStored, Storable};
 

@@ -9,14 +9,13 @@ use text_lines::Place;
 use text_judge::judge::Sizes;
 use text_opening::opening::Opening;
 use triples::TripleLines;
+use limits::START_CELLS;
+use refusals::numbers::REPEATED_PLACE;
 
 pub mod collecting;
 pub mod filling;
 pub mod sorting;
 pub mod triples;
-
-// How many row starts a caller lends.
-const STARTS: usize = 2049;
 
 // What reading a text returns: document 01's number and its detail, and on 0 the modulus, the sizes and the number of entries.
 pub struct Reading {
@@ -57,7 +56,7 @@ fn read_lines(
     match triples::read_triples(text, third, s, starts, columns, values) {
         TripleLines::Read { count, row } => TripleLines::Read { count, row },
         TripleLines::Refused { number, line } => {
-            if number != 5 {
+            if number != REPEATED_PLACE {
                 return TripleLines::Refused { number, line };
             }
             lists::clear(starts);
@@ -109,7 +108,7 @@ pub fn read(text: &[u8], starts: &mut [u32], columns: &mut [u32], values: &mut [
     lists::clear(starts);
     lists::clear(columns);
     lists::clear(values);
-    if starts.len() != STARTS {
+    if starts.len() != START_CELLS {
         return refusal(9, 0);
     }
     if columns.len() != values.len() {

@@ -8,6 +8,7 @@ ghost use Rattle.text_plan.specs.Call.{ReadingReady, Shows};
 use text_lines::Place;
 use text_judge::judge::Sizes;
 use text_judge::judge::Verdict;
+use refusals::numbers::MALFORMED;
 
 // What they come to: a refusal and its line, or the number of entries and the row of the last triple.
 pub enum TripleLines {
@@ -36,7 +37,7 @@ pub fn read_triples(
         let line = here.line;
         let l = text_lines::line_from(text, here.at, line);
         if here.at + l.len() == text.len() {
-            return TripleLines::Refused { number: 3, line };
+            return TripleLines::Refused { number: MALFORMED, line };
         }
         let next = text_lines::next_from(text, here.at, line, l.len());
         let verdict = text_judge::judge::judge_after(a, b, room <= count as usize, s, l);
@@ -49,7 +50,7 @@ pub fn read_triples(
                     return TripleLines::Read { count, row: a };
                 }
                 let line = next.line;
-                return TripleLines::Refused { number: 3, line };
+                return TripleLines::Refused { number: MALFORMED, line };
             }
             Verdict::Entry { i, j, v } => {
                 count = crate::filling::store(starts, columns, values, count, a, i, j, v);
@@ -60,5 +61,5 @@ pub fn read_triples(
         here = next;
     }
     let line = here.line;
-    TripleLines::Refused { number: 3, line }
+    TripleLines::Refused { number: MALFORMED, line }
 }

@@ -28,10 +28,10 @@ use mathlib.Core.List.{List, [], _∷_, _++_}
 use native.Mathlib.Omega.{arith}
 use lib.ListN.{length, take}
 use Rattle.lists.specs.Filled.{zeros}
-use Rattle.lists.specs.Table.{textFaults, planFaults, setFaults, storageTooShort, wrongLength, questionTooLarge}
-use Rattle.lists.specs.Refusals.{numberOf, NumberFrom}
-use Rattle.lists.specs.declared.Outcome.{Outcome}
-use Rattle.lists.specs.declared.Outcome.the-variants.{Passed}
+use Rattle.refusals.specs.Table.{textFaults, planFaults, setFaults, storageTooShort, wrongLength, questionTooLarge}
+use Rattle.refusals.specs.Refusals.{numberOf, NumberFrom}
+use Rattle.refusals.specs.declared.Outcome.{Outcome}
+use Rattle.refusals.specs.declared.Outcome.the-variants.{Passed}
 use Rattle.algebra.specs.Prime.{Prime}
 use Rattle.residue.specs.Range.{isModulus, largestModulus}
 use Rattle.residue.specs.Signed.{residueOf}
@@ -45,7 +45,7 @@ use Rattle.elimination.specs.Factoring.{schedule, nothing}
 use Rattle.elimination.specs.Overflow.{Overflows}
 use Rattle.text_plan.specs.declared.Reading.{Reading}
 use Rattle.text_judge.specs.declared.judge.Sizes.{Sizes}
-use Rattle.text_opening.specs.Limits.{startsLength}
+use Rattle.limits.specs.Limits.{startsLength, largestEntries}
 use Rattle.text_opening.specs.Reading.{Entry, accepted, kept, readOf}
 use Rattle.text_plan.specs.Rising.{readRisingOf}
 use Rattle.text_plan.specs.Stating.{States, StatedEntry, Plan, planText, integerOf}
@@ -53,7 +53,6 @@ use Rattle.text_plan.specs.Call.{answerRisingOf, callOf, Gives}
 use Rattle.text_plan.specs.Held.{heldPlan, StatesPlan, HoldsPlan, ReadCleared}
 use Rattle.text_plan.proofs.EntryLimit.{few-entries}
 use Rattle.text_plan.proofs.Done as reads
-use Rattle.call_plan.specs.Limits.{largestEntries}
 use Rattle.call_plan.specs.Tests.{callOutcome}
 use Rattle.call_plan.specs.Accepted.{GoodPlan}
 use Rattle.call_plan.proofs.Plans.{plan-exactly}

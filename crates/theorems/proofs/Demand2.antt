@@ -24,8 +24,8 @@ use mathlib.Core.Logic.{_↔_}
 use mathlib.Core.List.{List, [], _∷_}
 use lib.ListN.{length, take}
 use Rattle.lists.specs.Filled.{filled}
-use Rattle.lists.specs.Refusals.{numberOf}
-use Rattle.lists.specs.declared.Outcome.{Outcome}
+use Rattle.refusals.specs.Refusals.{numberOf}
+use Rattle.refusals.specs.declared.Outcome.{Outcome}
 use Rattle.algebra.specs.Matrix.{vector}
 use Rattle.algebra.specs.Rank.{Rank}
 use Rattle.algebra.specs.RowSpace.{InRowSpace}
@@ -38,7 +38,7 @@ use Rattle.elimination.specs.Rules.{FollowsRules}
 use Rattle.elimination.specs.Factoring.{factor}
 use Rattle.certificate.specs.Reading.{setOfCertificate}
 use Rattle.text_plan.specs.Held.{StatesPlan}
-use Rattle.call_plan.specs.Limits.{largestEntries, workLength}
+use Rattle.limits.specs.Limits.{largestEntries, workLength}
 use Rattle.call_plan.specs.Accepted.{GoodPlan}
 use Rattle.call_check.specs.Passing.{StoredPasses}
 use Rattle.factor_all.specs.Outcome.{Leaves}

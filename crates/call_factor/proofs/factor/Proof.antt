@@ -1,6 +1,6 @@
 -- `factor` meets its contract: everything lent is cleared, so that a refusal has nothing left to do. Assumes nothing.
 use mathlib.Core.Path.{_≡_, sym, ap, _∙_}
-use Rattle.lists.specs.declared.Outcome.the-variants.{Passed}
+use Rattle.refusals.specs.declared.Outcome.the-variants.{Passed}
 use Rattle.sparse.specs.Matrix.{Compressed, compressed}
 use Rattle.call_factor.specs.Lengths.{lentOf, lentOutcome}
 use Rattle.call_factor.specs.declared.Lent.{Lent}

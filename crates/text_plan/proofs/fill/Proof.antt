@@ -11,7 +11,7 @@ use Rattle.text_fields.specs.Pieces.{Pieces, pieces}
 use Rattle.text_lines.specs.declared.Place.{Place}
 use Rattle.text_judge.specs.declared.judge.Sizes.{Sizes}
 use Rattle.text_opening.specs.declared.opening.Opening.{Opening}
-use Rattle.text_opening.specs.Limits.{startsLength}
+use Rattle.limits.specs.Limits.{startsLength}
 use Rattle.text_opening.specs.Reading.{ReadResult, fresh, readOf, triples}
 use Rattle.text_plan.specs.Call.{Settles}
 use Rattle.text_opening.specs.Opening.{Limits, Bounded, afterOpen}

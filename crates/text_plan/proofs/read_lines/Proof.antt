@@ -8,7 +8,7 @@ use borrow.Author.Needs.{needs}
 use Rattle.lists.specs.Filled.{zeros}
 use Rattle.lists.proofs.Filled.{length-zeros}
 use Rattle.text_fields.specs.Pieces.{pieces}
-use Rattle.text_opening.specs.Limits.{startsLength}
+use Rattle.limits.specs.Limits.{startsLength}
 use Rattle.text_opening.specs.Reading.{fresh, triples}
 use Rattle.text_plan.specs.Call.{Settles}
 use Rattle.text_plan.proofs.Settling.{refused-settles, read-settles}

@@ -5,7 +5,7 @@ use native.Mathlib.Omega.{arith}
 use lib.ListN.{length}
 use borrow.Author.Needs.{needs}
 use borrow.Author.Tests.{not-true, not-false}
-use Rattle.lists.specs.declared.Outcome.{Outcome}
+use Rattle.refusals.specs.declared.Outcome.{Outcome}
 use Rattle.sparse.specs.Matrix.{Compressed, compressed}
 use Rattle.call_check.specs.Calls.{checkCertificateOf}
 use Rattle.call_check.proofs.Outcomes.{checks}

@@ -4,7 +4,7 @@ use mathlib.Core.Bool.{true}
 use borrow.Author.Tests.{not-true, not-false}
 use Rattle.sparse.specs.Matrix.{Compressed, compressed}
 use Rattle.call_plan.specs.Tests.{planLengths}
-use Rattle.lists.specs.Refusals.{unless}
+use Rattle.refusals.specs.Refusals.{unless}
 use mathlib.Core.Bool.{Bool}
 use Rattle.call_check.proofs.Tested.{plan-length, certificate-refused, certificate-work, certificate-plan, certificate-header}
 use borrow.Author.Needs.{needs}

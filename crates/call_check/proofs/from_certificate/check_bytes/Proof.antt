@@ -7,14 +7,14 @@ use mathlib.Core.List.{[]}
 use native.Mathlib.Omega.{arith}
 use lib.ListN.{length}
 use Rattle.lists.specs.Filled.{zeros}
-use Rattle.lists.proofs.Refusals.{refused, passed}
+use Rattle.refusals.proofs.Refusals.{refused, passed}
 use Rattle.lists.proofs.Filled.{length-zeros}
 use Rattle.sparse.specs.Set.{setOf}
 use Rattle.pluq.specs.Judge.{judge}
 use Rattle.certificate.specs.Reading.{headerOk, setOfCertificate}
 use Rattle.certificate.proofs.Passed.{headed, passed-sized}
 use Rattle.certificate.proofs.Views.{header-fits, set-of-parts, part}
-use Rattle.call_plan.specs.Limits.{workLength}
+use Rattle.limits.specs.Limits.{workLength}
 use Rattle.call_plan.proofs.Lists.{viewed-lists}
 use Rattle.call_check.specs.Calls.{certificateOutcome, checkCertificateOf}
 use Rattle.call_plan.specs.Accepted.{GoodPlan}

@@ -3,7 +3,7 @@ use mathlib.Core.Path.{_≡_, sym, ap, _∙_}
 use Rattle.sparse.specs.Matrix.{Compressed, compressed}
 use lib.ListN.{length}
 use Rattle.lists.specs.Filled.{zeros}
-use Rattle.lists.proofs.Refusals.{refused, passed}
+use Rattle.refusals.proofs.Refusals.{refused, passed}
 use Rattle.lists.proofs.Filled.{length-zeros}
 use Rattle.sparse.specs.Set.{Set, setOf}
 use Rattle.pluq.specs.Judge.{judge}

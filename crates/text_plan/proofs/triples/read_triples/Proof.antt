@@ -7,7 +7,7 @@ use denote.Ref.{now}
 use borrow.Author.Needs.{needs}
 use Rattle.lists.proofs.Filled.{length-zeros}
 use Rattle.text_lines.specs.Line.{Ends}
-use Rattle.text_opening.specs.Limits.{startsLength}
+use Rattle.limits.specs.Limits.{startsLength}
 use Rattle.text_opening.proofs.Moduli.{modulus-two}
 use Rattle.text_plan.proofs.EachLine.{line-end, has-feed, next-place}
 use Rattle.text_plan.proofs.Progress.{Progress, progress-starts, starts-long, columns-long, values-long, shows-read, no-line, no-feed, is-refused, is-finished, not-finished, storable, goes-on}
