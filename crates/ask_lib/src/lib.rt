@@ -8,15 +8,15 @@ ghost use Rattle.print_text.specs.Printed.{Prints};
 ghost use Rattle.ask_lib.specs.Held.{answerLineOf, LineReady, heldAnswer, Answerable, AnswerHeld, RowCountable, stagesRefusal, stagedLine, AskStagedReady};
 use call_answer::Answer;
 use call_answer::from_factors::answer_from_factors;
-use refusals::Outcome;
-use print_text::answer::write_answer;
-use print_text::report::from_one;
-use print_text::report::write_refusal;
-use stages::Stages;
-use stages::factor_text;
 use limits::ENTRY_CELLS;
 use limits::SIZE_CELLS;
 use limits::START_CELLS;
+use print_text::answer::write_answer;
+use print_text::report::from_one;
+use print_text::report::write_refusal;
+use refusals::Outcome;
+use stages::Stages;
+use stages::factor_text;
 
 // Writes the line of an answer: of a refusal, whose index counts from 1 in print, or the verdict with the n values of x or the m of z.
 fn write_line(answer: Answer, n: u32, m: u32, xs: &[u32], zs: &[u32], out: &mut [u8]) -> usize
@@ -54,10 +54,10 @@ fn refusal(s: Stages) -> Outcome
 fn answer_held(
     s: Stages,
     starts: &[u32],
-    columns: &[u32],
-    values: &[u32],
-    rows: &[u32],
     cols: &[u32],
+    vals: &[u32],
+    ro: &[u32],
+    co: &[u32],
     ls: &[u32],
     lc: &[u32],
     lv: &[u32],
@@ -69,8 +69,8 @@ fn answer_held(
     z: &mut [u32],
     work: &mut [u64],
 ) -> Answer
-    requires { ⌜ Answerable s (compressed (now starts) (now columns) (now values)) (now rows) (now cols) (compressed (now ls) (now lc) (now lv)) (compressed (now us) (now uc) (now uv)) (now y) (now x) (now z) (now work) ⌝ }
-    ensures { λ a. ⌜ AnswerHeld (heldAnswer s (compressed (now (starts .entry)) (now (columns .entry)) (now (values .entry))) (now (rows .entry)) (now (cols .entry)) (compressed (now (ls .entry)) (now (lc .entry)) (now (lv .entry))) (compressed (now (us .entry)) (now (uc .entry)) (now (uv .entry))) (now (y .entry))) a (s .reading .n) (s .reading .m) (now (x .exit)) (now (z .exit)) (now (work .entry)) (now (work .exit)) ⌝ }
+    requires { ⌜ Answerable s (compressed (now starts) (now cols) (now vals)) (now ro) (now co) (compressed (now ls) (now lc) (now lv)) (compressed (now us) (now uc) (now uv)) (now y) (now x) (now z) (now work) ⌝ }
+    ensures { λ a. ⌜ AnswerHeld (heldAnswer s (compressed (now (starts .entry)) (now (cols .entry)) (now (vals .entry))) (now (ro .entry)) (now (co .entry)) (compressed (now (ls .entry)) (now (lc .entry)) (now (lv .entry))) (compressed (now (us .entry)) (now (uc .entry)) (now (uv .entry))) (now (y .entry))) a (s .reading .n) (s .reading .m) (now (x .exit)) (now (z .exit)) (now (work .entry)) (now (work .exit)) ⌝ }
 {
     let n = s.reading.n as usize;
     let m = s.reading.m as usize;
@@ -83,11 +83,11 @@ fn answer_held(
         s.reading.n,
         s.reading.m,
         &starts[..n + 1],
-        &columns[..count],
-        &values[..count],
+        &cols[..count],
+        &vals[..count],
         s.factored.rank,
-        &rows[..n],
-        &cols[..m],
+        &ro[..n],
+        &co[..m],
         &ls[..n + 1],
         &lc[..lower],
         &lv[..lower],
@@ -105,10 +105,10 @@ fn answer_held(
 fn ask_staged(
     s: Stages,
     starts: &[u32],
-    columns: &[u32],
-    values: &[u32],
-    rows: &[u32],
     cols: &[u32],
+    vals: &[u32],
+    ro: &[u32],
+    co: &[u32],
     ls: &[u32],
     lc: &[u32],
     lv: &[u32],
@@ -119,8 +119,8 @@ fn ask_staged(
     out: &mut [u8],
     work: &mut [u64],
 ) -> usize
-    requires { ⌜ AskStagedReady s (compressed (now starts) (now columns) (now values)) (now rows) (now cols) (compressed (now ls) (now lc) (now lv)) (compressed (now us) (now uc) (now uv)) (now y) (now out) (now work) ⌝ }
-    ensures { λ size. ⌜ Prints (stagedLine s (compressed (now (starts .entry)) (now (columns .entry)) (now (values .entry))) (now (rows .entry)) (now (cols .entry)) (compressed (now (ls .entry)) (now (lc .entry)) (now (lv .entry))) (compressed (now (us .entry)) (now (uc .entry)) (now (uv .entry))) (now (y .entry))) size (now (out .entry)) (now (out .exit)) (now (work .entry)) (now (work .exit)) ⌝ }
+    requires { ⌜ AskStagedReady s (compressed (now starts) (now cols) (now vals)) (now ro) (now co) (compressed (now ls) (now lc) (now lv)) (compressed (now us) (now uc) (now uv)) (now y) (now out) (now work) ⌝ }
+    ensures { λ size. ⌜ Prints (stagedLine s (compressed (now (starts .entry)) (now (cols .entry)) (now (vals .entry))) (now (ro .entry)) (now (co .entry)) (compressed (now (ls .entry)) (now (lc .entry)) (now (lv .entry))) (compressed (now (us .entry)) (now (uc .entry)) (now (uv .entry))) (now (y .entry))) size (now (out .entry)) (now (out .exit)) (now (work .entry)) (now (work .exit)) ⌝ }
 {
     let refused = refusal(s);
     if let Outcome::Refused(number, detail) = refused {
@@ -131,10 +131,10 @@ fn ask_staged(
     let answer = answer_held(
         s,
         starts,
-        columns,
-        values,
-        rows,
         cols,
+        vals,
+        ro,
+        co,
         ls,
         lc,
         lv,
@@ -158,10 +158,10 @@ pub fn ask(text: &[u8], y: &[u32], out: &mut [u8], work: &mut [u64]) -> usize
     ensures { λ size. ⌜ Asks (now (text .entry)) (now (y .entry)) size (now (out .entry)) (now (out .exit)) (now (work .entry)) (now (work .exit)) ⌝ }
 {
     let mut starts = [0u32; START_CELLS];
-    let mut columns = [0u32; ENTRY_CELLS];
-    let mut values = [0u32; ENTRY_CELLS];
-    let mut rows = [0u32; SIZE_CELLS];
-    let mut cols = [0u32; SIZE_CELLS];
+    let mut cols = [0u32; ENTRY_CELLS];
+    let mut vals = [0u32; ENTRY_CELLS];
+    let mut ro = [0u32; SIZE_CELLS];
+    let mut co = [0u32; SIZE_CELLS];
     let mut ls = [0u32; START_CELLS];
     let mut lc = [0u32; ENTRY_CELLS];
     let mut lv = [0u32; ENTRY_CELLS];
@@ -171,10 +171,10 @@ pub fn ask(text: &[u8], y: &[u32], out: &mut [u8], work: &mut [u64]) -> usize
     let s = factor_text(
         text,
         &mut starts,
-        &mut columns,
-        &mut values,
-        &mut rows,
         &mut cols,
+        &mut vals,
+        &mut ro,
+        &mut co,
         &mut ls,
         &mut lc,
         &mut lv,
@@ -186,10 +186,10 @@ pub fn ask(text: &[u8], y: &[u32], out: &mut [u8], work: &mut [u64]) -> usize
     ask_staged(
         s,
         &starts,
-        &columns,
-        &values,
-        &rows,
         &cols,
+        &vals,
+        &ro,
+        &co,
         &ls,
         &lc,
         &lv,

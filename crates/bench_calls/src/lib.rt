@@ -4,15 +4,15 @@ ghost use mathlib.Core.Path.{_≡_};
 ghost use lib.ListN.{length};
 ghost use Rattle.byte_buffer.specs.Stored.{Fills};
 ghost use Rattle.bench_calls.specs.Timed.{heldRank, timedRank, timedReport};
-use lists::clear_bytes;
-use report_lib::report;
-use stages::Stages;
-use stages::factor_text;
 use limits::ENTRY_CELLS;
 use limits::PRINT_ROOM;
 use limits::SIZE_CELLS;
 use limits::START_CELLS;
 use limits::WORK_CELLS;
+use lists::clear_bytes;
+use report_lib::report;
+use stages::Stages;
+use stages::factor_text;
 
 // The rank that the stages found, 0 where one of them refused.
 fn rank_staged(s: Stages) -> u64
@@ -38,10 +38,10 @@ pub extern "C" fn plq_time_factoring(text: &[u8]) -> u64
     ensures { λ z. ⌜ z ≡ timedRank (now (text .entry)) ⌝ }
 {
     let mut starts = [0u32; START_CELLS];
-    let mut columns = [0u32; ENTRY_CELLS];
-    let mut values = [0u32; ENTRY_CELLS];
-    let mut rows = [0u32; SIZE_CELLS];
-    let mut cols = [0u32; SIZE_CELLS];
+    let mut cols = [0u32; ENTRY_CELLS];
+    let mut vals = [0u32; ENTRY_CELLS];
+    let mut ro = [0u32; SIZE_CELLS];
+    let mut co = [0u32; SIZE_CELLS];
     let mut ls = [0u32; START_CELLS];
     let mut lc = [0u32; ENTRY_CELLS];
     let mut lv = [0u32; ENTRY_CELLS];
@@ -52,10 +52,10 @@ pub extern "C" fn plq_time_factoring(text: &[u8]) -> u64
     let s = factor_text(
         text,
         &mut starts,
-        &mut columns,
-        &mut values,
-        &mut rows,
         &mut cols,
+        &mut vals,
+        &mut ro,
+        &mut co,
         &mut ls,
         &mut lc,
         &mut lv,

@@ -12,22 +12,22 @@ use crate::answer_of;
 use crate::question::question_lengths;
 use answer_question::answer::answer;
 use answer_question::question::question_ok;
+use call_check::from_certificate::check_bytes;
 use certificate::parts::number;
 use certificate::parts::places_in;
-use call_check::from_certificate::check_bytes;
-use refusals::Outcome;
 use lists::clear;
 use lists::clear_row;
+use refusals::Outcome;
+use refusals::numbers::WRONG_LENGTH;
 use residue::Modulus;
 use row_space::Verdict;
-use refusals::numbers::WRONG_LENGTH;
 
 // The tests of a call with a certificate: 9, 1, 2, 8, 10, 11 to 14, 15. The working row is left all zero.
 fn asked_of_certificate(
     q: Modulus,
     n: u32,
     m: u32,
-    ss: &[u32],
+    starts: &[u32],
     cols: &[u32],
     vals: &[u32],
     cert: &[u8],
@@ -36,13 +36,13 @@ fn asked_of_certificate(
     zlen: usize,
     work: &mut [u64],
 ) -> Outcome
-    ensures { λ o. ⌜ Checks (questionAfter (checkCertificateOf (q .p) n m (compressed (now (ss .entry)) (now (cols .entry)) (now (vals .entry))) (now (cert .entry)) (length (now (work .entry)))) (q .p) n m (now (y .entry)) xlen zlen) o (now (work .entry)) (now (work .exit)) ⌝ }
+    ensures { λ o. ⌜ Checks (questionAfter (checkCertificateOf (q .p) n m (compressed (now (starts .entry)) (now (cols .entry)) (now (vals .entry))) (now (cert .entry)) (length (now (work .entry)))) (q .p) n m (now (y .entry)) xlen zlen) o (now (work .entry)) (now (work .exit)) ⌝ }
 {
     if !question_lengths(n, m, y, xlen, zlen) {
         clear_row(work);
         return Outcome::Refused(WRONG_LENGTH, 0);
     }
-    let checked = check_bytes(q, n, m, ss, cols, vals, cert, work);
+    let checked = check_bytes(q, n, m, starts, cols, vals, cert, work);
     let Outcome::Passed = checked else {
         return checked;
     };
@@ -65,34 +65,34 @@ fn answer_parts(
 {
     let places = places_in(cert, n, m);
     let r = number(cert, 3);
-    let a = places.rows;
-    let b = places.cols;
-    let c = places.lstarts;
-    let d = places.lcols;
-    let e = places.lvals;
-    let f = places.ustarts;
-    let g = places.ucols;
-    let h = places.uvals;
-    let i = places.end;
+    let ro = places.ro;
+    let co = places.co;
+    let ls = places.ls;
+    let lc = places.lc;
+    let lv = places.lv;
+    let us = places.us;
+    let uc = places.uc;
+    let uv = places.uv;
+    let end = places.end;
     let none: &[u32] = &[];
     answer(
         q,
         none,
-        &cert[a..b],
+        &cert[ro..co],
         none,
-        &cert[b..c],
+        &cert[co..ls],
         none,
-        &cert[c..d],
+        &cert[ls..lc],
         none,
-        &cert[d..e],
+        &cert[lc..lv],
         none,
-        &cert[e..f],
+        &cert[lv..us],
         none,
-        &cert[f..g],
+        &cert[us..uc],
         none,
-        &cert[g..h],
+        &cert[uc..uv],
         none,
-        &cert[h..i],
+        &cert[uv..end],
         r as usize,
         y,
         x,
@@ -110,7 +110,7 @@ pub fn answer_from_certificate(
     p: u32,
     n: u32,
     m: u32,
-    ss: &[u32],
+    starts: &[u32],
     cols: &[u32],
     vals: &[u32],
     cert: &[u8],
@@ -119,10 +119,10 @@ pub fn answer_from_certificate(
     z: &mut [u32],
     work: &mut [u64],
 ) -> Answer
-    ensures { λ a. ⌜ Answers (answerCertificateOf p n m (compressed (now (ss .entry)) (now (cols .entry)) (now (vals .entry))) (now (cert .entry)) (now (y .entry)) (length (now (x .entry))) (length (now (z .entry))) (length (now (work .entry)))) a (now (x .entry)) (now (x .exit)) (now (z .entry)) (now (z .exit)) (now (work .entry)) (now (work .exit)) ⌝ }
+    ensures { λ a. ⌜ Answers (answerCertificateOf p n m (compressed (now (starts .entry)) (now (cols .entry)) (now (vals .entry))) (now (cert .entry)) (now (y .entry)) (length (now (x .entry))) (length (now (z .entry))) (length (now (work .entry)))) a (now (x .entry)) (now (x .exit)) (now (z .entry)) (now (z .exit)) (now (work .entry)) (now (work .exit)) ⌝ }
 {
     let q = Modulus { p };
-    let asked = asked_of_certificate(q, n, m, ss, cols, vals, cert, y, x.len(), z.len(), work);
+    let asked = asked_of_certificate(q, n, m, starts, cols, vals, cert, y, x.len(), z.len(), work);
     if let Outcome::Refused(number, detail) = asked {
         clear(x);
         clear(z);

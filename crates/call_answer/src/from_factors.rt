@@ -13,19 +13,19 @@ use crate::question::question_lengths;
 use answer_question::answer::answer;
 use answer_question::question::question_ok;
 use call_check::from_factors::check_stored;
-use refusals::Outcome;
 use lists::clear;
 use lists::clear_row;
+use refusals::Outcome;
+use refusals::numbers::WRONG_LENGTH;
 use residue::Modulus;
 use row_space::Verdict;
-use refusals::numbers::WRONG_LENGTH;
 
 // The tests of a call with stored factors: 9, 1, 2, 8, 11 to 14, 15. The working row is left all zero.
 fn asked_of_factors(
     q: Modulus,
     n: u32,
     m: u32,
-    ss: &[u32],
+    starts: &[u32],
     cols: &[u32],
     vals: &[u32],
     r: u32,
@@ -42,7 +42,7 @@ fn asked_of_factors(
     zlen: usize,
     work: &mut [u64],
 ) -> Outcome
-    ensures { λ o. ⌜ Checks (questionAfter (checkFactorsOf (q .p) n m (compressed (now (ss .entry)) (now (cols .entry)) (now (vals .entry))) (setOf r (now (ro .entry)) (now (co .entry)) (compressed (now (ls .entry)) (now (lc .entry)) (now (lv .entry))) (compressed (now (us .entry)) (now (uc .entry)) (now (uv .entry)))) (length (now (work .entry)))) (q .p) n m (now (y .entry)) xlen zlen) o (now (work .entry)) (now (work .exit)) ⌝ }
+    ensures { λ o. ⌜ Checks (questionAfter (checkFactorsOf (q .p) n m (compressed (now (starts .entry)) (now (cols .entry)) (now (vals .entry))) (setOf r (now (ro .entry)) (now (co .entry)) (compressed (now (ls .entry)) (now (lc .entry)) (now (lv .entry))) (compressed (now (us .entry)) (now (uc .entry)) (now (uv .entry)))) (length (now (work .entry)))) (q .p) n m (now (y .entry)) xlen zlen) o (now (work .entry)) (now (work .exit)) ⌝ }
 {
     if !question_lengths(n, m, y, xlen, zlen) {
         clear_row(work);
@@ -52,7 +52,7 @@ fn asked_of_factors(
         q,
         n,
         m,
-        ss,
+        starts,
         cols,
         vals,
         r,
@@ -129,7 +129,7 @@ pub fn answer_from_factors(
     p: u32,
     n: u32,
     m: u32,
-    ss: &[u32],
+    starts: &[u32],
     cols: &[u32],
     vals: &[u32],
     r: u32,
@@ -146,14 +146,14 @@ pub fn answer_from_factors(
     z: &mut [u32],
     work: &mut [u64],
 ) -> Answer
-    ensures { λ a. ⌜ Answers (answerFactorsOf p n m (compressed (now (ss .entry)) (now (cols .entry)) (now (vals .entry))) (setOf r (now (ro .entry)) (now (co .entry)) (compressed (now (ls .entry)) (now (lc .entry)) (now (lv .entry))) (compressed (now (us .entry)) (now (uc .entry)) (now (uv .entry)))) (now (y .entry)) (length (now (x .entry))) (length (now (z .entry))) (length (now (work .entry)))) a (now (x .entry)) (now (x .exit)) (now (z .entry)) (now (z .exit)) (now (work .entry)) (now (work .exit)) ⌝ }
+    ensures { λ a. ⌜ Answers (answerFactorsOf p n m (compressed (now (starts .entry)) (now (cols .entry)) (now (vals .entry))) (setOf r (now (ro .entry)) (now (co .entry)) (compressed (now (ls .entry)) (now (lc .entry)) (now (lv .entry))) (compressed (now (us .entry)) (now (uc .entry)) (now (uv .entry)))) (now (y .entry)) (length (now (x .entry))) (length (now (z .entry))) (length (now (work .entry)))) a (now (x .entry)) (now (x .exit)) (now (z .entry)) (now (z .exit)) (now (work .entry)) (now (work .exit)) ⌝ }
 {
     let q = Modulus { p };
     let asked = asked_of_factors(
         q,
         n,
         m,
-        ss,
+        starts,
         cols,
         vals,
         r,

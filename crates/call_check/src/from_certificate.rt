@@ -9,33 +9,33 @@ use certificate::header::header_ok;
 use certificate::parts::number;
 use certificate::parts::places_in;
 use check_set::check;
-use refusals::Outcome;
-use lists::clear_row;
-use residue::Modulus;
 use limits::WORK_CELLS;
+use lists::clear_row;
+use refusals::Outcome;
 use refusals::numbers::BAD_HEADER;
 use refusals::numbers::WRONG_LENGTH;
+use residue::Modulus;
 
 // The lengths, the plan and the header of a call with a certificate: 9, 1, 2, 8, 10.
 fn certificate_outcome(
     p: u32,
     n: u32,
     m: u32,
-    ss: &[u32],
+    starts: &[u32],
     cols: &[u32],
     vals: &[u32],
     cert: &[u8],
     width: usize,
 ) -> Outcome
-    ensures { λ o. ⌜ o ≡ certificateOutcome p n m (compressed (now (ss .entry)) (now (cols .entry)) (now (vals .entry))) (now (cert .entry)) width ⌝ }
+    ensures { λ o. ⌜ o ≡ certificateOutcome p n m (compressed (now (starts .entry)) (now (cols .entry)) (now (vals .entry))) (now (cert .entry)) width ⌝ }
 {
-    if !plan_lengths(n, ss, cols, vals) {
+    if !plan_lengths(n, starts, cols, vals) {
         return Outcome::Refused(WRONG_LENGTH, 0);
     }
     if width != WORK_CELLS {
         return Outcome::Refused(WRONG_LENGTH, 0);
     }
-    let plan = plan_outcome(p, n, m, ss, cols, vals);
+    let plan = plan_outcome(p, n, m, starts, cols, vals);
     let Outcome::Passed = plan else {
         return plan;
     };
@@ -50,56 +50,56 @@ pub fn check_bytes(
     q: Modulus,
     n: u32,
     m: u32,
-    ss: &[u32],
+    starts: &[u32],
     cols: &[u32],
     vals: &[u32],
     cert: &[u8],
     work: &mut [u64],
 ) -> Outcome
-    ensures { λ o. ⌜ Checks (checkCertificateOf (q .p) n m (compressed (now (ss .entry)) (now (cols .entry)) (now (vals .entry))) (now (cert .entry)) (length (now (work .entry)))) o (now (work .entry)) (now (work .exit)) ⌝ }
+    ensures { λ o. ⌜ Checks (checkCertificateOf (q .p) n m (compressed (now (starts .entry)) (now (cols .entry)) (now (vals .entry))) (now (cert .entry)) (length (now (work .entry)))) o (now (work .entry)) (now (work .exit)) ⌝ }
 {
     clear_row(work);
-    let tested = certificate_outcome(q.p, n, m, ss, cols, vals, cert, work.len());
+    let tested = certificate_outcome(q.p, n, m, starts, cols, vals, cert, work.len());
     let Outcome::Passed = tested else {
         return tested;
     };
     let places = places_in(cert, n, m);
     let r = number(cert, 3);
-    let a = places.rows;
-    let b = places.cols;
-    let c = places.lstarts;
-    let d = places.lcols;
-    let e = places.lvals;
-    let f = places.ustarts;
-    let g = places.ucols;
-    let h = places.uvals;
-    let i = places.end;
+    let ro = places.ro;
+    let co = places.co;
+    let ls = places.ls;
+    let lc = places.lc;
+    let lv = places.lv;
+    let us = places.us;
+    let uc = places.uc;
+    let uv = places.uv;
+    let end = places.end;
     let none: &[u8] = b"";
     let empty: &[u32] = &[];
     check(
         q,
-        ss,
+        starts,
         none,
         cols,
         none,
         vals,
         none,
         empty,
-        &cert[a..b],
+        &cert[ro..co],
         empty,
-        &cert[b..c],
+        &cert[co..ls],
         empty,
-        &cert[c..d],
+        &cert[ls..lc],
         empty,
-        &cert[d..e],
+        &cert[lc..lv],
         empty,
-        &cert[e..f],
+        &cert[lv..us],
         empty,
-        &cert[f..g],
+        &cert[us..uc],
         empty,
-        &cert[g..h],
+        &cert[uc..uv],
         empty,
-        &cert[h..i],
+        &cert[uv..end],
         n,
         m,
         r,
@@ -116,14 +116,14 @@ pub fn check_certificate(
     p: u32,
     n: u32,
     m: u32,
-    ss: &[u32],
+    starts: &[u32],
     cols: &[u32],
     vals: &[u32],
     cert: &[u8],
     work: &mut [u64],
 ) -> Outcome
-    ensures { λ o. ⌜ Checks (checkCertificateOf p n m (compressed (now (ss .entry)) (now (cols .entry)) (now (vals .entry))) (now (cert .entry)) (length (now (work .entry)))) o (now (work .entry)) (now (work .exit)) ⌝ }
+    ensures { λ o. ⌜ Checks (checkCertificateOf p n m (compressed (now (starts .entry)) (now (cols .entry)) (now (vals .entry))) (now (cert .entry)) (length (now (work .entry)))) o (now (work .entry)) (now (work .exit)) ⌝ }
 {
     let q = Modulus { p };
-    check_bytes(q, n, m, ss, cols, vals, cert, work)
+    check_bytes(q, n, m, starts, cols, vals, cert, work)
 }

@@ -8,18 +8,18 @@ use call_plan::plan_lengths;
 use call_plan::plan_outcome;
 use call_plan::set_lengths;
 use check_set::check;
-use refusals::Outcome;
-use lists::clear_row;
-use residue::Modulus;
 use limits::WORK_CELLS;
+use lists::clear_row;
+use refusals::Outcome;
 use refusals::numbers::WRONG_LENGTH;
+use residue::Modulus;
 
 // The lengths and the plan of a call with stored factors: 9, 1, 2, 8.
 fn factors_outcome(
     p: u32,
     n: u32,
     m: u32,
-    ss: &[u32],
+    starts: &[u32],
     cols: &[u32],
     vals: &[u32],
     r: u32,
@@ -33,9 +33,9 @@ fn factors_outcome(
     uv: &[u32],
     width: usize,
 ) -> Outcome
-    ensures { λ o. ⌜ o ≡ factorsOutcome p n m (compressed (now (ss .entry)) (now (cols .entry)) (now (vals .entry))) (setOf r (now (ro .entry)) (now (co .entry)) (compressed (now (ls .entry)) (now (lc .entry)) (now (lv .entry))) (compressed (now (us .entry)) (now (uc .entry)) (now (uv .entry)))) width ⌝ }
+    ensures { λ o. ⌜ o ≡ factorsOutcome p n m (compressed (now (starts .entry)) (now (cols .entry)) (now (vals .entry))) (setOf r (now (ro .entry)) (now (co .entry)) (compressed (now (ls .entry)) (now (lc .entry)) (now (lv .entry))) (compressed (now (us .entry)) (now (uc .entry)) (now (uv .entry)))) width ⌝ }
 {
-    if !plan_lengths(n, ss, cols, vals) {
+    if !plan_lengths(n, starts, cols, vals) {
         return Outcome::Refused(WRONG_LENGTH, 0);
     }
     if !set_lengths(n, m, r, ro, co, ls, lc, lv, us, uc, uv) {
@@ -44,7 +44,7 @@ fn factors_outcome(
     if width != WORK_CELLS {
         return Outcome::Refused(WRONG_LENGTH, 0);
     }
-    plan_outcome(p, n, m, ss, cols, vals)
+    plan_outcome(p, n, m, starts, cols, vals)
 }
 
 // The check of stored factors for a call that has made its modulus: the other calls on a stored set begin with it.
@@ -52,7 +52,7 @@ pub fn check_stored(
     q: Modulus,
     n: u32,
     m: u32,
-    ss: &[u32],
+    starts: &[u32],
     cols: &[u32],
     vals: &[u32],
     r: u32,
@@ -66,14 +66,14 @@ pub fn check_stored(
     uv: &[u32],
     work: &mut [u64],
 ) -> Outcome
-    ensures { λ o. ⌜ Checks (checkFactorsOf (q .p) n m (compressed (now (ss .entry)) (now (cols .entry)) (now (vals .entry))) (setOf r (now (ro .entry)) (now (co .entry)) (compressed (now (ls .entry)) (now (lc .entry)) (now (lv .entry))) (compressed (now (us .entry)) (now (uc .entry)) (now (uv .entry)))) (length (now (work .entry)))) o (now (work .entry)) (now (work .exit)) ⌝ }
+    ensures { λ o. ⌜ Checks (checkFactorsOf (q .p) n m (compressed (now (starts .entry)) (now (cols .entry)) (now (vals .entry))) (setOf r (now (ro .entry)) (now (co .entry)) (compressed (now (ls .entry)) (now (lc .entry)) (now (lv .entry))) (compressed (now (us .entry)) (now (uc .entry)) (now (uv .entry)))) (length (now (work .entry)))) o (now (work .entry)) (now (work .exit)) ⌝ }
 {
     clear_row(work);
     let tested = factors_outcome(
         q.p,
         n,
         m,
-        ss,
+        starts,
         cols,
         vals,
         r,
@@ -93,7 +93,7 @@ pub fn check_stored(
     let none: &[u8] = b"";
     check(
         q,
-        ss,
+        starts,
         none,
         cols,
         none,
@@ -131,7 +131,7 @@ pub fn check_factors(
     p: u32,
     n: u32,
     m: u32,
-    ss: &[u32],
+    starts: &[u32],
     cols: &[u32],
     vals: &[u32],
     r: u32,
@@ -145,14 +145,14 @@ pub fn check_factors(
     uv: &[u32],
     work: &mut [u64],
 ) -> Outcome
-    ensures { λ o. ⌜ Checks (checkFactorsOf p n m (compressed (now (ss .entry)) (now (cols .entry)) (now (vals .entry))) (setOf r (now (ro .entry)) (now (co .entry)) (compressed (now (ls .entry)) (now (lc .entry)) (now (lv .entry))) (compressed (now (us .entry)) (now (uc .entry)) (now (uv .entry)))) (length (now (work .entry)))) o (now (work .entry)) (now (work .exit)) ⌝ }
+    ensures { λ o. ⌜ Checks (checkFactorsOf p n m (compressed (now (starts .entry)) (now (cols .entry)) (now (vals .entry))) (setOf r (now (ro .entry)) (now (co .entry)) (compressed (now (ls .entry)) (now (lc .entry)) (now (lv .entry))) (compressed (now (us .entry)) (now (uc .entry)) (now (uv .entry)))) (length (now (work .entry)))) o (now (work .entry)) (now (work .exit)) ⌝ }
 {
     let q = Modulus { p };
     check_stored(
         q,
         n,
         m,
-        ss,
+        starts,
         cols,
         vals,
         r,

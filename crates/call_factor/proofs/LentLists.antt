@@ -19,23 +19,23 @@ agrees : (a b : ℕ) (rest x : Bool) → a ≡ b → x ≡ rest → x ≡ (eqb a
 agrees a b rest x e q = chain-true (eqb a b) rest x (eq-eqb a b e) q
 
 module _ (n m : ℕ) (l : Lent) where
-  abbrev from-uvals : Bool
-  from-uvals = eqb (l .work) workLength
+  abbrev from-uv : Bool
+  from-uv = eqb (l .work) workLength
 
-  abbrev from-ucols : Bool
-  from-ucols = eqb (l .ucols) (l .uvals) && from-uvals
+  abbrev from-uc : Bool
+  from-uc = eqb (l .uc) (l .uv) && from-uv
 
-  abbrev from-ustarts : Bool
-  from-ustarts = eqb (l .ustarts) (n + 1) && from-ucols
+  abbrev from-us : Bool
+  from-us = eqb (l .us) (n + 1) && from-uc
 
-  abbrev from-lcols : Bool
-  from-lcols = eqb (l .lcols) (l .lvals) && from-ustarts
+  abbrev from-lc : Bool
+  from-lc = eqb (l .lc) (l .lv) && from-us
 
-  abbrev from-lstarts : Bool
-  from-lstarts = eqb (l .lstarts) (n + 1) && from-lcols
+  abbrev from-ls : Bool
+  from-ls = eqb (l .ls) (n + 1) && from-lc
 
   abbrev from-columns : Bool
-  from-columns = eqb (l .columns) m && from-lstarts
+  from-columns = eqb (l .columns) m && from-ls
 
   module _ (k : ℕ) (ek : k ≡ n) where
     pub rows-differ : (l .rows ≡ k → ⊥) → false ≡ lentLengths n m l
@@ -48,38 +48,38 @@ module _ (n m : ℕ) (l : Lent) where
       on-rows x q = agrees (l .rows) n from-columns x (rows ∙ ek) q
 
       pub columns-differ : (j : ℕ) → j ≡ m → (l .columns ≡ j → ⊥) → false ≡ lentLengths n m l
-      columns-differ j ej h = on-rows false (differs (l .columns) m from-lstarts (λ e. h (e ∙ sym ej)))
+      columns-differ j ej h = on-rows false (differs (l .columns) m from-ls (λ e. h (e ∙ sym ej)))
 
       module _ (j : ℕ) (ej : j ≡ m) (columns : l .columns ≡ j) where
-        on-columns : (x : Bool) → x ≡ from-lstarts → x ≡ lentLengths n m l
-        on-columns x q = on-rows x (agrees (l .columns) m from-lstarts x (columns ∙ ej) q)
+        on-columns : (x : Bool) → x ≡ from-ls → x ≡ lentLengths n m l
+        on-columns x q = on-rows x (agrees (l .columns) m from-ls x (columns ∙ ej) q)
 
-        pub lstarts-differ : (l .lstarts ≡ k + 1 → ⊥) → false ≡ lentLengths n m l
-        lstarts-differ h = on-columns false (differs (l .lstarts) (n + 1) from-lcols (λ e. h (omega arith)))
+        pub ls-differ : (l .ls ≡ k + 1 → ⊥) → false ≡ lentLengths n m l
+        ls-differ h = on-columns false (differs (l .ls) (n + 1) from-lc (λ e. h (omega arith)))
 
-        module _ (lstarts : l .lstarts ≡ k + 1) where
-          on-lstarts : (x : Bool) → x ≡ from-lcols → x ≡ lentLengths n m l
-          on-lstarts x q = on-columns x (agrees (l .lstarts) (n + 1) from-lcols x (omega arith) q)
+        module _ (ls : l .ls ≡ k + 1) where
+          on-ls : (x : Bool) → x ≡ from-lc → x ≡ lentLengths n m l
+          on-ls x q = on-columns x (agrees (l .ls) (n + 1) from-lc x (omega arith) q)
 
-          pub lower-differs : (l .lcols ≡ l .lvals → ⊥) → false ≡ lentLengths n m l
-          lower-differs h = on-lstarts false (differs (l .lcols) (l .lvals) from-ustarts h)
+          pub lower-differs : (l .lc ≡ l .lv → ⊥) → false ≡ lentLengths n m l
+          lower-differs h = on-ls false (differs (l .lc) (l .lv) from-us h)
 
-          module _ (lower : l .lcols ≡ l .lvals) where
-            on-lower : (x : Bool) → x ≡ from-ustarts → x ≡ lentLengths n m l
-            on-lower x q = on-lstarts x (agrees (l .lcols) (l .lvals) from-ustarts x lower q)
+          module _ (lower : l .lc ≡ l .lv) where
+            on-lower : (x : Bool) → x ≡ from-us → x ≡ lentLengths n m l
+            on-lower x q = on-ls x (agrees (l .lc) (l .lv) from-us x lower q)
 
-            pub ustarts-differ : (l .ustarts ≡ k + 1 → ⊥) → false ≡ lentLengths n m l
-            ustarts-differ h = on-lower false (differs (l .ustarts) (n + 1) from-ucols (λ e. h (omega arith)))
+            pub us-differ : (l .us ≡ k + 1 → ⊥) → false ≡ lentLengths n m l
+            us-differ h = on-lower false (differs (l .us) (n + 1) from-uc (λ e. h (omega arith)))
 
-            module _ (ustarts : l .ustarts ≡ k + 1) where
-              on-ustarts : (x : Bool) → x ≡ from-ucols → x ≡ lentLengths n m l
-              on-ustarts x q = on-lower x (agrees (l .ustarts) (n + 1) from-ucols x (omega arith) q)
+            module _ (us : l .us ≡ k + 1) where
+              on-us : (x : Bool) → x ≡ from-uc → x ≡ lentLengths n m l
+              on-us x q = on-lower x (agrees (l .us) (n + 1) from-uc x (omega arith) q)
 
-              pub upper-differs : (l .ucols ≡ l .uvals → ⊥) → false ≡ lentLengths n m l
-              upper-differs h = on-ustarts false (differs (l .ucols) (l .uvals) from-uvals h)
+              pub upper-differs : (l .uc ≡ l .uv → ⊥) → false ≡ lentLengths n m l
+              upper-differs h = on-us false (differs (l .uc) (l .uv) from-uv h)
 
-              pub upper-agrees : l .ucols ≡ l .uvals → eqb (l .work) workLength ≡ lentLengths n m l
-              upper-agrees e = on-ustarts from-uvals (agrees (l .ucols) (l .uvals) from-uvals from-uvals e refl)
+              pub upper-agrees : l .uc ≡ l .uv → eqb (l .work) workLength ≡ lentLengths n m l
+              upper-agrees e = on-us from-uv (agrees (l .uc) (l .uv) from-uv from-uv e refl)
 
 -- ---- the lengths that are tested
 
@@ -87,18 +87,18 @@ pub lent-right : (n m : ℕ) (l : Lent) → lentLengths n m l ≡ true → LentR
 unfolding lentLengths
 lent-right n m l h₀ =
     let h₁ = and-right (eqb (l .rows) n) (from-columns n m l) h₀ in
-    let h₂ = and-right (eqb (l .columns) m) (from-lstarts n m l) h₁ in
-    let h₃ = and-right (eqb (l .lstarts) (n + 1)) (from-lcols n m l) h₂ in
-    let h₄ = and-right (eqb (l .lcols) (l .lvals)) (from-ustarts n m l) h₃ in
-    let h₅ = and-right (eqb (l .ustarts) (n + 1)) (from-ucols n m l) h₄ in
+    let h₂ = and-right (eqb (l .columns) m) (from-ls n m l) h₁ in
+    let h₃ = and-right (eqb (l .ls) (n + 1)) (from-lc n m l) h₂ in
+    let h₄ = and-right (eqb (l .lc) (l .lv)) (from-us n m l) h₃ in
+    let h₅ = and-right (eqb (l .us) (n + 1)) (from-uc n m l) h₄ in
     record {
       rows = eqb-true (l .rows) n (and-left (eqb (l .rows) n) (from-columns n m l) h₀);
-      columns = eqb-true (l .columns) m (and-left (eqb (l .columns) m) (from-lstarts n m l) h₁);
-      lstarts = eqb-true (l .lstarts) (n + 1) (and-left (eqb (l .lstarts) (n + 1)) (from-lcols n m l) h₂);
-      lower = eqb-true (l .lcols) (l .lvals) (and-left (eqb (l .lcols) (l .lvals)) (from-ustarts n m l) h₃);
-      ustarts = eqb-true (l .ustarts) (n + 1) (and-left (eqb (l .ustarts) (n + 1)) (from-ucols n m l) h₄);
-      upper = eqb-true (l .ucols) (l .uvals) (and-left (eqb (l .ucols) (l .uvals)) (from-uvals n m l) h₅);
-      work = eqb-true (l .work) workLength (and-right (eqb (l .ucols) (l .uvals)) (from-uvals n m l) h₅);
+      columns = eqb-true (l .columns) m (and-left (eqb (l .columns) m) (from-ls n m l) h₁);
+      ls = eqb-true (l .ls) (n + 1) (and-left (eqb (l .ls) (n + 1)) (from-lc n m l) h₂);
+      lower = eqb-true (l .lc) (l .lv) (and-left (eqb (l .lc) (l .lv)) (from-us n m l) h₃);
+      us = eqb-true (l .us) (n + 1) (and-left (eqb (l .us) (n + 1)) (from-uc n m l) h₄);
+      upper = eqb-true (l .uc) (l .uv) (and-left (eqb (l .uc) (l .uv)) (from-uv n m l) h₅);
+      work = eqb-true (l .work) workLength (and-right (eqb (l .uc) (l .uv)) (from-uv n m l) h₅);
     }
 
 pub right-lent : (n m : ℕ) (l : Lent) → LentRight n m l → lentLengths n m l ≡ true
@@ -106,8 +106,8 @@ unfolding lentLengths
 right-lent n m l h =
     rw (eq-eqb (l .rows) n (h .rows))
     (rw (eq-eqb (l .columns) m (h .columns))
-    (rw (eq-eqb (l .lstarts) (n + 1) (h .lstarts))
-    (rw (eq-eqb (l .lcols) (l .lvals) (h .lower))
-    (rw (eq-eqb (l .ustarts) (n + 1) (h .ustarts))
-    (rw (eq-eqb (l .ucols) (l .uvals) (h .upper))
+    (rw (eq-eqb (l .ls) (n + 1) (h .ls))
+    (rw (eq-eqb (l .lc) (l .lv) (h .lower))
+    (rw (eq-eqb (l .us) (n + 1) (h .us))
+    (rw (eq-eqb (l .uc) (l .uv) (h .upper))
     (eq-eqb (l .work) workLength (h .work)))))))

@@ -24,12 +24,12 @@ use Rattle.call_factor.proofs.LentLists.{lent-right}
 pub record Kept (l l′ : Lent) : Type 0 where
   pub rows : l′ .rows ≡ l .rows
   pub columns : l′ .columns ≡ l .columns
-  pub lstarts : l′ .lstarts ≡ l .lstarts
-  pub lcols : l′ .lcols ≡ l .lcols
-  pub lvals : l′ .lvals ≡ l .lvals
-  pub ustarts : l′ .ustarts ≡ l .ustarts
-  pub ucols : l′ .ucols ≡ l .ucols
-  pub uvals : l′ .uvals ≡ l .uvals
+  pub ls : l′ .ls ≡ l .ls
+  pub lc : l′ .lc ≡ l .lc
+  pub lv : l′ .lv ≡ l .lv
+  pub us : l′ .us ≡ l .us
+  pub uc : l′ .uc ≡ l .uc
+  pub uv : l′ .uv ≡ l .uv
   pub work : l′ .work ≡ l .work
 
 pub kept-same : (l l′ : Lent) → Kept l l′ → l′ ≡ l
@@ -37,12 +37,12 @@ kept-same l l′ h t =
     record {
       rows = h .rows t;
       columns = h .columns t;
-      lstarts = h .lstarts t;
-      lcols = h .lcols t;
-      lvals = h .lvals t;
-      ustarts = h .ustarts t;
-      ucols = h .ucols t;
-      uvals = h .uvals t;
+      ls = h .ls t;
+      lc = h .lc t;
+      lv = h .lv t;
+      us = h .us t;
+      uc = h .uc t;
+      uv = h .uv t;
       work = h .work t;
     }
 
@@ -60,8 +60,8 @@ module _ (p n m : ℕ) (A : Compressed) (R C : List ℕ) (L U : Compressed) (w :
               prime = modulus-prime p (g .modulus);
               formed = subst (λ (k : ℕ). form p k A ≡ true) (sym (l .columns)) (g .formed);
               rows = omega (arith, g .rows, l .rows);
-              L-starts = omega (arith, l .lstarts, l .rows);
-              U-starts = omega (arith, l .ustarts, l .rows);
+              L-starts = omega (arith, l .ls, l .rows);
+              U-starts = omega (arith, l .us, l .rows);
               L-paired = l .lower;
               U-paired = l .upper;
               n-narrow = omega arith;
@@ -97,12 +97,12 @@ module _ (p n m : ℕ) (A : Compressed) (R C : List ℕ) (L U : Compressed) (w :
   pub call-refused : (l : Lent) (c d : ℕ) → lentOutcome p n m A l ≡ Refused c d → AllClear R C L U w → Leaves (factorCallOf p n m A l) c d 0 0 R C L U w
   unfolding factorCallOf
   call-refused l c d e h =
-      subst (λ (o : tests.Outcome). Leaves (unlessRefused o (factoring p n m A (l .lcols) (l .ucols))) c d 0 0 R C L U w) (sym e) (leaves-refusal c d h)
+      subst (λ (o : tests.Outcome). Leaves (unlessRefused o (factoring p n m A (l .lc) (l .uc))) c d 0 0 R C L U w) (sym e) (leaves-refusal c d h)
 
   -- the lengths are the same before and after clearing
   pub call-done : (l l′ : Lent) → l′ ≡ l → (number detail rank structural : ℕ) → lentOutcome p n m A l ≡ Passed
-      → Leaves (factoring p n m A (l′ .lcols) (l′ .ucols)) number detail rank structural R C L U w → Leaves (factorCallOf p n m A l) number detail rank structural R C L U w
+      → Leaves (factoring p n m A (l′ .lc) (l′ .uc)) number detail rank structural R C L U w → Leaves (factorCallOf p n m A l) number detail rank structural R C L U w
   unfolding factorCallOf
   call-done l l′ same number detail rank structural e h =
-      subst (λ (o : tests.Outcome). Leaves (unlessRefused o (factoring p n m A (l .lcols) (l .ucols))) number detail rank structural R C L U w) (sym e)
-      (subst (λ (k : Lent). Leaves (factoring p n m A (k .lcols) (k .ucols)) number detail rank structural R C L U w) same h)
+      subst (λ (o : tests.Outcome). Leaves (unlessRefused o (factoring p n m A (l .lc) (l .uc))) number detail rank structural R C L U w) (sym e)
+      (subst (λ (k : Lent). Leaves (factoring p n m A (k .lc) (k .uc)) number detail rank structural R C L U w) same h)

@@ -63,15 +63,15 @@ module _ (p n m : ℕ) (A : Compressed) (l : Lent) where
   unfolding among
   lent-zero = zero-passed planFaults (lentOutcome p n m A l) lent-numbers refl
 
-  pub call-factoring : lentOutcome p n m A l ≡ Passed → factorCallOf p n m A l ≡ factoring p n m A (l .lcols) (l .ucols)
+  pub call-factoring : lentOutcome p n m A l ≡ Passed → factorCallOf p n m A l ≡ factoring p n m A (l .lc) (l .uc)
   unfolding factorCallOf
-  call-factoring e = ap (λ (o : tests.Outcome). unlessRefused o (factoring p n m A (l .lcols) (l .ucols))) e
+  call-factoring e = ap (λ (o : tests.Outcome). unlessRefused o (factoring p n m A (l .lc) (l .uc))) e
 
   pub call-passed : factorCallOf p n m A l .number ≡ 0 → lentOutcome p n m A l ≡ Passed
   unfolding factorCallOf
   call-passed e = lent-zero .0 (go (lentOutcome p n m A l) e)
     where
-      go : (o : tests.Outcome) → unlessRefused o (factoring p n m A (l .lcols) (l .ucols)) .number ≡ 0 → numberOf o ≡ 0
+      go : (o : tests.Outcome) → unlessRefused o (factoring p n m A (l .lc) (l .uc)) .number ≡ 0 → numberOf o ≡ 0
       go Passed z = refl
       go (Refused c d) z = z
 
@@ -79,7 +79,7 @@ module _ (p n m : ℕ) (A : Compressed) (l : Lent) where
 
   -- the first row that overflows, if any does
   abbrev pub over : Option ℕ
-  over = firstOver p m (matrix A) (l .lcols) (l .ucols) nothing (schedule n (rules.structural A n m))
+  over = firstOver p m (matrix A) (l .lc) (l .uc) nothing (schedule n (rules.structural A n m))
 
   abbrev pub whole : Outcome
   whole = done (length (rules.structural A n m)) (factor p n m A)
@@ -91,8 +91,8 @@ module _ (p n m : ℕ) (A : Compressed) (l : Lent) where
   pub fits-exactly : (over ≡ none) ↔ FactorsFit p n m A l
   unfolding factor
   fits-exactly = (
-    (λ e. let h = none-enough p n m (matrix A) (rules.structural A n m) (l .lcols) (l .ucols) e in record { lower = h .0; upper = h .1 }),
-    λ h. enough-none p n m (matrix A) (rules.structural A n m) (l .lcols) (l .ucols) (h .lower) (h .upper),
+    (λ e. let h = none-enough p n m (matrix A) (rules.structural A n m) (l .lc) (l .uc) e in record { lower = h .0; upper = h .1 }),
+    λ h. enough-none p n m (matrix A) (rules.structural A n m) (l .lc) (l .uc) (h .lower) (h .upper),
   )
 
   over-none : (o : Option ℕ) → unlessOver o whole .number ≡ 0 → o ≡ none
@@ -147,10 +147,10 @@ module _ (p n m : ℕ) (A : Compressed) (l : Lent) (number detail rank structura
   pub factored-seven : GoodPlan p n m A → LentRight n m l → (number ≡ 7) ↔ (¬ FactorsFit p n m A l)
   factored-seven g t = let (there, back) = call-seven p n m A l g t in ((λ e. there (sym (call .number-is) ∙ e)), λ h. call .number-is ∙ back h)
 
-  pub factored-row : number ≡ 7 → Overflows p m (matrix A) (l .lcols) (l .ucols) nothing (schedule n (rules.structural A n m)) detail
+  pub factored-row : number ≡ 7 → Overflows p m (matrix A) (l .lc) (l .uc) nothing (schedule n (rules.structural A n m)) detail
   unfolding among
   factored-row e =
-      some-overflows p n m (matrix A) (rules.structural A n m) (l .lcols) (l .ucols) detail
+      some-overflows p n m (matrix A) (rules.structural A n m) (l .lc) (l .uc) detail
       (call-cases p n m A l (λ (o : Outcome). o .number ≡ 7 → detail ≡ o .detail → over p n m A l ≡ some detail)
       (λ c d h z q. absurd (true≢false (sym h ∙ ap (λ (k : ℕ). among k planFaults) z)))
       (λ z q. over-some p n m A l (over p n m A l) z ∙ ap some (sym q)) (sym (call .number-is) ∙ e) (call .detail-is))
@@ -193,19 +193,19 @@ module _ (p n m : ℕ) (A : Compressed) (l : Lent) (number detail rank structura
     accepted : Factorable p n m A l
     accepted = factored-exactly .0 zero
 
-    leaves : Leaves (factoring p n m A (l .lcols) (l .ucols)) 0 detail rank structural R C L U w
+    leaves : Leaves (factoring p n m A (l .lc) (l .uc)) 0 detail rank structural R C L U w
     leaves =
         subst (λ (o : Outcome). Leaves o 0 detail rank structural R C L U w) (call-factoring p n m A l (lent-passes p n m A l (accepted .plan) (accepted .lists)))
         (subst (λ (k : ℕ). Leaves (factorCallOf p n m A l) k detail rank structural R C L U w) zero call)
 
     pub factored-set : ownSet n m rank R C L U ≡ factor p n m A
-    factored-set = let g = accepted .plan in own-set p n m A (good-prime g) (g .formed) (g .rows) (l .lcols) (l .ucols) detail rank structural R C L U w leaves
+    factored-set = let g = accepted .plan in own-set p n m A (good-prime g) (g .formed) (g .rows) (l .lc) (l .uc) detail rank structural R C L U w leaves
 
     pub factored-passes : Passes p n m A (ownSet n m rank R C L U)
-    factored-passes = let g = accepted .plan in own-set-passes p n m A (good-prime g) (g .formed) (g .rows) (l .lcols) (l .ucols) detail rank structural R C L U w leaves
+    factored-passes = let g = accepted .plan in own-set-passes p n m A (good-prime g) (g .formed) (g .rows) (l .lc) (l .uc) detail rank structural R C L U w leaves
 
     pub factored-rank : Rank p n m (matrix A) rank
-    factored-rank = let g = accepted .plan in own-rank p n m A (good-prime g) (g .formed) (g .rows) (l .lcols) (l .ucols) detail rank structural R C L U w leaves
+    factored-rank = let g = accepted .plan in own-rank p n m A (good-prime g) (g .formed) (g .rows) (l .lc) (l .uc) detail rank structural R C L U w leaves
 
     pub factored-structural : structural ≡ length (rules.structural A n m)
     factored-structural =

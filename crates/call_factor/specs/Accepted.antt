@@ -17,15 +17,15 @@ use Rattle.call_factor.specs.declared.Lent.{Lent}
 pub record LentRight (n m : ℕ) (l : Lent) : Type 0 where
   pub rows : l .rows ≡ n
   pub columns : l .columns ≡ m
-  pub lstarts : l .lstarts ≡ n + 1
-  pub lower : l .lcols ≡ l .lvals
-  pub ustarts : l .ustarts ≡ n + 1
-  pub upper : l .ucols ≡ l .uvals
+  pub ls : l .ls ≡ n + 1
+  pub lower : l .lc ≡ l .lv
+  pub us : l .us ≡ n + 1
+  pub upper : l .uc ≡ l .uv
   pub work : l .work ≡ workLength
 
 pub record FactorsFit (p n m : ℕ) (A : Compressed) (l : Lent) : Type 0 where
-  pub lower : length (factor p n m A .L .cols) ≤ l .lcols
-  pub upper : length (factor p n m A .U .cols) ≤ l .ucols
+  pub lower : length (factor p n m A .L .cols) ≤ l .lc
+  pub upper : length (factor p n m A .U .cols) ≤ l .uc
 
 pub record Factorable (p n m : ℕ) (A : Compressed) (l : Lent) : Type 0 where
   pub plan : GoodPlan p n m A

@@ -19,4 +19,4 @@ unlessRefused Passed f = f
 unlessRefused (Refused c d) f = refusal c d
 
 unfoldable pub factorCallOf : (p n m : ℕ) → Compressed → Lent → Outcome
-factorCallOf p n m A l = unlessRefused (lentOutcome p n m A l) (factoring p n m A (l .lcols) (l .ucols))
+factorCallOf p n m A l = unlessRefused (lentOutcome p n m A l) (factoring p n m A (l .lc) (l .uc))

@@ -20,12 +20,12 @@ lentOf R C L U w =
     record {
       rows = length R;
       columns = length C;
-      lstarts = length (L .starts);
-      lcols = length (L .cols);
-      lvals = length (L .vals);
-      ustarts = length (U .starts);
-      ucols = length (U .cols);
-      uvals = length (U .vals);
+      ls = length (L .starts);
+      lc = length (L .cols);
+      lv = length (L .vals);
+      us = length (U .starts);
+      uc = length (U .cols);
+      uv = length (U .vals);
       work = length w;
     }
 
@@ -33,10 +33,10 @@ unfoldable pub lentLengths : ℕ → ℕ → Lent → Bool
 lentLengths n m l =
     eqb (l .rows) n
     && (eqb (l .columns) m
-    && (eqb (l .lstarts) (n + 1)
-    && (eqb (l .lcols) (l .lvals)
-    && (eqb (l .ustarts) (n + 1)
-    && (eqb (l .ucols) (l .uvals)
+    && (eqb (l .ls) (n + 1)
+    && (eqb (l .lc) (l .lv)
+    && (eqb (l .us) (n + 1)
+    && (eqb (l .uc) (l .uv)
     && eqb (l .work) workLength)))))
 
 unfoldable pub lentOutcome : (p n m : ℕ) → Compressed → Lent → Outcome

@@ -8,22 +8,22 @@ use call_plan::plan_lengths;
 use call_plan::plan_outcome;
 use factor_all::clearing::clear_all;
 use factor_all::factor::Factored;
-use refusals::Outcome;
-use lists::index;
-use residue::Modulus;
 use limits::WORK_CELLS;
+use lists::index;
+use refusals::Outcome;
 use refusals::numbers::WRONG_LENGTH;
+use residue::Modulus;
 
 // How long the lists are that are lent to factoring.
 pub struct Lent {
     pub rows: usize,
     pub columns: usize,
-    pub lstarts: usize,
-    pub lcols: usize,
-    pub lvals: usize,
-    pub ustarts: usize,
-    pub ucols: usize,
-    pub uvals: usize,
+    pub ls: usize,
+    pub lc: usize,
+    pub lv: usize,
+    pub us: usize,
+    pub uc: usize,
+    pub uv: usize,
     pub work: usize,
 }
 
@@ -38,16 +38,16 @@ fn lent_lengths(n: u32, m: u32, lent: Lent) -> bool
     if lent.columns != index(m) {
         return false;
     }
-    if lent.lstarts != height + 1 {
+    if lent.ls != height + 1 {
         return false;
     }
-    if lent.lcols != lent.lvals {
+    if lent.lc != lent.lv {
         return false;
     }
-    if lent.ustarts != height + 1 {
+    if lent.us != height + 1 {
         return false;
     }
-    if lent.ucols != lent.uvals {
+    if lent.uc != lent.uv {
         return false;
     }
     lent.work == WORK_CELLS
@@ -58,20 +58,20 @@ fn lent_outcome(
     p: u32,
     n: u32,
     m: u32,
-    ss: &[u32],
+    starts: &[u32],
     cols: &[u32],
     vals: &[u32],
     lent: Lent,
 ) -> Outcome
-    ensures { λ o. ⌜ o ≡ lentOutcome p n m (compressed (now (ss .entry)) (now (cols .entry)) (now (vals .entry))) lent ⌝ }
+    ensures { λ o. ⌜ o ≡ lentOutcome p n m (compressed (now (starts .entry)) (now (cols .entry)) (now (vals .entry))) lent ⌝ }
 {
-    if !plan_lengths(n, ss, cols, vals) {
+    if !plan_lengths(n, starts, cols, vals) {
         return Outcome::Refused(WRONG_LENGTH, 0);
     }
     if !lent_lengths(n, m, lent) {
         return Outcome::Refused(WRONG_LENGTH, 0);
     }
-    plan_outcome(p, n, m, ss, cols, vals)
+    plan_outcome(p, n, m, starts, cols, vals)
 }
 
 // Factors a stored plan.
@@ -84,11 +84,11 @@ pub fn factor(
     p: u32,
     n: u32,
     m: u32,
-    ss: &[u32],
+    starts: &[u32],
     cols: &[u32],
     vals: &[u32],
-    rows: &mut [u32],
-    columns: &mut [u32],
+    ro: &mut [u32],
+    co: &mut [u32],
     ls: &mut [u32],
     lc: &mut [u32],
     lv: &mut [u32],
@@ -97,21 +97,21 @@ pub fn factor(
     uv: &mut [u32],
     work: &mut [u64],
 ) -> Factored
-    ensures { λ o. ⌜ Leaves (factorCallOf p n m (compressed (now (ss .entry)) (now (cols .entry)) (now (vals .entry))) (lentOf (now (rows .entry)) (now (columns .entry)) (compressed (now (ls .entry)) (now (lc .entry)) (now (lv .entry))) (compressed (now (us .entry)) (now (uc .entry)) (now (uv .entry))) (now (work .entry)))) (o .number) (o .detail) (o .rank) (o .structural) (now (rows .exit)) (now (columns .exit)) (compressed (now (ls .exit)) (now (lc .exit)) (now (lv .exit))) (compressed (now (us .exit)) (now (uc .exit)) (now (uv .exit))) (now (work .exit)) ⌝ }
+    ensures { λ o. ⌜ Leaves (factorCallOf p n m (compressed (now (starts .entry)) (now (cols .entry)) (now (vals .entry))) (lentOf (now (ro .entry)) (now (co .entry)) (compressed (now (ls .entry)) (now (lc .entry)) (now (lv .entry))) (compressed (now (us .entry)) (now (uc .entry)) (now (uv .entry))) (now (work .entry)))) (o .number) (o .detail) (o .rank) (o .structural) (now (ro .exit)) (now (co .exit)) (compressed (now (ls .exit)) (now (lc .exit)) (now (lv .exit))) (compressed (now (us .exit)) (now (uc .exit)) (now (uv .exit))) (now (work .exit)) ⌝ }
 {
-    clear_all(rows, columns, ls, lc, lv, us, uc, uv, work);
+    clear_all(ro, co, ls, lc, lv, us, uc, uv, work);
     let lent = Lent {
-        rows: rows.len(),
-        columns: columns.len(),
-        lstarts: ls.len(),
-        lcols: lc.len(),
-        lvals: lv.len(),
-        ustarts: us.len(),
-        ucols: uc.len(),
-        uvals: uv.len(),
+        rows: ro.len(),
+        columns: co.len(),
+        ls: ls.len(),
+        lc: lc.len(),
+        lv: lv.len(),
+        us: us.len(),
+        uc: uc.len(),
+        uv: uv.len(),
         work: work.len(),
     };
-    let tested = lent_outcome(p, n, m, ss, cols, vals, lent);
+    let tested = lent_outcome(p, n, m, starts, cols, vals, lent);
     if let Outcome::Refused(number, detail) = tested {
         return Factored {
             number,
@@ -123,13 +123,13 @@ pub fn factor(
     let q = Modulus { p };
     factor_all::factor::factor(
         q,
-        ss,
+        starts,
         cols,
         vals,
         n,
         m,
-        rows,
-        columns,
+        ro,
+        co,
         ls,
         lc,
         lv,

@@ -5,15 +5,15 @@ ghost use Rattle.row_space.specs.Solve.{openColumns};
 ghost use Rattle.answer_open.specs.Opening.{ColumnsListed};
 ghost use Rattle.certificate.specs.Reading.{setOfCertificate};
 ghost use Rattle.call_open.specs.Calls.{openCertificateOf, OpenPartsReady, Lists};
+use answer_open::pivots::open_columns;
+use call_check::from_certificate::check_bytes;
 use certificate::parts::number;
 use certificate::parts::places_in;
-use call_check::from_certificate::check_bytes;
-use answer_open::pivots::open_columns;
-use refusals::Outcome;
 use lists::clear;
 use lists::clear_row;
-use residue::Modulus;
+use refusals::Outcome;
 use refusals::numbers::WRONG_LENGTH;
+use residue::Modulus;
 
 // The open columns from a certificate that passed: its parts are read where they stand.
 fn open_columns_of_parts(
@@ -29,22 +29,22 @@ fn open_columns_of_parts(
 {
     let places = places_in(cert, n, m);
     let r = number(cert, 3);
-    let b = places.cols;
-    let c = places.lstarts;
-    let f = places.ustarts;
-    let g = places.ucols;
-    let h = places.uvals;
-    let i = places.end;
+    let co = places.co;
+    let ls = places.ls;
+    let us = places.us;
+    let uc = places.uc;
+    let uv = places.uv;
+    let end = places.end;
     open_columns(
         q,
         &[],
-        &cert[b..c],
+        &cert[co..ls],
         &[],
-        &cert[f..g],
+        &cert[us..uc],
         &[],
-        &cert[g..h],
+        &cert[uc..uv],
         &[],
-        &cert[h..i],
+        &cert[uv..end],
         r as usize,
         marks,
         work,
@@ -60,14 +60,14 @@ pub fn open_columns_from_certificate(
     p: u32,
     n: u32,
     m: u32,
-    ss: &[u32],
+    starts: &[u32],
     cols: &[u32],
     vals: &[u32],
     cert: &[u8],
     marks: &mut [u32],
     work: &mut [u64],
 ) -> Outcome
-    ensures { λ o. ⌜ Lists (openCertificateOf p n m (compressed (now (ss .entry)) (now (cols .entry)) (now (vals .entry))) (now (cert .entry)) (length (now (marks .entry))) (length (now (work .entry)))) o (now (marks .entry)) (now (marks .exit)) (now (work .entry)) (now (work .exit)) ⌝ }
+    ensures { λ o. ⌜ Lists (openCertificateOf p n m (compressed (now (starts .entry)) (now (cols .entry)) (now (vals .entry))) (now (cert .entry)) (length (now (marks .entry))) (length (now (work .entry)))) o (now (marks .entry)) (now (marks .exit)) (now (work .entry)) (now (work .exit)) ⌝ }
 {
     let q = Modulus { p };
     if marks.len() != m as usize {
@@ -75,7 +75,7 @@ pub fn open_columns_from_certificate(
         clear_row(work);
         return Outcome::Refused(WRONG_LENGTH, 0);
     }
-    let checked = check_bytes(q, n, m, ss, cols, vals, cert, work);
+    let checked = check_bytes(q, n, m, starts, cols, vals, cert, work);
     let Outcome::Passed = checked else {
         clear(marks);
         return checked;

@@ -3,13 +3,13 @@ ghost use lib.ListN.{length};
 ghost use Rattle.sparse.specs.Matrix.{compressed};
 ghost use Rattle.sparse.specs.Set.{setOf};
 ghost use Rattle.call_open.specs.Calls.{openFactorsOf, Lists};
-use call_check::from_factors::check_stored;
 use answer_open::pivots::open_columns;
-use refusals::Outcome;
+use call_check::from_factors::check_stored;
 use lists::clear;
 use lists::clear_row;
-use residue::Modulus;
+use refusals::Outcome;
 use refusals::numbers::WRONG_LENGTH;
+use residue::Modulus;
 
 // Lists the open columns from stored factors.
 //   takes    a stored plan (p, n, m, row starts, columns, values), a stored set (r, row order, column order, L, U), a list of m cells
@@ -21,7 +21,7 @@ pub fn open_columns_from_factors(
     p: u32,
     n: u32,
     m: u32,
-    ss: &[u32],
+    starts: &[u32],
     cols: &[u32],
     vals: &[u32],
     r: u32,
@@ -36,7 +36,7 @@ pub fn open_columns_from_factors(
     marks: &mut [u32],
     work: &mut [u64],
 ) -> Outcome
-    ensures { λ o. ⌜ Lists (openFactorsOf p n m (compressed (now (ss .entry)) (now (cols .entry)) (now (vals .entry))) (setOf r (now (ro .entry)) (now (co .entry)) (compressed (now (ls .entry)) (now (lc .entry)) (now (lv .entry))) (compressed (now (us .entry)) (now (uc .entry)) (now (uv .entry)))) (length (now (marks .entry))) (length (now (work .entry)))) o (now (marks .entry)) (now (marks .exit)) (now (work .entry)) (now (work .exit)) ⌝ }
+    ensures { λ o. ⌜ Lists (openFactorsOf p n m (compressed (now (starts .entry)) (now (cols .entry)) (now (vals .entry))) (setOf r (now (ro .entry)) (now (co .entry)) (compressed (now (ls .entry)) (now (lc .entry)) (now (lv .entry))) (compressed (now (us .entry)) (now (uc .entry)) (now (uv .entry)))) (length (now (marks .entry))) (length (now (work .entry)))) o (now (marks .entry)) (now (marks .exit)) (now (work .entry)) (now (work .exit)) ⌝ }
 {
     let q = Modulus { p };
     if marks.len() != m as usize {
@@ -48,7 +48,7 @@ pub fn open_columns_from_factors(
         q,
         n,
         m,
-        ss,
+        starts,
         cols,
         vals,
         r,

@@ -3,21 +3,21 @@ ghost use mathlib.Core.Path.{_≡_};
 ghost use Rattle.sparse.specs.Matrix.{compressed};
 ghost use Rattle.sparse.specs.Set.{setOf};
 ghost use Rattle.call_plan.specs.Tests.{planLengths, setLengths, limitsOk, planOutcome};
-use refusals::Outcome;
-use lists::index;
-use residue::is_modulus;
-use sparse::form::form_ok;
 use limits::ENTRY_CELLS;
 use limits::LARGEST_SIZE;
+use lists::index;
+use refusals::Outcome;
 use refusals::numbers::BAD_MODULUS;
 use refusals::numbers::BAD_PLAN;
 use refusals::numbers::OVER_LIMIT;
+use residue::is_modulus;
+use sparse::form::form_ok;
 
 // Whether the lists of a matrix of n rows have their lengths.
-pub fn plan_lengths(n: u32, ss: &[u32], cols: &[u32], vals: &[u32]) -> bool
-    ensures { λ r. ⌜ r ≡ planLengths n (compressed (now (ss .entry)) (now (cols .entry)) (now (vals .entry))) ⌝ }
+pub fn plan_lengths(n: u32, starts: &[u32], cols: &[u32], vals: &[u32]) -> bool
+    ensures { λ r. ⌜ r ≡ planLengths n (compressed (now (starts .entry)) (now (cols .entry)) (now (vals .entry))) ⌝ }
 {
-    if ss.len() != index(n) + 1 {
+    if starts.len() != index(n) + 1 {
         return false;
     }
     cols.len() == vals.len()
@@ -52,8 +52,8 @@ pub fn set_lengths(
 }
 
 // Whether the sizes and the entry count of a plan keep the limits.
-fn limits_ok(n: u32, m: u32, ss: &[u32], cols: &[u32], vals: &[u32]) -> bool
-    ensures { λ r. ⌜ r ≡ limitsOk n m (compressed (now (ss .entry)) (now (cols .entry)) (now (vals .entry))) ⌝ }
+fn limits_ok(n: u32, m: u32, starts: &[u32], cols: &[u32], vals: &[u32]) -> bool
+    ensures { λ r. ⌜ r ≡ limitsOk n m (compressed (now (starts .entry)) (now (cols .entry)) (now (vals .entry))) ⌝ }
 {
     if LARGEST_SIZE < n {
         return false;
@@ -65,16 +65,16 @@ fn limits_ok(n: u32, m: u32, ss: &[u32], cols: &[u32], vals: &[u32]) -> bool
 }
 
 // 1, 2 and 8.
-pub fn plan_outcome(p: u32, n: u32, m: u32, ss: &[u32], cols: &[u32], vals: &[u32]) -> Outcome
-    ensures { λ o. ⌜ o ≡ planOutcome p n m (compressed (now (ss .entry)) (now (cols .entry)) (now (vals .entry))) ⌝ }
+pub fn plan_outcome(p: u32, n: u32, m: u32, starts: &[u32], cols: &[u32], vals: &[u32]) -> Outcome
+    ensures { λ o. ⌜ o ≡ planOutcome p n m (compressed (now (starts .entry)) (now (cols .entry)) (now (vals .entry))) ⌝ }
 {
     if !is_modulus(p) {
         return Outcome::Refused(BAD_MODULUS, 0);
     }
-    if !limits_ok(n, m, ss, cols, vals) {
+    if !limits_ok(n, m, starts, cols, vals) {
         return Outcome::Refused(OVER_LIMIT, 0);
     }
-    if !form_ok(ss, b"", cols, b"", vals, b"", m, p) {
+    if !form_ok(starts, b"", cols, b"", vals, b"", m, p) {
         return Outcome::Refused(BAD_PLAN, 0);
     }
     Outcome::Passed

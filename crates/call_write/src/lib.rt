@@ -4,10 +4,10 @@ ghost use Rattle.sparse.specs.Matrix.{compressed};
 ghost use Rattle.sparse.specs.Set.{setOf};
 ghost use Rattle.certificate.specs.Layout.{certificateOf};
 ghost use Rattle.call_write.specs.Call.{writeOutcome, WritesCertificate};
-use certificate::writer::write;
 use call_check::check_factors;
-use refusals::Outcome;
+use certificate::writer::write;
 use lists::clear_bytes;
+use refusals::Outcome;
 use refusals::numbers::WRONG_LENGTH;
 
 // What writing returns: the outcome, and the certificate's length, 0 on a refusal.
@@ -25,7 +25,7 @@ pub fn write_certificate(
     p: u32,
     n: u32,
     m: u32,
-    ss: &[u32],
+    starts: &[u32],
     cols: &[u32],
     vals: &[u32],
     r: u32,
@@ -40,13 +40,13 @@ pub fn write_certificate(
     buffer: &mut [u8],
     work: &mut [u64],
 ) -> Written
-    ensures { λ z. ⌜ WritesCertificate (writeOutcome p n m (compressed (now (ss .entry)) (now (cols .entry)) (now (vals .entry))) (setOf r (now (ro .entry)) (now (co .entry)) (compressed (now (ls .entry)) (now (lc .entry)) (now (lv .entry))) (compressed (now (us .entry)) (now (uc .entry)) (now (uv .entry)))) (length (now (work .entry))) (length (now (buffer .entry)))) (certificateOf p n m (setOf r (now (ro .entry)) (now (co .entry)) (compressed (now (ls .entry)) (now (lc .entry)) (now (lv .entry))) (compressed (now (us .entry)) (now (uc .entry)) (now (uv .entry))))) z (now (buffer .entry)) (now (buffer .exit)) (now (work .entry)) (now (work .exit)) ⌝ }
+    ensures { λ z. ⌜ WritesCertificate (writeOutcome p n m (compressed (now (starts .entry)) (now (cols .entry)) (now (vals .entry))) (setOf r (now (ro .entry)) (now (co .entry)) (compressed (now (ls .entry)) (now (lc .entry)) (now (lv .entry))) (compressed (now (us .entry)) (now (uc .entry)) (now (uv .entry)))) (length (now (work .entry))) (length (now (buffer .entry)))) (certificateOf p n m (setOf r (now (ro .entry)) (now (co .entry)) (compressed (now (ls .entry)) (now (lc .entry)) (now (lv .entry))) (compressed (now (us .entry)) (now (uc .entry)) (now (uv .entry))))) z (now (buffer .entry)) (now (buffer .exit)) (now (work .entry)) (now (work .exit)) ⌝ }
 {
     let checked = check_factors(
         p,
         n,
         m,
-        ss,
+        starts,
         cols,
         vals,
         r,

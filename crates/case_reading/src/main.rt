@@ -10,22 +10,22 @@ mod print;
 const BAR: u8 = 124;
 
 // Reads a text and prints what comes of it.
-fn show(name: &[u8], text: &[u8], starts: &mut [u32], columns: &mut [u32], values: &mut [u32]) {
-    let r = text_plan::read(text, starts, columns, values);
+fn show(name: &[u8], text: &[u8], starts: &mut [u32], cols: &mut [u32], vals: &mut [u32]) {
+    let r = text_plan::read(text, starts, cols, vals);
     print::line(name, r);
     io::write_all(1, b" cells");
     case_print::number(case_print::nonzero(starts) as u64);
-    case_print::number(case_print::nonzero(columns) as u64);
-    case_print::number(case_print::nonzero(values) as u64);
+    case_print::number(case_print::nonzero(cols) as u64);
+    case_print::number(case_print::nonzero(vals) as u64);
     io::write_all(1, b"\n");
 }
 
 // A case is its name, a bar and its text.
-fn show_case(case: &[u8], starts: &mut [u32], columns: &mut [u32], values: &mut [u32]) {
+fn show_case(case: &[u8], starts: &mut [u32], cols: &mut [u32], vals: &mut [u32]) {
     let name = text_fields::pieces::piece(case, 0, BAR);
     let e = name.len();
     if e < case.len() {
-        show(name, &case[e + 1..], starts, columns, values);
+        show(name, &case[e + 1..], starts, cols, vals);
     }
 }
 
@@ -34,14 +34,14 @@ fn show_parts(
     case: &[u8],
     starts: &mut [u32],
     a: usize,
-    columns: &mut [u32],
+    cols: &mut [u32],
     b: usize,
-    values: &mut [u32],
+    vals: &mut [u32],
     c: usize,
 )
-    requires { ⌜ (a ≤ length (now starts)) × (b ≤ length (now columns)) × (c ≤ length (now values)) ⌝ }
+    requires { ⌜ (a ≤ length (now starts)) × (b ≤ length (now cols)) × (c ≤ length (now vals)) ⌝ }
 {
-    show_case(case, &mut starts[..a], &mut columns[..b], &mut values[..c]);
+    show_case(case, &mut starts[..a], &mut cols[..b], &mut vals[..c]);
 }
 
 // Reads a case's text into lists of these lengths.
@@ -49,9 +49,9 @@ fn length_case(case: &[u8], a: usize, b: usize, c: usize)
     requires { ⌜ (a ≤ 2050) × (b ≤ 16) × (c ≤ 16) ⌝ }
 {
     let mut starts = [9u32; 2050];
-    let mut columns = [9u32; 16];
-    let mut values = [9u32; 16];
-    show_parts(case, &mut starts, a, &mut columns, b, &mut values, c);
+    let mut cols = [9u32; 16];
+    let mut vals = [9u32; 16];
+    show_parts(case, &mut starts, a, &mut cols, b, &mut vals, c);
 }
 
 // Reads a case's text into lists with room for so many entries.
@@ -68,12 +68,12 @@ fn plain_case(case: &[u8]) {
 // Reads a case's text and prints the first cells of each list too.
 fn cells_case(case: &[u8]) {
     let mut starts = [9u32; 2049];
-    let mut columns = [9u32; 12];
-    let mut values = [9u32; 12];
-    show_case(case, &mut starts, &mut columns, &mut values);
+    let mut cols = [9u32; 12];
+    let mut vals = [9u32; 12];
+    show_case(case, &mut starts, &mut cols, &mut vals);
     print::list_line(b"  starts", lists::part(&starts, 0, 7));
-    print::list_line(b"  columns", &columns);
-    print::list_line(b"  values", &values);
+    print::list_line(b"  columns", &cols);
+    print::list_line(b"  values", &vals);
 }
 
 fn moduli() {
@@ -222,9 +222,9 @@ fn long_case(name: &[u8], text: &[u8], n: usize)
     requires { ⌜ n ≤ length (now text) ⌝ }
 {
     let mut starts = [9u32; 2049];
-    let mut columns = [9u32; 5460];
-    let mut values = [9u32; 5460];
-    show(name, &text[..n], &mut starts, &mut columns, &mut values);
+    let mut cols = [9u32; 5460];
+    let mut vals = [9u32; 5460];
+    show(name, &text[..n], &mut starts, &mut cols, &mut vals);
 }
 
 // A text of 65,536 bytes, and one of a byte more.

@@ -2,8 +2,8 @@
 use crate::change;
 use crate::change::Change;
 use crate::change::given;
-use text_plan::Reading;
 use std::num::wrapping_add_u32;
+use text_plan::Reading;
 
 pub struct Handed {
     pub p: u32,

@@ -21,8 +21,8 @@ fn line(name: &[u8], f: Factored) {
 
 // How many cells of each lent list are not 0.
 fn cells(
-    rows: &[u32],
-    cols: &[u32],
+    ro: &[u32],
+    co: &[u32],
     ls: &[u32],
     lc: &[u32],
     lv: &[u32],
@@ -32,8 +32,8 @@ fn cells(
     work: &[u64],
 ) {
     io::write_all(1, b" cells");
-    number(nonzero(rows) as u64);
-    number(nonzero(cols) as u64);
+    number(nonzero(ro) as u64);
+    number(nonzero(co) as u64);
     number(nonzero(ls) as u64);
     number(nonzero(lc) as u64);
     number(nonzero(lv) as u64);
@@ -51,19 +51,19 @@ fn at(list: &[u32], i: u32) -> u32 {
 }
 
 // A stored factor of so many rows.
-fn factor(label: &[u8], height: u32, starts: &[u32], columns: &[u32], values: &[u32]) {
+fn factor(label: &[u8], height: u32, starts: &[u32], cols: &[u32], vals: &[u32]) {
     let entries = at(starts, height);
     io::write_all(1, label);
     list(b" starts", first(starts, wrapping_add_u32(height, 1)));
-    list(b" columns", first(columns, entries));
-    list(b" values", first(values, entries));
+    list(b" columns", first(cols, entries));
+    list(b" values", first(vals, entries));
     io::write_all(1, b"\n");
 }
 
 // The orders of the rows and the columns.
-fn orders(rows: &[u32], cols: &[u32]) {
-    list(b"  R", rows);
-    list(b" C", cols);
+fn orders(ro: &[u32], co: &[u32]) {
+    list(b"  R", ro);
+    list(b" C", co);
     io::write_all(1, b"\n");
 }
 
@@ -72,8 +72,8 @@ pub fn result(
     name: &[u8],
     n: u32,
     f: Factored,
-    rows: &[u32],
-    cols: &[u32],
+    ro: &[u32],
+    co: &[u32],
     ls: &[u32],
     lc: &[u32],
     lv: &[u32],
@@ -83,9 +83,9 @@ pub fn result(
     work: &[u64],
 ) {
     line(name, f);
-    cells(rows, cols, ls, lc, lv, us, uc, uv, work);
+    cells(ro, co, ls, lc, lv, us, uc, uv, work);
     if f.number == 0 {
-        orders(rows, cols);
+        orders(ro, co);
         factor(b"  L", n, ls, lc, lv);
         factor(b"  U", f.rank, us, uc, uv);
     }

@@ -17,10 +17,10 @@ fn factor_and_print(
     name: &[u8],
     h: Handed,
     starts: &[u32],
-    columns: &[u32],
-    values: &[u32],
-    rows: &mut [u32],
-    cols: &mut [u32],
+    cols: &[u32],
+    vals: &[u32],
+    ro: &mut [u32],
+    co: &mut [u32],
     ls: &mut [u32],
     lc: &mut [u32],
     lv: &mut [u32],
@@ -34,10 +34,10 @@ fn factor_and_print(
         h.n,
         h.m,
         starts,
-        columns,
-        values,
-        rows,
         cols,
+        vals,
+        ro,
+        co,
         ls,
         lc,
         lv,
@@ -46,13 +46,13 @@ fn factor_and_print(
         uv,
         work,
     );
-    print::result(name, h.n, f, rows, cols, ls, lc, lv, us, uc, uv, work);
+    print::result(name, h.n, f, ro, co, ls, lc, lv, us, uc, uv, work);
 }
 
 // Lends lists of 9s, as many cells of each as are to be handed.
-fn lend(name: &[u8], h: Handed, starts: &[u32], columns: &[u32], values: &[u32]) {
-    let mut rows = [9u32; 2049];
-    let mut cols = [9u32; 2049];
+fn lend(name: &[u8], h: Handed, starts: &[u32], cols: &[u32], vals: &[u32]) {
+    let mut ro = [9u32; 2049];
+    let mut co = [9u32; 2049];
     let mut ls = [9u32; 2050];
     let mut lc = [9u32; 32];
     let mut lv = [9u32; 32];
@@ -60,8 +60,8 @@ fn lend(name: &[u8], h: Handed, starts: &[u32], columns: &[u32], values: &[u32])
     let mut uc = [9u32; 32];
     let mut uv = [9u32; 32];
     let mut work = [9u64; 2049];
-    let a = within(&rows, h.rows);
-    let b = within(&cols, h.cols);
+    let a = within(&ro, h.rows);
+    let b = within(&co, h.cols);
     let c = within(&ls, h.ls);
     let d = within(&lc, h.lc);
     let e = within(&lv, h.lv);
@@ -73,10 +73,10 @@ fn lend(name: &[u8], h: Handed, starts: &[u32], columns: &[u32], values: &[u32])
         name,
         h,
         starts,
-        columns,
-        values,
-        &mut rows[..a],
-        &mut cols[..b],
+        cols,
+        vals,
+        &mut ro[..a],
+        &mut co[..b],
         &mut ls[..c],
         &mut lc[..d],
         &mut lv[..e],
@@ -92,29 +92,29 @@ fn read(
     text: &[u8],
     change: Change,
     starts: &mut [u32],
-    columns: &mut [u32],
-    values: &mut [u32],
+    cols: &mut [u32],
+    vals: &mut [u32],
 ) -> Reading {
     let e = within(starts, 2049);
-    let r = text_plan::read(text, &mut starts[..e], columns, values);
+    let r = text_plan::read(text, &mut starts[..e], cols, vals);
     put_first(change, change::FIRST_START, starts);
-    put_first(change, change::FIRST_COLUMN, columns);
-    put_first(change, change::FIRST_VALUE, values);
+    put_first(change, change::FIRST_COLUMN, cols);
+    put_first(change, change::FIRST_VALUE, vals);
     r
 }
 
 // Runs a case with rooms l and u for the entries of L and U.
 pub fn run(name: &[u8], text: &[u8], l: u32, u: u32, change: Change) {
     let mut starts = [9u32; 2050];
-    let mut columns = [9u32; 16385];
-    let mut values = [9u32; 16385];
-    let r = read(text, change, &mut starts, &mut columns, &mut values);
+    let mut cols = [9u32; 16385];
+    let mut vals = [9u32; 16385];
+    let r = read(text, change, &mut starts, &mut cols, &mut vals);
     let h = prepare(r, l, u, change);
     lend(
         name,
         h,
         first(&starts, h.starts),
-        first(&columns, h.columns),
-        first(&values, h.values),
+        first(&cols, h.columns),
+        first(&vals, h.values),
     );
 }

@@ -81,21 +81,21 @@ module _ (p n m : ℕ) (cert : List ℕ) (t : headerOk p n m cert ≡ true) wher
   passed-sized =
       let q = placesIn n m cert in let l = field cert 4 in let u = field cert 5 in
       record {
-        row-order = length-numbers cert (q .rows) (q .cols) n refl (omega (arith, long));
-        column-order = length-numbers cert (q .cols) (q .lstarts) m refl (omega (arith, long));
-        lower-starts = length-numbers cert (q .lstarts) (q .lcols) (n + 1) refl (omega (arith, long));
-        lower-values = length-numbers cert (q .lvals) (q .ustarts) l refl (omega (arith, long)) ∙ sym (length-numbers cert (q .lcols) (q .lvals) l refl (omega (arith, long)));
-        upper-starts = length-numbers cert (q .ustarts) (q .ucols) (field cert 3 + 1) refl (omega (arith, long));
-        upper-values = length-numbers cert (q .uvals) (q .end) u refl (omega (arith, long)) ∙ sym (length-numbers cert (q .ucols) (q .uvals) u refl (omega (arith, long)));
+        row-order = length-numbers cert (q .ro) (q .co) n refl (omega (arith, long));
+        column-order = length-numbers cert (q .co) (q .ls) m refl (omega (arith, long));
+        lower-starts = length-numbers cert (q .ls) (q .lc) (n + 1) refl (omega (arith, long));
+        lower-values = length-numbers cert (q .lv) (q .us) l refl (omega (arith, long)) ∙ sym (length-numbers cert (q .lc) (q .lv) l refl (omega (arith, long)));
+        upper-starts = length-numbers cert (q .us) (q .uc) (field cert 3 + 1) refl (omega (arith, long));
+        upper-values = length-numbers cert (q .uv) (q .end) u refl (omega (arith, long)) ∙ sym (length-numbers cert (q .uc) (q .uv) u refl (omega (arith, long)));
       }
 
   lcount : field cert 4 ≡ length (setOfCertificate n m cert .L .cols)
   unfolding setOfCertificate setIn placesOf
-  lcount = let q = placesIn n m cert in sym (length-numbers cert (q .lcols) (q .lvals) (field cert 4) refl (omega (arith, long)))
+  lcount = let q = placesIn n m cert in sym (length-numbers cert (q .lc) (q .lv) (field cert 4) refl (omega (arith, long)))
 
   ucount : field cert 5 ≡ length (setOfCertificate n m cert .U .cols)
   unfolding setOfCertificate setIn placesOf
-  ucount = let q = placesIn n m cert in sym (length-numbers cert (q .ucols) (q .uvals) (field cert 5) refl (omega (arith, long)))
+  ucount = let q = placesIn n m cert in sym (length-numbers cert (q .uc) (q .uv) (field cert 5) refl (omega (arith, long)))
 
   -- how many numbers there are after mark and version
   total : ℕ
@@ -113,10 +113,10 @@ module _ (p n m : ℕ) (cert : List ℕ) (t : headerOk p n m cert ≡ true) wher
   lists =
       let q = placesIn n m cert in let l = field cert 4 in let u = field cert 5 in let s = setOfCertificate n m cert in
       let k = 6 + n + m in let i = k + (n + 1) in let v = i + l in let w = v + l in let i′ = w + (field cert 3 + 1) in let v′ = i′ + u in
-      piece cert (q .rows) (q .cols) 6 (6 + n) refl (omega arith) n refl
-      ∙ ap (λ (x : List ℕ). s .R ++ x) (piece cert (q .cols) (q .lstarts) (6 + n) k (omega arith) (omega arith) m refl
-      ∙ ap (λ (x : List ℕ). s .C ++ x) (factor-piece cert (q .lstarts) (q .lcols) (q .lvals) (q .ustarts) k i v w (omega arith) (omega arith) (omega arith) (omega arith) (n + 1) l refl refl refl
-      ∙ ap (λ (x : List ℕ). factorNumbers (s .L) ++ x) (factor-piece cert (q .ustarts) (q .ucols) (q .uvals) (q .end) w i′ v′ (v′ + u) (omega arith) (omega arith) (omega arith) (omega arith) (field cert 3 + 1) u refl refl refl
+      piece cert (q .ro) (q .co) 6 (6 + n) refl (omega arith) n refl
+      ∙ ap (λ (x : List ℕ). s .R ++ x) (piece cert (q .co) (q .ls) (6 + n) k (omega arith) (omega arith) m refl
+      ∙ ap (λ (x : List ℕ). s .C ++ x) (factor-piece cert (q .ls) (q .lc) (q .lv) (q .us) k i v w (omega arith) (omega arith) (omega arith) (omega arith) (n + 1) l refl refl refl
+      ∙ ap (λ (x : List ℕ). factorNumbers (s .L) ++ x) (factor-piece cert (q .us) (q .uc) (q .uv) (q .end) w i′ v′ (v′ + u) (omega arith) (omega arith) (omega arith) (omega arith) (field cert 3 + 1) u refl refl refl
       ∙ ap (λ (x : List ℕ). factorNumbers (s .U) ++ x) (drop-of-length-le (numbers cert) (let z : length (numbers cert) ≤ v′ + u = omega (arith, length-all) in z))
       ∙ append-nil (factorNumbers (s .U)))))
 

@@ -97,15 +97,15 @@ module _ (p n m : ℕ) (s : Set) (z : Sized n m s) (small : Below (2 ^ 32) (numb
       let l = length (s .L .cols) in let u = length (s .U .cols) in let q = placesOf n m (s .r) l u in
       let k = 6 + n + m in let t = k + (n + 1) in let v = t + l in let w = v + l in
       let t′ = w + (s .r + 1) in let v′ = t′ + u in
-      let from-lower = reads-next cert (q .cols) (q .lstarts) (6 + n) k (omega arith) (omega arith) (s .C) (factorNumbers (s .L) ++ factorNumbers (s .U)) (omega (arith, z .column-order)) from-cols in
-      let from-upper = factor-next cert (q .lstarts) (q .lcols) (q .lvals) (q .ustarts) k t v w (omega arith) (omega arith) (omega arith) (omega arith)
+      let from-lower = reads-next cert (q .co) (q .ls) (6 + n) k (omega arith) (omega arith) (s .C) (factorNumbers (s .L) ++ factorNumbers (s .U)) (omega (arith, z .column-order)) from-cols in
+      let from-upper = factor-next cert (q .ls) (q .lc) (q .lv) (q .us) k t v w (omega arith) (omega arith) (omega arith) (omega arith)
       (s .L) (factorNumbers (s .U)) (omega (arith, z .lower-starts)) refl (omega (arith, z .lower-values)) from-lower ∙ sym (append-nil (factorNumbers (s .U))) in
       λ j. setOf (s .r)
-      (reads-here cert (q .rows) (q .cols) 6 (6 + n) refl (omega arith) (s .R) (s .C ++ (factorNumbers (s .L) ++ factorNumbers (s .U))) (omega (arith, z .row-order)) from-rows j)
-      (reads-here cert (q .cols) (q .lstarts) (6 + n) k (omega arith) (omega arith) (s .C) (factorNumbers (s .L) ++ factorNumbers (s .U)) (omega (arith, z .column-order)) from-cols j)
-      (factor-here cert (q .lstarts) (q .lcols) (q .lvals) (q .ustarts) k t v w (omega arith) (omega arith) (omega arith) (omega arith)
+      (reads-here cert (q .ro) (q .co) 6 (6 + n) refl (omega arith) (s .R) (s .C ++ (factorNumbers (s .L) ++ factorNumbers (s .U))) (omega (arith, z .row-order)) from-rows j)
+      (reads-here cert (q .co) (q .ls) (6 + n) k (omega arith) (omega arith) (s .C) (factorNumbers (s .L) ++ factorNumbers (s .U)) (omega (arith, z .column-order)) from-cols j)
+      (factor-here cert (q .ls) (q .lc) (q .lv) (q .us) k t v w (omega arith) (omega arith) (omega arith) (omega arith)
       (s .L) (factorNumbers (s .U)) (omega (arith, z .lower-starts)) refl (omega (arith, z .lower-values)) from-lower j)
-      (factor-here cert (q .ustarts) (q .ucols) (q .uvals) (q .end) w t′ v′ (v′ + u) (omega arith) (omega arith) (omega arith) (omega arith)
+      (factor-here cert (q .us) (q .uc) (q .uv) (q .end) w t′ v′ (v′ + u) (omega arith) (omega arith) (omega arith) (omega arith)
       (s .U) [] (omega (arith, z .upper-starts)) refl (omega (arith, z .upper-values)) from-upper j)
 
   pub written-reads-back : setOfCertificate n m (certificateOf p n m s) ≡ s

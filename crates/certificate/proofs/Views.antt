@@ -33,14 +33,14 @@ module _ (n m : ℕ) (cert : List ℕ) (h : length cert ≡ placesIn n m cert .e
   located-here =
       record {
         is = refl;
-        rows = omega arith;
-        cols = omega arith;
-        lstarts = omega arith;
-        lcols = omega arith;
-        lvals = omega arith;
-        ustarts = omega arith;
-        ucols = omega arith;
-        uvals = omega arith;
+        ro = omega arith;
+        co = omega arith;
+        ls = omega arith;
+        lc = omega arith;
+        lv = omega arith;
+        us = omega arith;
+        uc = omega arith;
+        uv = omega arith;
         end = sym h;
       }
 
@@ -50,16 +50,16 @@ module _ (n m : ℕ) (cert : List ℕ) (h : length cert ≡ placesIn n m cert .e
 module _ (n m : ℕ) (cert : List ℕ) (q : Places) (e : q ≡ placesIn n m cert) where
   pub set-of-parts : (r : ℕ) → r ≡ field cert 3
       → setOf r
-      (view [] (part cert (q .rows) (q .cols)))
-      (view [] (part cert (q .cols) (q .lstarts)))
-      (viewed [] (part cert (q .lstarts) (q .lcols)) [] (part cert (q .lcols) (q .lvals)) [] (part cert (q .lvals) (q .ustarts)))
-      (viewed [] (part cert (q .ustarts) (q .ucols)) [] (part cert (q .ucols) (q .uvals)) [] (part cert (q .uvals) (q .end)))
+      (view [] (part cert (q .ro) (q .co)))
+      (view [] (part cert (q .co) (q .ls)))
+      (viewed [] (part cert (q .ls) (q .lc)) [] (part cert (q .lc) (q .lv)) [] (part cert (q .lv) (q .us)))
+      (viewed [] (part cert (q .us) (q .uc)) [] (part cert (q .uc) (q .uv)) [] (part cert (q .uv) (q .end)))
       ≡ setOfCertificate n m cert
   unfolding setOfCertificate setIn
   set-of-parts r f =
       (λ j. setOf (f j)
-      (part-view cert (q .rows) (q .cols) j)
-      (part-view cert (q .cols) (q .lstarts) j)
-      (compressed (part-view cert (q .lstarts) (q .lcols) j) (part-view cert (q .lcols) (q .lvals) j) (part-view cert (q .lvals) (q .ustarts) j))
-      (compressed (part-view cert (q .ustarts) (q .ucols) j) (part-view cert (q .ucols) (q .uvals) j) (part-view cert (q .uvals) (q .end) j)))
+      (part-view cert (q .ro) (q .co) j)
+      (part-view cert (q .co) (q .ls) j)
+      (compressed (part-view cert (q .ls) (q .lc) j) (part-view cert (q .lc) (q .lv) j) (part-view cert (q .lv) (q .us) j))
+      (compressed (part-view cert (q .us) (q .uc) j) (part-view cert (q .uc) (q .uv) j) (part-view cert (q .uv) (q .end) j)))
       ∙ ap (λ (x : Places). setIn cert x (field cert 3)) e

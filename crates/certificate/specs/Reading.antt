@@ -27,14 +27,14 @@ use Rattle.certificate.specs.declared.parts.Places.{Places}
 unfoldable pub placesOf : ℕ → ℕ → ℕ → ℕ → ℕ → Places
 placesOf n m r l u =
     record {
-      rows = 29;
-      cols = 29 + 4 * n;
-      lstarts = 29 + 4 * n + 4 * m;
-      lcols = 29 + 4 * n + 4 * m + 4 * (n + 1);
-      lvals = 29 + 4 * n + 4 * m + 4 * (n + 1) + 4 * l;
-      ustarts = 29 + 4 * n + 4 * m + 4 * (n + 1) + 4 * l + 4 * l;
-      ucols = 29 + 4 * n + 4 * m + 4 * (n + 1) + 4 * l + 4 * l + 4 * (r + 1);
-      uvals = 29 + 4 * n + 4 * m + 4 * (n + 1) + 4 * l + 4 * l + 4 * (r + 1) + 4 * u;
+      ro = 29;
+      co = 29 + 4 * n;
+      ls = 29 + 4 * n + 4 * m;
+      lc = 29 + 4 * n + 4 * m + 4 * (n + 1);
+      lv = 29 + 4 * n + 4 * m + 4 * (n + 1) + 4 * l;
+      us = 29 + 4 * n + 4 * m + 4 * (n + 1) + 4 * l + 4 * l;
+      uc = 29 + 4 * n + 4 * m + 4 * (n + 1) + 4 * l + 4 * l + 4 * (r + 1);
+      uv = 29 + 4 * n + 4 * m + 4 * (n + 1) + 4 * l + 4 * l + 4 * (r + 1) + 4 * u;
       end = 29 + 4 * n + 4 * m + 4 * (n + 1) + 4 * l + 4 * l + 4 * (r + 1) + 4 * u + 4 * u;
     }
 
@@ -52,14 +52,14 @@ placesIn n m cert = placesOf n m (field cert 3) (field cert 4) (field cert 5)
 
 pub record Located (n m : ℕ) (cert : List ℕ) (q : Places) : Type 0 where
   pub is : q ≡ placesIn n m cert
-  pub rows : q .rows ≤ q .cols
-  pub cols : q .cols ≤ q .lstarts
-  pub lstarts : q .lstarts ≤ q .lcols
-  pub lcols : q .lcols ≤ q .lvals
-  pub lvals : q .lvals ≤ q .ustarts
-  pub ustarts : q .ustarts ≤ q .ucols
-  pub ucols : q .ucols ≤ q .uvals
-  pub uvals : q .uvals ≤ q .end
+  pub ro : q .ro ≤ q .co
+  pub co : q .co ≤ q .ls
+  pub ls : q .ls ≤ q .lc
+  pub lc : q .lc ≤ q .lv
+  pub lv : q .lv ≤ q .us
+  pub us : q .us ≤ q .uc
+  pub uc : q .uc ≤ q .uv
+  pub uv : q .uv ≤ q .end
   pub end : q .end ≡ length cert
 
 abbrev pub numbersIn : List ℕ → ℕ → ℕ → List ℕ
@@ -68,16 +68,16 @@ numbersIn cert a e = words (slice a e cert)
 unfoldable pub setIn : List ℕ → Places → ℕ → Set
 setIn cert q r =
     setOf r
-    (numbersIn cert (q .rows) (q .cols))
-    (numbersIn cert (q .cols) (q .lstarts))
+    (numbersIn cert (q .ro) (q .co))
+    (numbersIn cert (q .co) (q .ls))
     (compressed
-    (numbersIn cert (q .lstarts) (q .lcols))
-    (numbersIn cert (q .lcols) (q .lvals))
-    (numbersIn cert (q .lvals) (q .ustarts)))
+    (numbersIn cert (q .ls) (q .lc))
+    (numbersIn cert (q .lc) (q .lv))
+    (numbersIn cert (q .lv) (q .us)))
     (compressed
-    (numbersIn cert (q .ustarts) (q .ucols))
-    (numbersIn cert (q .ucols) (q .uvals))
-    (numbersIn cert (q .uvals) (q .end)))
+    (numbersIn cert (q .us) (q .uc))
+    (numbersIn cert (q .uc) (q .uv))
+    (numbersIn cert (q .uv) (q .end)))
 
 unfoldable pub setOfCertificate : ℕ → ℕ → List ℕ → Set
 setOfCertificate n m cert = setIn cert (placesIn n m cert) (field cert 3)

@@ -8,14 +8,14 @@ use sparse::words::word;
 
 // The byte at which each list begins, and the one after the last list: R, C, then starts, columns and values of L and of U.
 pub struct Places {
-    pub rows: usize,
-    pub cols: usize,
-    pub lstarts: usize,
-    pub lcols: usize,
-    pub lvals: usize,
-    pub ustarts: usize,
-    pub ucols: usize,
-    pub uvals: usize,
+    pub ro: usize,
+    pub co: usize,
+    pub ls: usize,
+    pub lc: usize,
+    pub lv: usize,
+    pub us: usize,
+    pub uc: usize,
+    pub uv: usize,
     pub end: usize,
 }
 
@@ -28,24 +28,24 @@ pub fn places_of(n: u32, m: u32, r: u32, lcount: u32, ucount: u32) -> Places
     let rank = index(r);
     let lower = index(lcount);
     let upper = index(ucount);
-    let rows = 29;
-    let cols = rows + 4 * height;
-    let lstarts = cols + 4 * width;
-    let lcols = lstarts + 4 * (height + 1);
-    let lvals = lcols + 4 * lower;
-    let ustarts = lvals + 4 * lower;
-    let ucols = ustarts + 4 * (rank + 1);
-    let uvals = ucols + 4 * upper;
-    let end = uvals + 4 * upper;
+    let ro = 29;
+    let co = ro + 4 * height;
+    let ls = co + 4 * width;
+    let lc = ls + 4 * (height + 1);
+    let lv = lc + 4 * lower;
+    let us = lv + 4 * lower;
+    let uc = us + 4 * (rank + 1);
+    let uv = uc + 4 * upper;
+    let end = uv + 4 * upper;
     Places {
-        rows,
-        cols,
-        lstarts,
-        lcols,
-        lvals,
-        ustarts,
-        ucols,
-        uvals,
+        ro,
+        co,
+        ls,
+        lc,
+        lv,
+        us,
+        uc,
+        uv,
         end,
     }
 }

@@ -66,24 +66,24 @@ fn put_certificate(
     n: u32,
     m: u32,
     r: u32,
-    rows: &[u32],
-    cols: &[u32],
-    lstarts: &[u32],
-    lcols: &[u32],
-    lvals: &[u32],
-    ustarts: &[u32],
-    ucols: &[u32],
-    uvals: &[u32],
+    ro: &[u32],
+    co: &[u32],
+    ls: &[u32],
+    lc: &[u32],
+    lv: &[u32],
+    us: &[u32],
+    uc: &[u32],
+    uv: &[u32],
     buffer: &mut [u8],
 ) -> usize
-    requires { ⌜ CertificateRoom p n m (setOf r (now rows) (now cols) (compressed (now lstarts) (now lcols) (now lvals)) (compressed (now ustarts) (now ucols) (now uvals))) (now buffer) ⌝ }
-    ensures { λ z. ⌜ Stored (now (buffer .entry)) (now (buffer .exit)) 0 z (certificateOf p n m (setOf r (now (rows .entry)) (now (cols .entry)) (compressed (now (lstarts .entry)) (now (lcols .entry)) (now (lvals .entry))) (compressed (now (ustarts .entry)) (now (ucols .entry)) (now (uvals .entry))))) ⌝ }
+    requires { ⌜ CertificateRoom p n m (setOf r (now ro) (now co) (compressed (now ls) (now lc) (now lv)) (compressed (now us) (now uc) (now uv))) (now buffer) ⌝ }
+    ensures { λ z. ⌜ Stored (now (buffer .entry)) (now (buffer .exit)) 0 z (certificateOf p n m (setOf r (now (ro .entry)) (now (co .entry)) (compressed (now (ls .entry)) (now (lc .entry)) (now (lv .entry))) (compressed (now (us .entry)) (now (uc .entry)) (now (uv .entry))))) ⌝ }
 {
-    let after_header = put_header(p, n, m, r, lcols.len() as u32, ucols.len() as u32, buffer);
-    let after_rows = put_words(rows, buffer, after_header);
-    let after_cols = put_words(cols, buffer, after_rows);
-    let after_lower = put_factor(lstarts, lcols, lvals, buffer, after_cols);
-    put_factor(ustarts, ucols, uvals, buffer, after_lower)
+    let after_header = put_header(p, n, m, r, lc.len() as u32, uc.len() as u32, buffer);
+    let after_rows = put_words(ro, buffer, after_header);
+    let after_cols = put_words(co, buffer, after_rows);
+    let after_lower = put_factor(ls, lc, lv, buffer, after_cols);
+    put_factor(us, uc, uv, buffer, after_lower)
 }
 
 // Writes the certificate of a set into the lent buffer, zero past its end; its length, or 0 where the buffer is shorter
@@ -93,37 +93,23 @@ pub fn write(
     n: u32,
     m: u32,
     r: u32,
-    rows: &[u32],
-    cols: &[u32],
-    lstarts: &[u32],
-    lcols: &[u32],
-    lvals: &[u32],
-    ustarts: &[u32],
-    ucols: &[u32],
-    uvals: &[u32],
+    ro: &[u32],
+    co: &[u32],
+    ls: &[u32],
+    lc: &[u32],
+    lv: &[u32],
+    us: &[u32],
+    uc: &[u32],
+    uv: &[u32],
     buffer: &mut [u8],
 ) -> usize
-    requires { ⌜ Writable n m (setOf r (now rows) (now cols) (compressed (now lstarts) (now lcols) (now lvals)) (compressed (now ustarts) (now ucols) (now uvals))) ⌝ }
-    ensures { λ z. ⌜ Writes (certificateOf p n m (setOf r (now (rows .entry)) (now (cols .entry)) (compressed (now (lstarts .entry)) (now (lcols .entry)) (now (lvals .entry))) (compressed (now (ustarts .entry)) (now (ucols .entry)) (now (uvals .entry))))) (now (buffer .entry)) (now (buffer .exit)) z ⌝ }
+    requires { ⌜ Writable n m (setOf r (now ro) (now co) (compressed (now ls) (now lc) (now lv)) (compressed (now us) (now uc) (now uv))) ⌝ }
+    ensures { λ z. ⌜ Writes (certificateOf p n m (setOf r (now (ro .entry)) (now (co .entry)) (compressed (now (ls .entry)) (now (lc .entry)) (now (lv .entry))) (compressed (now (us .entry)) (now (uc .entry)) (now (uv .entry))))) (now (buffer .entry)) (now (buffer .exit)) z ⌝ }
 {
     clear_bytes(buffer);
-    let places = places_of(n, m, r, lcols.len() as u32, ucols.len() as u32);
+    let places = places_of(n, m, r, lc.len() as u32, uc.len() as u32);
     if buffer.len() < places.end {
         return 0;
     }
-    put_certificate(
-        p,
-        n,
-        m,
-        r,
-        rows,
-        cols,
-        lstarts,
-        lcols,
-        lvals,
-        ustarts,
-        ucols,
-        uvals,
-        buffer,
-    )
+    put_certificate(p, n, m, r, ro, co, ls, lc, lv, us, uc, uv, buffer)
 }

@@ -91,7 +91,7 @@ fn is_combination(
 // taken away p - 1 times it is added once. The two rows are handed on as middle parts of their lists.
 fn row_agrees(
     q: Modulus,
-    ss: &[u32],
+    starts: &[u32],
     sb: &[u8],
     cols: &[u32],
     cb: &[u8],
@@ -116,13 +116,13 @@ fn row_agrees(
     i: usize,
     work: &mut [u64],
 ) -> bool
-    requires { ⌜ (i < n) × Comparable (q .p) n r (viewed (now ss) (now sb) (now cols) (now cb) (now vals) (now vb)) (view (now ro) (now rob)) (viewed (now ls) (now lsb) (now lc) (now lcb) (now lv) (now lvb)) (viewed (now us) (now usb) (now uc) (now ucb) (now uv) (now uvb)) (now work) ⌝ }
-    ensures { λ z. ⌜ (z ≡ agrees (q .p) (length (now (work .entry))) r (matrix (viewed (now (ss .entry)) (now (sb .entry)) (now (cols .entry)) (now (cb .entry)) (now (vals .entry)) (now (vb .entry)))) (vector (view (now (ro .entry)) (now (rob .entry)))) (matrix (viewed (now (ls .entry)) (now (lsb .entry)) (now (lc .entry)) (now (lcb .entry)) (now (lv .entry)) (now (lvb .entry)))) (matrix (viewed (now (us .entry)) (now (usb .entry)) (now (uc .entry)) (now (ucb .entry)) (now (uv .entry)) (now (uvb .entry)))) i) × (now (work .exit) ≡ now (work .entry)) ⌝ }
+    requires { ⌜ (i < n) × Comparable (q .p) n r (viewed (now starts) (now sb) (now cols) (now cb) (now vals) (now vb)) (view (now ro) (now rob)) (viewed (now ls) (now lsb) (now lc) (now lcb) (now lv) (now lvb)) (viewed (now us) (now usb) (now uc) (now ucb) (now uv) (now uvb)) (now work) ⌝ }
+    ensures { λ z. ⌜ (z ≡ agrees (q .p) (length (now (work .entry))) r (matrix (viewed (now (starts .entry)) (now (sb .entry)) (now (cols .entry)) (now (cb .entry)) (now (vals .entry)) (now (vb .entry)))) (vector (view (now (ro .entry)) (now (rob .entry)))) (matrix (viewed (now (ls .entry)) (now (lsb .entry)) (now (lc .entry)) (now (lcb .entry)) (now (lv .entry)) (now (lvb .entry)))) (matrix (viewed (now (us .entry)) (now (usb .entry)) (now (uc .entry)) (now (ucb .entry)) (now (uv .entry)) (now (uvb .entry)))) i) × (now (work .exit) ≡ now (work .entry)) ⌝ }
 {
     let k = index_at(ro, rob, i);
-    subtract_row(q, ss, sb, cols, cb, vals, vb, k, q.p - 1, work);
-    let a = index_at(ss, sb, k);
-    let e = index_at(ss, sb, k + 1);
+    subtract_row(q, starts, sb, cols, cb, vals, vb, k, q.p - 1, work);
+    let a = index_at(starts, sb, k);
+    let e = index_at(starts, sb, k + 1);
     let from = index_at(ls, lsb, i);
     let to = index_at(ls, lsb, i + 1);
     is_combination(
@@ -147,7 +147,7 @@ fn row_agrees(
 // The first position whose row differs from the product's, or n.
 pub fn first_differing(
     q: Modulus,
-    ss: &[u32],
+    starts: &[u32],
     sb: &[u8],
     cols: &[u32],
     cb: &[u8],
@@ -171,14 +171,14 @@ pub fn first_differing(
     n: usize,
     work: &mut [u64],
 ) -> usize
-    requires { ⌜ Comparable (q .p) n r (viewed (now ss) (now sb) (now cols) (now cb) (now vals) (now vb)) (view (now ro) (now rob)) (viewed (now ls) (now lsb) (now lc) (now lcb) (now lv) (now lvb)) (viewed (now us) (now usb) (now uc) (now ucb) (now uv) (now uvb)) (now work) ⌝ }
-    ensures { λ z. ⌜ (z ≡ first n (agrees (q .p) (length (now (work .entry))) r (matrix (viewed (now (ss .entry)) (now (sb .entry)) (now (cols .entry)) (now (cb .entry)) (now (vals .entry)) (now (vb .entry)))) (vector (view (now (ro .entry)) (now (rob .entry)))) (matrix (viewed (now (ls .entry)) (now (lsb .entry)) (now (lc .entry)) (now (lcb .entry)) (now (lv .entry)) (now (lvb .entry)))) (matrix (viewed (now (us .entry)) (now (usb .entry)) (now (uc .entry)) (now (ucb .entry)) (now (uv .entry)) (now (uvb .entry)))))) × (now (work .exit) ≡ now (work .entry)) ⌝ }
+    requires { ⌜ Comparable (q .p) n r (viewed (now starts) (now sb) (now cols) (now cb) (now vals) (now vb)) (view (now ro) (now rob)) (viewed (now ls) (now lsb) (now lc) (now lcb) (now lv) (now lvb)) (viewed (now us) (now usb) (now uc) (now ucb) (now uv) (now uvb)) (now work) ⌝ }
+    ensures { λ z. ⌜ (z ≡ first n (agrees (q .p) (length (now (work .entry))) r (matrix (viewed (now (starts .entry)) (now (sb .entry)) (now (cols .entry)) (now (cb .entry)) (now (vals .entry)) (now (vb .entry)))) (vector (view (now (ro .entry)) (now (rob .entry)))) (matrix (viewed (now (ls .entry)) (now (lsb .entry)) (now (lc .entry)) (now (lcb .entry)) (now (lv .entry)) (now (lvb .entry)))) (matrix (viewed (now (us .entry)) (now (usb .entry)) (now (uc .entry)) (now (ucb .entry)) (now (uv .entry)) (now (uvb .entry)))))) × (now (work .exit) ≡ now (work .entry)) ⌝ }
 {
     let mut i = 0;
     while i < n {
         if !row_agrees(
             q,
-            ss,
+            starts,
             sb,
             cols,
             cb,

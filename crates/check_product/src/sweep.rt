@@ -91,11 +91,11 @@ fn sweep_rows(
 }
 
 // How many entries row k has.
-fn row_length(ss: &[u32], sb: &[u8], k: usize) -> usize
-    requires { ⌜ (k + 1 < length (view (now ss) (now sb))) × StartsRise (view (now ss) (now sb)) ⌝ }
-    ensures { λ r. ⌜ r ≡ getD (view (now (ss .entry)) (now (sb .entry))) (k + 1) 0 - getD (view (now (ss .entry)) (now (sb .entry))) k 0 ⌝ }
+fn row_length(starts: &[u32], sb: &[u8], k: usize) -> usize
+    requires { ⌜ (k + 1 < length (view (now starts) (now sb))) × StartsRise (view (now starts) (now sb)) ⌝ }
+    ensures { λ r. ⌜ r ≡ getD (view (now (starts .entry)) (now (sb .entry))) (k + 1) 0 - getD (view (now (starts .entry)) (now (sb .entry))) k 0 ⌝ }
 {
-    index_at(ss, sb, k + 1) - index_at(ss, sb, k)
+    index_at(starts, sb, k + 1) - index_at(starts, sb, k)
 }
 
 // Whether the rows of U that a row of L names, and `own` entries more, have fewer entries together than there are cells.

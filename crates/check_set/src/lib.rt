@@ -6,22 +6,22 @@ ghost use Rattle.sparse.specs.Matrix.{viewed};
 ghost use Rattle.sparse.specs.Set.{setOf};
 ghost use Rattle.pluq.specs.Judge.{judgeFactors, judge};
 ghost use Rattle.check_set.specs.Needs.{Judgeable, Checkable};
-use refusals::Outcome;
 use check_product::first_differing;
-use residue::Modulus;
 use check_shape::lower::lower_ok;
 use check_shape::order::is_permutation;
 use check_shape::upper::upper_ok;
-use sparse::form::form_ok;
+use refusals::Outcome;
 use refusals::numbers::BAD_FACTORS;
 use refusals::numbers::NO_PERMUTATION;
 use refusals::numbers::PRODUCT_DIFFERS;
 use refusals::numbers::RANK_TOO_LARGE;
+use residue::Modulus;
+use sparse::form::form_ok;
 
 // 13, then 14.
 pub fn judge_factors(
     q: Modulus,
-    ss: &[u32],
+    starts: &[u32],
     sb: &[u8],
     cols: &[u32],
     cb: &[u8],
@@ -48,8 +48,8 @@ pub fn judge_factors(
     r: u32,
     work: &mut [u64],
 ) -> Outcome
-    requires { ⌜ Judgeable (q .p) n m (viewed (now ss) (now sb) (now cols) (now cb) (now vals) (now vb)) (setOf r (view (now ro) (now rob)) (view (now co) (now cob)) (viewed (now ls) (now lsb) (now lc) (now lcb) (now lv) (now lvb)) (viewed (now us) (now usb) (now uc) (now ucb) (now uv) (now uvb))) (now work) ⌝ }
-    ensures { λ o. ⌜ (o ≡ judgeFactors (q .p) n m (viewed (now (ss .entry)) (now (sb .entry)) (now (cols .entry)) (now (cb .entry)) (now (vals .entry)) (now (vb .entry))) (setOf r (view (now (ro .entry)) (now (rob .entry))) (view (now (co .entry)) (now (cob .entry))) (viewed (now (ls .entry)) (now (lsb .entry)) (now (lc .entry)) (now (lcb .entry)) (now (lv .entry)) (now (lvb .entry))) (viewed (now (us .entry)) (now (usb .entry)) (now (uc .entry)) (now (ucb .entry)) (now (uv .entry)) (now (uvb .entry))))) × (now (work .exit) ≡ now (work .entry)) ⌝ }
+    requires { ⌜ Judgeable (q .p) n m (viewed (now starts) (now sb) (now cols) (now cb) (now vals) (now vb)) (setOf r (view (now ro) (now rob)) (view (now co) (now cob)) (viewed (now ls) (now lsb) (now lc) (now lcb) (now lv) (now lvb)) (viewed (now us) (now usb) (now uc) (now ucb) (now uv) (now uvb))) (now work) ⌝ }
+    ensures { λ o. ⌜ (o ≡ judgeFactors (q .p) n m (viewed (now (starts .entry)) (now (sb .entry)) (now (cols .entry)) (now (cb .entry)) (now (vals .entry)) (now (vb .entry))) (setOf r (view (now (ro .entry)) (now (rob .entry))) (view (now (co .entry)) (now (cob .entry))) (viewed (now (ls .entry)) (now (lsb .entry)) (now (lc .entry)) (now (lcb .entry)) (now (lv .entry)) (now (lvb .entry))) (viewed (now (us .entry)) (now (usb .entry)) (now (uc .entry)) (now (ucb .entry)) (now (uv .entry)) (now (uvb .entry))))) × (now (work .exit) ≡ now (work .entry)) ⌝ }
 {
     if !form_ok(ls, lsb, lc, lcb, lv, lvb, r, q.p) {
         return Outcome::Refused(BAD_FACTORS, 0);
@@ -65,7 +65,7 @@ pub fn judge_factors(
     }
     let i = first_differing(
         q,
-        ss,
+        starts,
         sb,
         cols,
         cb,
@@ -98,7 +98,7 @@ pub fn judge_factors(
 // 11, then 12, then the factors.
 pub fn check(
     q: Modulus,
-    ss: &[u32],
+    starts: &[u32],
     sb: &[u8],
     cols: &[u32],
     cb: &[u8],
@@ -125,8 +125,8 @@ pub fn check(
     r: u32,
     work: &mut [u64],
 ) -> Outcome
-    requires { ⌜ Checkable (q .p) n m (viewed (now ss) (now sb) (now cols) (now cb) (now vals) (now vb)) (setOf r (view (now ro) (now rob)) (view (now co) (now cob)) (viewed (now ls) (now lsb) (now lc) (now lcb) (now lv) (now lvb)) (viewed (now us) (now usb) (now uc) (now ucb) (now uv) (now uvb))) (now work) ⌝ }
-    ensures { λ o. ⌜ (o ≡ judge (q .p) n m (viewed (now (ss .entry)) (now (sb .entry)) (now (cols .entry)) (now (cb .entry)) (now (vals .entry)) (now (vb .entry))) (setOf r (view (now (ro .entry)) (now (rob .entry))) (view (now (co .entry)) (now (cob .entry))) (viewed (now (ls .entry)) (now (lsb .entry)) (now (lc .entry)) (now (lcb .entry)) (now (lv .entry)) (now (lvb .entry))) (viewed (now (us .entry)) (now (usb .entry)) (now (uc .entry)) (now (ucb .entry)) (now (uv .entry)) (now (uvb .entry))))) × (now (work .exit) ≡ now (work .entry)) ⌝ }
+    requires { ⌜ Checkable (q .p) n m (viewed (now starts) (now sb) (now cols) (now cb) (now vals) (now vb)) (setOf r (view (now ro) (now rob)) (view (now co) (now cob)) (viewed (now ls) (now lsb) (now lc) (now lcb) (now lv) (now lvb)) (viewed (now us) (now usb) (now uc) (now ucb) (now uv) (now uvb))) (now work) ⌝ }
+    ensures { λ o. ⌜ (o ≡ judge (q .p) n m (viewed (now (starts .entry)) (now (sb .entry)) (now (cols .entry)) (now (cb .entry)) (now (vals .entry)) (now (vb .entry))) (setOf r (view (now (ro .entry)) (now (rob .entry))) (view (now (co .entry)) (now (cob .entry))) (viewed (now (ls .entry)) (now (lsb .entry)) (now (lc .entry)) (now (lcb .entry)) (now (lv .entry)) (now (lvb .entry))) (viewed (now (us .entry)) (now (usb .entry)) (now (uc .entry)) (now (ucb .entry)) (now (uv .entry)) (now (uvb .entry))))) × (now (work .exit) ≡ now (work .entry)) ⌝ }
 {
     if !is_permutation(ro, rob, work) {
         return Outcome::Refused(NO_PERMUTATION, 0);
@@ -142,7 +142,7 @@ pub fn check(
     }
     judge_factors(
         q,
-        ss,
+        starts,
         sb,
         cols,
         cb,

@@ -9,7 +9,7 @@ use sparse::words::word;
 
 // Whether the last column of row k is k.
 fn lower_row(
-    ss: &[u32],
+    starts: &[u32],
     sb: &[u8],
     cols: &[u32],
     cb: &[u8],
@@ -19,11 +19,11 @@ fn lower_row(
     r: usize,
     k: usize,
 ) -> bool
-    requires { ⌜ (k < r) × Rows p r r (viewed (now ss) (now sb) (now cols) (now cb) (now vals) (now vb)) ⌝ }
-    ensures { λ z. ⌜ z ≡ lowerRow r (matrix (viewed (now (ss .entry)) (now (sb .entry)) (now (cols .entry)) (now (cb .entry)) (now (vals .entry)) (now (vb .entry))) k) k ⌝ }
+    requires { ⌜ (k < r) × Rows p r r (viewed (now starts) (now sb) (now cols) (now cb) (now vals) (now vb)) ⌝ }
+    ensures { λ z. ⌜ z ≡ lowerRow r (matrix (viewed (now (starts .entry)) (now (sb .entry)) (now (cols .entry)) (now (cb .entry)) (now (vals .entry)) (now (vb .entry))) k) k ⌝ }
 {
-    let a = index(word(ss, sb, k));
-    let e = index(word(ss, sb, k + 1));
+    let a = index(word(starts, sb, k));
+    let e = index(word(starts, sb, k + 1));
     if e <= a {
         return false;
     }
@@ -32,7 +32,7 @@ fn lower_row(
 
 // Whether L has its shape.
 pub fn lower_ok(
-    ss: &[u32],
+    starts: &[u32],
     sb: &[u8],
     cols: &[u32],
     cb: &[u8],
@@ -41,12 +41,12 @@ pub fn lower_ok(
     p: u32,
     r: usize,
 ) -> bool
-    requires { ⌜ Rows p r r (viewed (now ss) (now sb) (now cols) (now cb) (now vals) (now vb)) ⌝ }
-    ensures { λ z. ⌜ z ≡ lower r (matrix (viewed (now (ss .entry)) (now (sb .entry)) (now (cols .entry)) (now (cb .entry)) (now (vals .entry)) (now (vb .entry)))) ⌝ }
+    requires { ⌜ Rows p r r (viewed (now starts) (now sb) (now cols) (now cb) (now vals) (now vb)) ⌝ }
+    ensures { λ z. ⌜ z ≡ lower r (matrix (viewed (now (starts .entry)) (now (sb .entry)) (now (cols .entry)) (now (cb .entry)) (now (vals .entry)) (now (vb .entry)))) ⌝ }
 {
     let mut k = 0;
     while k < r {
-        if !lower_row(ss, sb, cols, cb, vals, vb, p, r, k) {
+        if !lower_row(starts, sb, cols, cb, vals, vb, p, r, k) {
             return false;
         }
         k += 1;

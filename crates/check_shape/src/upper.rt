@@ -58,7 +58,7 @@ fn value_at(
 
 // Whether row k has 1 at column j and nothing at the marked columns.
 fn unit_row(
-    ss: &[u32],
+    starts: &[u32],
     sb: &[u8],
     cols: &[u32],
     cb: &[u8],
@@ -69,11 +69,11 @@ fn unit_row(
     j: u32,
     work: &mut [u64],
 ) -> bool
-    requires { ⌜ AtRow p k (viewed (now ss) (now sb) (now cols) (now cb) (now vals) (now vb)) (now work) ⌝ }
-    ensures { λ z. ⌜ (z ≡ (clean (now (work .entry)) (rowOf (view (now (ss .entry)) (now (sb .entry))) k (view (now (cols .entry)) (now (cb .entry)))) && eqb (matrix (viewed (now (ss .entry)) (now (sb .entry)) (now (cols .entry)) (now (cb .entry)) (now (vals .entry)) (now (vb .entry))) k j) 1)) × (now (work .exit) ≡ now (work .entry)) ⌝ }
+    requires { ⌜ AtRow p k (viewed (now starts) (now sb) (now cols) (now cb) (now vals) (now vb)) (now work) ⌝ }
+    ensures { λ z. ⌜ (z ≡ (clean (now (work .entry)) (rowOf (view (now (starts .entry)) (now (sb .entry))) k (view (now (cols .entry)) (now (cb .entry)))) && eqb (matrix (viewed (now (starts .entry)) (now (sb .entry)) (now (cols .entry)) (now (cb .entry)) (now (vals .entry)) (now (vb .entry))) k j) 1)) × (now (work .exit) ≡ now (work .entry)) ⌝ }
 {
-    let a = index(word(ss, sb, k));
-    let e = index(word(ss, sb, k + 1));
+    let a = index(word(starts, sb, k));
+    let e = index(word(starts, sb, k + 1));
     let width = work.len();
     if !unmarked(cols, cb, a, e, work) {
         return false;
@@ -83,7 +83,7 @@ fn unit_row(
 
 // Whether U has its shape; marks the columns of the rows gone through.
 fn upper_rows(
-    ss: &[u32],
+    starts: &[u32],
     sb: &[u8],
     cols: &[u32],
     cb: &[u8],
@@ -95,13 +95,13 @@ fn upper_rows(
     r: usize,
     work: &mut [u64],
 ) -> bool
-    requires { ⌜ ColumnsTestable p r (viewed (now ss) (now sb) (now cols) (now cb) (now vals) (now vb)) (view (now co) (now cob)) (now work) ⌝ }
-    ensures { λ z. ⌜ (z ≡ upper r (vector (view (now (co .entry)) (now (cob .entry)))) (matrix (viewed (now (ss .entry)) (now (sb .entry)) (now (cols .entry)) (now (cb .entry)) (now (vals .entry)) (now (vb .entry))))) × (length (now (work .exit)) ≡ length (now (work .entry))) ⌝ }
+    requires { ⌜ ColumnsTestable p r (viewed (now starts) (now sb) (now cols) (now cb) (now vals) (now vb)) (view (now co) (now cob)) (now work) ⌝ }
+    ensures { λ z. ⌜ (z ≡ upper r (vector (view (now (co .entry)) (now (cob .entry)))) (matrix (viewed (now (starts .entry)) (now (sb .entry)) (now (cols .entry)) (now (cb .entry)) (now (vals .entry)) (now (vb .entry))))) × (length (now (work .exit)) ≡ length (now (work .entry))) ⌝ }
 {
     let mut k = 0;
     while k < r {
         let j = word(co, cob, k);
-        if !unit_row(ss, sb, cols, cb, vals, vb, p, k, j, work) {
+        if !unit_row(starts, sb, cols, cb, vals, vb, p, k, j, work) {
             return false;
         }
         let c = index(j);
@@ -113,7 +113,7 @@ fn upper_rows(
 
 // Whether U has its shape; the working row is all zero before and after.
 pub fn upper_ok(
-    ss: &[u32],
+    starts: &[u32],
     sb: &[u8],
     cols: &[u32],
     cb: &[u8],
@@ -125,10 +125,10 @@ pub fn upper_ok(
     r: usize,
     work: &mut [u64],
 ) -> bool
-    requires { ⌜ ColumnsTestable p r (viewed (now ss) (now sb) (now cols) (now cb) (now vals) (now vb)) (view (now co) (now cob)) (now work) ⌝ }
-    ensures { λ z. ⌜ (z ≡ upper r (vector (view (now (co .entry)) (now (cob .entry)))) (matrix (viewed (now (ss .entry)) (now (sb .entry)) (now (cols .entry)) (now (cb .entry)) (now (vals .entry)) (now (vb .entry))))) × (now (work .exit) ≡ now (work .entry)) ⌝ }
+    requires { ⌜ ColumnsTestable p r (viewed (now starts) (now sb) (now cols) (now cb) (now vals) (now vb)) (view (now co) (now cob)) (now work) ⌝ }
+    ensures { λ z. ⌜ (z ≡ upper r (vector (view (now (co .entry)) (now (cob .entry)))) (matrix (viewed (now (starts .entry)) (now (sb .entry)) (now (cols .entry)) (now (cb .entry)) (now (vals .entry)) (now (vb .entry))))) × (now (work .exit) ≡ now (work .entry)) ⌝ }
 {
-    let ok = upper_rows(ss, sb, cols, cb, vals, vb, co, cob, p, r, work);
+    let ok = upper_rows(starts, sb, cols, cb, vals, vb, co, cob, p, r, work);
     clear_row(work);
     ok
 }

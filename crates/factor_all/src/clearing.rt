@@ -6,18 +6,18 @@ use lists::clear;
 use lists::clear_row;
 
 // Clears the starts, columns and values of a factor.
-fn clear_factor(ss: &mut [u32], cs: &mut [u32], vs: &mut [u32])
-    ensures { λ _. ⌜ Cleared (compressed (now (ss .exit)) (now (cs .exit)) (now (vs .exit))) ⌝ }
+fn clear_factor(starts: &mut [u32], cs: &mut [u32], vs: &mut [u32])
+    ensures { λ _. ⌜ Cleared (compressed (now (starts .exit)) (now (cs .exit)) (now (vs .exit))) ⌝ }
 {
-    clear(ss);
+    clear(starts);
     clear(cs);
     clear(vs);
 }
 
 // Clears everything that is lent to the factoring.
 pub fn clear_all(
-    rows: &mut [u32],
-    columns: &mut [u32],
+    ro: &mut [u32],
+    co: &mut [u32],
     ls: &mut [u32],
     lc: &mut [u32],
     lv: &mut [u32],
@@ -26,10 +26,10 @@ pub fn clear_all(
     uv: &mut [u32],
     work: &mut [u64],
 )
-    ensures { λ _. ⌜ AllClear (now (rows .exit)) (now (columns .exit)) (compressed (now (ls .exit)) (now (lc .exit)) (now (lv .exit))) (compressed (now (us .exit)) (now (uc .exit)) (now (uv .exit))) (now (work .exit)) ⌝ }
+    ensures { λ _. ⌜ AllClear (now (ro .exit)) (now (co .exit)) (compressed (now (ls .exit)) (now (lc .exit)) (now (lv .exit))) (compressed (now (us .exit)) (now (uc .exit)) (now (uv .exit))) (now (work .exit)) ⌝ }
 {
-    clear(rows);
-    clear(columns);
+    clear(ro);
+    clear(co);
     clear_factor(ls, lc, lv);
     clear_factor(us, uc, uv);
     clear_row(work);

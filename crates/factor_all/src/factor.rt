@@ -10,8 +10,8 @@ use crate::clearing::clear_all;
 use factor_order::pairs::structural_pairs;
 use factor_passes::passes::pass_one;
 use factor_passes::passes::pass_two;
-use residue::Modulus;
 use refusals::numbers::STORAGE_TOO_SHORT;
+use residue::Modulus;
 
 // What factoring returns: document 01's number with its detail, the rank and the number of structural pivots.
 pub struct Factored {
@@ -24,12 +24,12 @@ pub struct Factored {
 // Factors from the s pairs that `rows` and `columns` hold, whichever rule chose them.
 pub fn factor_from(
     q: Modulus,
-    ss: &[u32],
+    starts: &[u32],
     cols: &[u32],
     vals: &[u32],
     s: usize,
-    rows: &mut [u32],
-    columns: &mut [u32],
+    ro: &mut [u32],
+    co: &mut [u32],
     ls: &mut [u32],
     lc: &mut [u32],
     lv: &mut [u32],
@@ -38,17 +38,17 @@ pub fn factor_from(
     uv: &mut [u32],
     work: &mut [u64],
 ) -> Factored
-    requires { ⌜ FromReady (q .p) s (compressed (now ss) (now cols) (now vals)) (now rows) (now columns) (compressed (now ls) (now lc) (now lv)) (compressed (now us) (now uc) (now uv)) (now work) ⌝ }
-    ensures { λ o. ⌜ Leaves (factoringFrom (q .p) (length (now (rows .entry))) (length (now (columns .entry))) (matrix (compressed (now (ss .entry)) (now (cols .entry)) (now (vals .entry)))) (length (now (lc .entry))) (length (now (uc .entry))) (pairsOf s (now (rows .entry)) (now (columns .entry)))) (o .number) (o .detail) (o .rank) (o .structural) (now (rows .exit)) (now (columns .exit)) (compressed (now (ls .exit)) (now (lc .exit)) (now (lv .exit))) (compressed (now (us .exit)) (now (uc .exit)) (now (uv .exit))) (now (work .exit)) ⌝ }
+    requires { ⌜ FromReady (q .p) s (compressed (now starts) (now cols) (now vals)) (now ro) (now co) (compressed (now ls) (now lc) (now lv)) (compressed (now us) (now uc) (now uv)) (now work) ⌝ }
+    ensures { λ o. ⌜ Leaves (factoringFrom (q .p) (length (now (ro .entry))) (length (now (co .entry))) (matrix (compressed (now (starts .entry)) (now (cols .entry)) (now (vals .entry)))) (length (now (lc .entry))) (length (now (uc .entry))) (pairsOf s (now (ro .entry)) (now (co .entry)))) (o .number) (o .detail) (o .rank) (o .structural) (now (ro .exit)) (now (co .exit)) (compressed (now (ls .exit)) (now (lc .exit)) (now (lv .exit))) (compressed (now (us .exit)) (now (uc .exit)) (now (uv .exit))) (now (work .exit)) ⌝ }
 {
     let pass = pass_one(
         q,
-        ss,
+        starts,
         cols,
         vals,
         s,
-        rows,
-        columns,
+        ro,
+        co,
         ls,
         lc,
         lv,
@@ -64,7 +64,7 @@ pub fn factor_from(
     let at = so.at;
     let l = so.l;
     if over {
-        clear_all(rows, columns, ls, lc, lv, us, uc, uv, work);
+        clear_all(ro, co, ls, lc, lv, us, uc, uv, work);
         return Factored {
             number: STORAGE_TOO_SHORT,
             detail: stop,
@@ -74,7 +74,7 @@ pub fn factor_from(
     }
     pass_two(
         q,
-        ss,
+        starts,
         cols,
         vals,
         r,
@@ -83,8 +83,8 @@ pub fn factor_from(
         us,
         uc,
         uv,
-        rows,
-        columns,
+        ro,
+        co,
         ls,
         lc,
         lv,
@@ -108,13 +108,13 @@ pub fn factor_from(
 // Leaves: R, C, L and U, zero past their ends; all zero on a refusal; the working row all zero.
 pub fn factor(
     q: Modulus,
-    ss: &[u32],
+    starts: &[u32],
     cols: &[u32],
     vals: &[u32],
     n: u32,
     m: u32,
-    rows: &mut [u32],
-    columns: &mut [u32],
+    ro: &mut [u32],
+    co: &mut [u32],
     ls: &mut [u32],
     lc: &mut [u32],
     lv: &mut [u32],
@@ -123,27 +123,27 @@ pub fn factor(
     uv: &mut [u32],
     work: &mut [u64],
 ) -> Factored
-    requires { ⌜ FactorReady (q .p) n m (compressed (now ss) (now cols) (now vals)) (now rows) (now columns) (compressed (now ls) (now lc) (now lv)) (compressed (now us) (now uc) (now uv)) (now work) ⌝ }
-    ensures { λ o. ⌜ Leaves (factoring (q .p) n m (compressed (now (ss .entry)) (now (cols .entry)) (now (vals .entry))) (length (now (lc .entry))) (length (now (uc .entry)))) (o .number) (o .detail) (o .rank) (o .structural) (now (rows .exit)) (now (columns .exit)) (compressed (now (ls .exit)) (now (lc .exit)) (now (lv .exit))) (compressed (now (us .exit)) (now (uc .exit)) (now (uv .exit))) (now (work .exit)) ⌝ }
+    requires { ⌜ FactorReady (q .p) n m (compressed (now starts) (now cols) (now vals)) (now ro) (now co) (compressed (now ls) (now lc) (now lv)) (compressed (now us) (now uc) (now uv)) (now work) ⌝ }
+    ensures { λ o. ⌜ Leaves (factoring (q .p) n m (compressed (now (starts .entry)) (now (cols .entry)) (now (vals .entry))) (length (now (lc .entry))) (length (now (uc .entry)))) (o .number) (o .detail) (o .rank) (o .structural) (now (ro .exit)) (now (co .exit)) (compressed (now (ls .exit)) (now (lc .exit)) (now (lv .exit))) (compressed (now (us .exit)) (now (uc .exit)) (now (uv .exit))) (now (work .exit)) ⌝ }
 {
     let s = structural_pairs(
-        ss,
+        starts,
         cols,
         vals,
         q.p,
         n as usize,
-        rows,
-        columns,
+        ro,
+        co,
         &mut work[..m as usize],
     );
     factor_from(
         q,
-        ss,
+        starts,
         cols,
         vals,
         s,
-        rows,
-        columns,
+        ro,
+        co,
         ls,
         lc,
         lv,

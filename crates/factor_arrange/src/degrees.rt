@@ -5,8 +5,8 @@ ghost use lib.ListN.{length};
 ghost use Rattle.sparse.specs.Matrix.{compressed};
 ghost use Rattle.factor_arrange.specs.Waiting.{waitingTo, waiting, DegreesCounted, Ready};
 ghost use Rattle.factor_arrange.specs.Needs.{DegreesReady, DegreeRowReady, MarkReady};
-use lists::index;
 use factor_names::columns_of;
+use lists::index;
 
 // Copies a list into another of its length.
 pub fn copy(from: &[u32], to: &mut [u32])
@@ -22,7 +22,7 @@ pub fn copy(from: &[u32], to: &mut [u32])
 
 // Counts row k, which leads to the pivots of the other columns that it has.
 fn count_row(
-    ss: &[u32],
+    starts: &[u32],
     cols: &[u32],
     vals: &[u32],
     p: u32,
@@ -32,10 +32,10 @@ fn count_row(
     chosen: &[u32],
     degrees: &mut [u32],
 )
-    requires { ⌜ DegreeRowReady p n k (compressed (now ss) (now cols) (now vals)) (now work) (now chosen) (now degrees) ⌝ }
-    ensures { λ _. ⌜ DegreesCounted (compressed (now (ss .entry)) (now (cols .entry)) (now (vals .entry))) (now (work .entry)) (waitingTo (now (chosen .entry)) (k + 1)) (now (degrees .exit)) ⌝ }
+    requires { ⌜ DegreeRowReady p n k (compressed (now starts) (now cols) (now vals)) (now work) (now chosen) (now degrees) ⌝ }
+    ensures { λ _. ⌜ DegreesCounted (compressed (now (starts .entry)) (now (cols .entry)) (now (vals .entry))) (now (work .entry)) (waitingTo (now (chosen .entry)) (k + 1)) (now (degrees .exit)) ⌝ }
 {
-    let row = columns_of(ss, cols, k);
+    let row = columns_of(starts, cols, k);
     let own = k as u64 + 1;
     let mut t = 0;
     while t < row.len() {
@@ -52,7 +52,7 @@ fn count_row(
 
 // Counts all rows that are chosen.
 pub fn count(
-    ss: &[u32],
+    starts: &[u32],
     cols: &[u32],
     vals: &[u32],
     p: u32,
@@ -61,13 +61,13 @@ pub fn count(
     chosen: &[u32],
     degrees: &mut [u32],
 )
-    requires { ⌜ DegreesReady p n (compressed (now ss) (now cols) (now vals)) (now work) (now chosen) (now degrees) ⌝ }
-    ensures { λ _. ⌜ DegreesCounted (compressed (now (ss .entry)) (now (cols .entry)) (now (vals .entry))) (now (work .entry)) (waiting (now (chosen .entry))) (now (degrees .exit)) ⌝ }
+    requires { ⌜ DegreesReady p n (compressed (now starts) (now cols) (now vals)) (now work) (now chosen) (now degrees) ⌝ }
+    ensures { λ _. ⌜ DegreesCounted (compressed (now (starts .entry)) (now (cols .entry)) (now (vals .entry))) (now (work .entry)) (waiting (now (chosen .entry))) (now (degrees .exit)) ⌝ }
 {
     let mut k = 0;
     while k < n {
         if chosen[k] != 0 {
-            count_row(ss, cols, vals, p, n, k, work, chosen, degrees);
+            count_row(starts, cols, vals, p, n, k, work, chosen, degrees);
         }
         k += 1;
     }

@@ -10,7 +10,7 @@ pub mod release;
 
 // Lists the pairs, each as it comes: the lowest ready row, which then waits no more. Gives how many there are.
 fn list_pairs(
-    ss: &[u32],
+    starts: &[u32],
     cols: &[u32],
     vals: &[u32],
     p: u32,
@@ -19,19 +19,30 @@ fn list_pairs(
     waits: &mut [u32],
     degrees: &mut [u32],
     ready: &mut [u64],
-    rows: &mut [u32],
-    columns: &mut [u32],
+    ro: &mut [u32],
+    co: &mut [u32],
 ) -> usize
-    requires { ⌜ ListReady p (length (now ready)) (compressed (now ss) (now cols) (now vals)) (now work) (now chosen) (now waits) (now degrees) (now ready) (now rows) (now columns) ⌝ }
-    ensures { λ s. ⌜ Arranged (length (now (ready .entry))) (length (now (work .entry))) (compressed (now (ss .entry)) (now (cols .entry)) (now (vals .entry))) s (now (rows .exit)) (now (columns .exit)) ⌝ }
+    requires { ⌜ ListReady p (length (now ready)) (compressed (now starts) (now cols) (now vals)) (now work) (now chosen) (now waits) (now degrees) (now ready) (now ro) (now co) ⌝ }
+    ensures { λ s. ⌜ Arranged (length (now (ready .entry))) (length (now (work .entry))) (compressed (now (starts .entry)) (now (cols .entry)) (now (vals .entry))) s (now (ro .exit)) (now (co .exit)) ⌝ }
 {
     let mut at = 0;
     let mut k = sparse::scan::next_nonzero(ready, 0);
     while k < ready.len() {
-        rows[at] = k as u32;
-        columns[at] = waits[k] - 1;
+        ro[at] = k as u32;
+        co[at] = waits[k] - 1;
         at += 1;
-        let low = release::release(ss, cols, vals, p, k, work, chosen, waits, degrees, ready);
+        let low = release::release(
+            starts,
+            cols,
+            vals,
+            p,
+            k,
+            work,
+            chosen,
+            waits,
+            degrees,
+            ready,
+        );
         k = sparse::scan::next_nonzero(ready, low);
     }
     at
@@ -39,7 +50,7 @@ fn list_pairs(
 
 // Puts the selected pairs in order, with a cell for each row of what waits, of the degrees and of the ready rows. Gives how many there are.
 fn order_pairs(
-    ss: &[u32],
+    starts: &[u32],
     cols: &[u32],
     vals: &[u32],
     p: u32,
@@ -49,17 +60,17 @@ fn order_pairs(
     waits: &mut [u32],
     counts: &mut [u32],
     ready: &mut [u64],
-    rows: &mut [u32],
-    columns: &mut [u32],
+    ro: &mut [u32],
+    co: &mut [u32],
 ) -> usize
-    requires { ⌜ OrderReady p n (compressed (now ss) (now cols) (now vals)) (now work) (now chosen) (now waits) (now counts) (now ready) (now rows) (now columns) ⌝ }
-    ensures { λ s. ⌜ Arranged n (length (now (work .entry))) (compressed (now (ss .entry)) (now (cols .entry)) (now (vals .entry))) s (now (rows .exit)) (now (columns .exit)) ⌝ }
+    requires { ⌜ OrderReady p n (compressed (now starts) (now cols) (now vals)) (now work) (now chosen) (now waits) (now counts) (now ready) (now ro) (now co) ⌝ }
+    ensures { λ s. ⌜ Arranged n (length (now (work .entry))) (compressed (now (starts .entry)) (now (cols .entry)) (now (vals .entry))) s (now (ro .exit)) (now (co .exit)) ⌝ }
 {
     degrees::copy(chosen, waits);
-    degrees::count(ss, cols, vals, p, n, work, chosen, counts);
+    degrees::count(starts, cols, vals, p, n, work, chosen, counts);
     degrees::mark_ready(chosen, counts, ready);
     list_pairs(
-        ss,
+        starts,
         cols,
         vals,
         p,
@@ -68,31 +79,31 @@ fn order_pairs(
         waits,
         counts,
         ready,
-        rows,
-        columns,
+        ro,
+        co,
     )
 }
 
 // Puts the selected pairs in order, which the working row names by column and `chosen` by row. Gives how many there are.
 pub fn arrange(
-    ss: &[u32],
+    starts: &[u32],
     cols: &[u32],
     vals: &[u32],
     p: u32,
     n: usize,
     work: &[u64],
     chosen: &[u32],
-    rows: &mut [u32],
-    columns: &mut [u32],
+    ro: &mut [u32],
+    co: &mut [u32],
 ) -> usize
-    requires { ⌜ ArrangeReady p n (compressed (now ss) (now cols) (now vals)) (now work) (now chosen) (now rows) (now columns) ⌝ }
-    ensures { λ s. ⌜ Arranged n (length (now (work .entry))) (compressed (now (ss .entry)) (now (cols .entry)) (now (vals .entry))) s (now (rows .exit)) (now (columns .exit)) ⌝ }
+    requires { ⌜ ArrangeReady p n (compressed (now starts) (now cols) (now vals)) (now work) (now chosen) (now ro) (now co) ⌝ }
+    ensures { λ s. ⌜ Arranged n (length (now (work .entry))) (compressed (now (starts .entry)) (now (cols .entry)) (now (vals .entry))) s (now (ro .exit)) (now (co .exit)) ⌝ }
 {
     let mut waits = [0u32; SIZE_CELLS];
     let mut counts = [0u32; SIZE_CELLS];
     let mut ready = [0u64; SIZE_CELLS];
     order_pairs(
-        ss,
+        starts,
         cols,
         vals,
         p,
@@ -102,7 +113,7 @@ pub fn arrange(
         &mut waits[..n],
         &mut counts[..n],
         &mut ready[..n],
-        rows,
-        columns,
+        ro,
+        co,
     )
 }

@@ -3,8 +3,8 @@ ghost use mathlib.Core.Path.{_≡_};
 ghost use lib.ListN.{length, set};
 ghost use Rattle.sparse.specs.Matrix.{compressed};
 ghost use Rattle.factor_arrange.specs.Needs.{DegreeFallsReady, Lowered, ReleaseReady, Released};
-use lists::index;
 use factor_names::columns_of;
+use lists::index;
 
 // Row q has one row less that leads to it; where none leads to it any more it becomes ready. Gives the lower of `low` and the row that became ready.
 fn lower(q: usize, low: usize, degrees: &mut [u32], ready: &mut [u64]) -> usize
@@ -26,7 +26,7 @@ fn lower(q: usize, low: usize, degrees: &mut [u32], ready: &mut [u64]) -> usize
 // Takes row k, which is ready, from those that wait: the pivots to which it leads have one row less that leads to them, and those to which none leads
 // any more become ready. Gives a row, at most k, before which none became ready.
 pub fn release(
-    ss: &[u32],
+    starts: &[u32],
     cols: &[u32],
     vals: &[u32],
     p: u32,
@@ -37,13 +37,13 @@ pub fn release(
     degrees: &mut [u32],
     ready: &mut [u64],
 ) -> usize
-    requires { ⌜ ReleaseReady p (length (now ready)) k (compressed (now ss) (now cols) (now vals)) (now work) (now chosen) (now waits) (now degrees) (now ready) ⌝ }
-    ensures { λ r. ⌜ (now (waits .exit) ≡ set (now (waits .entry)) k 0) × Released p (length (now (ready .entry))) k (compressed (now (ss .entry)) (now (cols .entry)) (now (vals .entry))) (now (work .entry)) (now (chosen .entry)) (now (waits .entry)) (now (ready .entry)) (now (degrees .exit)) (now (ready .exit)) r ⌝ }
+    requires { ⌜ ReleaseReady p (length (now ready)) k (compressed (now starts) (now cols) (now vals)) (now work) (now chosen) (now waits) (now degrees) (now ready) ⌝ }
+    ensures { λ r. ⌜ (now (waits .exit) ≡ set (now (waits .entry)) k 0) × Released p (length (now (ready .entry))) k (compressed (now (starts .entry)) (now (cols .entry)) (now (vals .entry))) (now (work .entry)) (now (chosen .entry)) (now (waits .entry)) (now (ready .entry)) (now (degrees .exit)) (now (ready .exit)) r ⌝ }
 {
     waits[k] = 0;
     ready[k] = 0;
     let own = k as u64 + 1;
-    let row = columns_of(ss, cols, k);
+    let row = columns_of(starts, cols, k);
     let mut low = k;
     let mut t = 0;
     while t < row.len() {

@@ -5,8 +5,8 @@ ghost use lib.Dec.{eqb};
 ghost use lib.ListN.{getD, take};
 ghost use Rattle.lists.specs.Tests.{first};
 ghost use Rattle.factor_dense.specs.Storing.{PlaceReady, EntryStored, StoreMultiplesReady, MultiplesStored, LeftReady, LeftStored, RowScaled};
-use lists::index;
 use factor_reduce::gather::Gathered;
+use lists::index;
 use residue::Modulus;
 use sparse::dense::first_nonzero;
 

@@ -11,10 +11,10 @@ use crate::storing::scale_row;
 use crate::storing::store_entry;
 use crate::storing::store_left;
 use crate::storing::store_multiples;
-use lists::clear_row;
-use residue::Modulus;
 use factor_row::gathering::gather_row;
 use factor_row::pivot_row::Step;
+use lists::clear_row;
+use residue::Modulus;
 
 // Whether the multiples did not fit, the place after them, and the cells that are left of the row.
 pub struct LeftRow {
@@ -42,13 +42,13 @@ pub struct DenseStep {
 // the columns js is copied, and the working row cleared.
 fn reduce_left(
     q: Modulus,
-    ss: &[u32],
+    starts: &[u32],
     cols: &[u32],
     vals: &[u32],
     i: usize,
     s: usize,
     first: usize,
-    columns: &[u32],
+    co: &[u32],
     us: &[u32],
     uc: &[u32],
     uv: &[u32],
@@ -60,18 +60,18 @@ fn reduce_left(
     lv: &mut [u32],
     work: &mut [u64],
 ) -> LeftRow
-    requires { ⌜ LeftRowReady (q .p) i s first l total (compressed (now ss) (now cols) (now vals)) (now columns) (now us) (now uc) (now uv) js width (now work) (now lc) (now lv) ⌝ }
-    ensures { λ d. ⌜ LeftRowFound (q .p) (length (now (work .entry))) l total (multiplesBy (q .p) s (now (columns .entry)) (cut s first (now (us .entry)) (now (uc .entry)) (now (uv .entry))) (matrix (compressed (now (ss .entry)) (now (cols .entry)) (now (vals .entry))) i)) (remainderBy (q .p) s (now (columns .entry)) (cut s first (now (us .entry)) (now (uc .entry)) (now (uv .entry))) (matrix (compressed (now (ss .entry)) (now (cols .entry)) (now (vals .entry))) i)) width js (now (lc .entry)) (now (lv .entry)) (now (lc .exit)) (now (lv .exit)) (now (work .exit)) (d .over) (d .next) (d .row) ⌝ }
+    requires { ⌜ LeftRowReady (q .p) i s first l total (compressed (now starts) (now cols) (now vals)) (now co) (now us) (now uc) (now uv) js width (now work) (now lc) (now lv) ⌝ }
+    ensures { λ d. ⌜ LeftRowFound (q .p) (length (now (work .entry))) l total (multiplesBy (q .p) s (now (co .entry)) (cut s first (now (us .entry)) (now (uc .entry)) (now (uv .entry))) (matrix (compressed (now (starts .entry)) (now (cols .entry)) (now (vals .entry))) i)) (remainderBy (q .p) s (now (co .entry)) (cut s first (now (us .entry)) (now (uc .entry)) (now (uv .entry))) (matrix (compressed (now (starts .entry)) (now (cols .entry)) (now (vals .entry))) i)) width js (now (lc .entry)) (now (lv .entry)) (now (lc .exit)) (now (lv .exit)) (now (work .exit)) (d .over) (d .next) (d .row) ⌝ }
 {
     let g = gather_row(
         q,
-        ss,
+        starts,
         cols,
         vals,
         i,
         s,
         first,
-        columns,
+        co,
         us,
         uc,
         uv,
@@ -161,7 +161,7 @@ fn upper_left(
 // dependent.
 pub fn take_dense(
     q: Modulus,
-    ss: &[u32],
+    starts: &[u32],
     cols: &[u32],
     vals: &[u32],
     i: usize,
@@ -171,7 +171,7 @@ pub fn take_dense(
     at: usize,
     l: usize,
     total: usize,
-    columns: &[u32],
+    co: &[u32],
     us: &[u32],
     js: [u32; 32],
     width: usize,
@@ -183,18 +183,18 @@ pub fn take_dense(
     uv: &mut [u32],
     work: &mut [u64],
 ) -> DenseStep
-    requires { ⌜ DenseReady (q .p) i s first r at l total (compressed (now ss) (now cols) (now vals)) (now columns) (now us) js width (now ks) (now block) (now work) (now lc) (now lv) (now uc) (now uv) ⌝ }
-    ensures { λ d. ⌜ DenseTaken (q .p) i r at l total (compressed (now (ss .entry)) (now (cols .entry)) (now (vals .entry))) (now (columns .entry)) (now (us .entry)) js width (length (now (work .entry))) (now (lc .entry)) (now (lv .entry)) (now (uc .entry)) (now (uv .entry)) (now (lc .exit)) (now (lv .exit)) (now (uc .exit)) (now (uv .exit)) (now (work .exit)) (d .step .over) (d .step .column) (d .step .at) (d .step .l) (d .step .total) (d .place) (d .row) ⌝ }
+    requires { ⌜ DenseReady (q .p) i s first r at l total (compressed (now starts) (now cols) (now vals)) (now co) (now us) js width (now ks) (now block) (now work) (now lc) (now lv) (now uc) (now uv) ⌝ }
+    ensures { λ d. ⌜ DenseTaken (q .p) i r at l total (compressed (now (starts .entry)) (now (cols .entry)) (now (vals .entry))) (now (co .entry)) (now (us .entry)) js width (length (now (work .entry))) (now (lc .entry)) (now (lv .entry)) (now (uc .entry)) (now (uv .entry)) (now (lc .exit)) (now (lv .exit)) (now (uc .exit)) (now (uv .exit)) (now (work .exit)) (d .step .over) (d .step .column) (d .step .at) (d .step .l) (d .step .total) (d .place) (d .row) ⌝ }
 {
     let left = reduce_left(
         q,
-        ss,
+        starts,
         cols,
         vals,
         i,
         s,
         first,
-        columns,
+        co,
         us,
         uc,
         uv,

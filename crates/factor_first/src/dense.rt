@@ -43,7 +43,7 @@ fn tail(s: usize, list: &[u32]) -> [u32; 32]
 // Takes row i in the block, and enters it where it is a pivot row.
 fn take_dense_row(
     q: Modulus,
-    ss: &[u32],
+    starts: &[u32],
     cols: &[u32],
     vals: &[u32],
     i: u32,
@@ -54,8 +54,8 @@ fn take_dense_row(
     width: usize,
     ks: &[u32; 32],
     block: &[[u32; 32]; 32],
-    rows: &mut [u32],
-    columns: &mut [u32],
+    ro: &mut [u32],
+    co: &mut [u32],
     ls: &mut [u32],
     lc: &mut [u32],
     lv: &mut [u32],
@@ -64,13 +64,13 @@ fn take_dense_row(
     uv: &mut [u32],
     work: &mut [u64],
 ) -> DenseTurn
-    requires { ⌜ DenseTurnReady (q .p) i s first width js (now ks) (now block) (compressed (now ss) (now cols) (now vals)) (now rows) (now columns) (compressed (now ls) (now lc) (now lv)) (compressed (now us) (now uc) (now uv)) (now work) (so .r) (so .at) (so .l) (so .total) ⌝ }
-    ensures { λ to. ⌜ DenseTurned (q .p) i s first width js (now (ks .entry)) (now (block .entry)) (compressed (now (ss .entry)) (now (cols .entry)) (now (vals .entry))) (now (rows .entry)) (now (columns .entry)) (compressed (now (ls .entry)) (now (lc .entry)) (now (lv .entry))) (compressed (now (us .entry)) (now (uc .entry)) (now (uv .entry))) (now (work .entry)) (so .r) (so .at) (so .l) (so .total) (now (rows .exit)) (now (columns .exit)) (compressed (now (ls .exit)) (now (lc .exit)) (now (lv .exit))) (compressed (now (us .exit)) (now (uc .exit)) (now (uv .exit))) (now (work .exit)) (to .so .over) (to .so .r) (to .so .at) (to .so .l) (to .so .total) (to .place) (to .row) ⌝ }
+    requires { ⌜ DenseTurnReady (q .p) i s first width js (now ks) (now block) (compressed (now starts) (now cols) (now vals)) (now ro) (now co) (compressed (now ls) (now lc) (now lv)) (compressed (now us) (now uc) (now uv)) (now work) (so .r) (so .at) (so .l) (so .total) ⌝ }
+    ensures { λ to. ⌜ DenseTurned (q .p) i s first width js (now (ks .entry)) (now (block .entry)) (compressed (now (starts .entry)) (now (cols .entry)) (now (vals .entry))) (now (ro .entry)) (now (co .entry)) (compressed (now (ls .entry)) (now (lc .entry)) (now (lv .entry))) (compressed (now (us .entry)) (now (uc .entry)) (now (uv .entry))) (now (work .entry)) (so .r) (so .at) (so .l) (so .total) (now (ro .exit)) (now (co .exit)) (compressed (now (ls .exit)) (now (lc .exit)) (now (lv .exit))) (compressed (now (us .exit)) (now (uc .exit)) (now (uv .exit))) (now (work .exit)) (to .so .over) (to .so .r) (to .so .at) (to .so .l) (to .so .total) (to .place) (to .row) ⌝ }
 {
     let r = so.r;
     let d = take_dense(
         q,
-        ss,
+        starts,
         cols,
         vals,
         i as usize,
@@ -80,7 +80,7 @@ fn take_dense_row(
         so.at,
         so.l,
         so.total,
-        columns,
+        co,
         us,
         js,
         width,
@@ -95,7 +95,7 @@ fn take_dense_row(
     let step = d.step;
     let row = d.row;
     let m = work.len();
-    let to = settle(step, i, r, m, rows, columns, ls, us);
+    let to = settle(step, i, r, m, ro, co, ls, us);
     DenseTurn {
         so: to,
         place: d.place,
@@ -107,13 +107,13 @@ fn take_dense_row(
 // structural pivots, rising; they are overwritten by the pivots found.
 pub fn find_dense(
     q: Modulus,
-    ss: &[u32],
+    starts: &[u32],
     cols: &[u32],
     vals: &[u32],
     s: usize,
     from: Progress,
-    rows: &mut [u32],
-    columns: &mut [u32],
+    ro: &mut [u32],
+    co: &mut [u32],
     ls: &mut [u32],
     lc: &mut [u32],
     lv: &mut [u32],
@@ -122,23 +122,23 @@ pub fn find_dense(
     uv: &mut [u32],
     work: &mut [u64],
 ) -> Pass
-    requires { ⌜ RowsReady (q .p) s (compressed (now ss) (now cols) (now vals)) (now rows) (now columns) (compressed (now ls) (now lc) (now lv)) (compressed (now us) (now uc) (now uv)) (now work) (from .over) (from .r) (from .at) (from .l) (from .total) ⌝ }
-    ensures found { λ to. ⌜ ((f : Found) → DenseFrom (q .p) s (compressed (now (ss .entry)) (now (cols .entry)) (now (vals .entry))) (now (rows .entry)) (now (columns .entry)) (compressed (now (ls .entry)) (now (lc .entry)) (now (lv .entry))) (compressed (now (us .entry)) (now (uc .entry)) (now (uv .entry))) (length (now (work .entry))) (from .r) (from .at) (from .l) (from .total) f → TurnsLeave (q .p) (length (now (work .entry))) (matrix (compressed (now (ss .entry)) (now (cols .entry)) (now (vals .entry)))) (length (now (lc .entry))) (length (now (uc .entry))) f (map other (drop s (now (rows .entry)))) (now (rows .exit)) (now (columns .exit)) (compressed (now (ls .exit)) (now (lc .exit)) (now (lv .exit))) (compressed (now (us .exit)) (now (uc .exit)) (now (uv .exit))) (to .so .over) (to .stop) (to .so .r) (to .so .at) (to .so .l) (to .so .total)) ⌝ }
+    requires { ⌜ RowsReady (q .p) s (compressed (now starts) (now cols) (now vals)) (now ro) (now co) (compressed (now ls) (now lc) (now lv)) (compressed (now us) (now uc) (now uv)) (now work) (from .over) (from .r) (from .at) (from .l) (from .total) ⌝ }
+    ensures found { λ to. ⌜ ((f : Found) → DenseFrom (q .p) s (compressed (now (starts .entry)) (now (cols .entry)) (now (vals .entry))) (now (ro .entry)) (now (co .entry)) (compressed (now (ls .entry)) (now (lc .entry)) (now (lv .entry))) (compressed (now (us .entry)) (now (uc .entry)) (now (uv .entry))) (length (now (work .entry))) (from .r) (from .at) (from .l) (from .total) f → TurnsLeave (q .p) (length (now (work .entry))) (matrix (compressed (now (starts .entry)) (now (cols .entry)) (now (vals .entry)))) (length (now (lc .entry))) (length (now (uc .entry))) f (map other (drop s (now (ro .entry)))) (now (ro .exit)) (now (co .exit)) (compressed (now (ls .exit)) (now (lc .exit)) (now (lv .exit))) (compressed (now (us .exit)) (now (uc .exit)) (now (uv .exit))) (to .so .over) (to .stop) (to .so .r) (to .so .at) (to .so .l) (to .so .total)) ⌝ }
     ensures clear { λ to. ⌜ (to .so .over ≡ false → now (work .exit) ≡ zeros (length (now (work .entry)))) ⌝ }
 {
-    let js = tail(s, columns);
-    let width = columns.len() - s;
+    let js = tail(s, co);
+    let width = co.len() - s;
     let first = from.at;
     let mut so = from;
     let mut block = [[0u32; 32]; 32];
     let mut ks = [0u32; 32];
     let mut k = s;
-    while k < rows.len() {
-        let i = rows[k];
+    while k < ro.len() {
+        let i = ro[k];
         let b = so.r - s;
         let turn = take_dense_row(
             q,
-            ss,
+            starts,
             cols,
             vals,
             i,
@@ -149,8 +149,8 @@ pub fn find_dense(
             width,
             &ks,
             &block,
-            rows,
-            columns,
+            ro,
+            co,
             ls,
             lc,
             lv,

@@ -31,12 +31,12 @@ fn sparse_end(n: usize, m: usize, s: usize) -> usize
 // and 32 columns are left after the first s, those rows are taken in the block.
 pub fn find_pivots(
     q: Modulus,
-    ss: &[u32],
+    starts: &[u32],
     cols: &[u32],
     vals: &[u32],
     s: usize,
-    rows: &mut [u32],
-    columns: &mut [u32],
+    ro: &mut [u32],
+    co: &mut [u32],
     ls: &mut [u32],
     lc: &mut [u32],
     lv: &mut [u32],
@@ -45,8 +45,8 @@ pub fn find_pivots(
     uv: &mut [u32],
     work: &mut [u64],
 ) -> Pass
-    requires { ⌜ PassReady (q .p) s (compressed (now ss) (now cols) (now vals)) (now rows) (now columns) (compressed (now ls) (now lc) (now lv)) (compressed (now us) (now uc) (now uv)) (now work) ⌝ }
-    ensures { λ to. ⌜ PassLeaves (q .p) s (compressed (now (ss .entry)) (now (cols .entry)) (now (vals .entry))) (now (rows .entry)) (now (columns .entry)) (length (now (work .entry))) (length (now (lc .entry))) (length (now (uc .entry))) (now (rows .exit)) (now (columns .exit)) (compressed (now (ls .exit)) (now (lc .exit)) (now (lv .exit))) (compressed (now (us .exit)) (now (uc .exit)) (now (uv .exit))) (to .so .over) (to .stop) (to .so .r) (to .so .at) (to .so .l) (to .so .total) × (to .so .over ≡ false → now (work .exit) ≡ zeros (length (now (work .entry)))) ⌝ }
+    requires { ⌜ PassReady (q .p) s (compressed (now starts) (now cols) (now vals)) (now ro) (now co) (compressed (now ls) (now lc) (now lv)) (compressed (now us) (now uc) (now uv)) (now work) ⌝ }
+    ensures { λ to. ⌜ PassLeaves (q .p) s (compressed (now (starts .entry)) (now (cols .entry)) (now (vals .entry))) (now (ro .entry)) (now (co .entry)) (length (now (work .entry))) (length (now (lc .entry))) (length (now (uc .entry))) (now (ro .exit)) (now (co .exit)) (compressed (now (ls .exit)) (now (lc .exit)) (now (lv .exit))) (compressed (now (us .exit)) (now (uc .exit)) (now (uv .exit))) (to .so .over) (to .stop) (to .so .r) (to .so .at) (to .so .l) (to .so .total) × (to .so .over ≡ false → now (work .exit) ≡ zeros (length (now (work .entry)))) ⌝ }
 {
     let mut so = Progress {
         over: false,
@@ -55,21 +55,21 @@ pub fn find_pivots(
         l: 0,
         total: 0,
     };
-    let end = sparse_end(rows.len(), work.len(), s);
+    let end = sparse_end(ro.len(), work.len(), s);
     let mut k = 0;
     while k < end {
-        let i = rows[k];
+        let i = ro[k];
         let paired = k < s;
         so = take_row(
             q,
-            ss,
+            starts,
             cols,
             vals,
             i,
             paired,
             so,
-            rows,
-            columns,
+            ro,
+            co,
             ls,
             lc,
             lv,
@@ -84,16 +84,16 @@ pub fn find_pivots(
         }
         k += 1;
     }
-    if k < rows.len() {
+    if k < ro.len() {
         return find_dense(
             q,
-            ss,
+            starts,
             cols,
             vals,
             s,
             so,
-            rows,
-            columns,
+            ro,
+            co,
             ls,
             lc,
             lv,

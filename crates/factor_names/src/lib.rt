@@ -5,11 +5,11 @@ ghost use Rattle.factor_names.specs.Sized.{RowWithin};
 use lists::index;
 
 // The columns of row i.
-pub fn columns_of<'a>(ss: &[u32], cols: &'a [u32], i: usize) -> &'a [u32]
-    requires { ⌜ RowWithin (now ss) (now cols) i ⌝ }
-    ensures { λ r. ⌜ now r ≡ rowOf (now (ss .entry)) i (now (cols .entry)) ⌝ }
+pub fn columns_of<'a>(starts: &[u32], cols: &'a [u32], i: usize) -> &'a [u32]
+    requires { ⌜ RowWithin (now starts) (now cols) i ⌝ }
+    ensures { λ r. ⌜ now r ≡ rowOf (now (starts .entry)) i (now (cols .entry)) ⌝ }
 {
-    let start = index(ss[i]);
-    let end = index(ss[i + 1]);
+    let start = index(starts[i]);
+    let end = index(starts[i + 1]);
     lists::part(cols, start, end)
 }

@@ -7,92 +7,92 @@ ghost use lib.ListN.{length, getD};
 ghost use Rattle.sparse.specs.Matrix.{compressed};
 ghost use Rattle.factor_order.specs.Needs.{Searchable, Findable};
 ghost use Rattle.factor_order.specs.Search.{RowWithin, PreferReady, Preferred, Chosen, ChooseReady, ConsiderReady, PairsFound};
-use lists::index;
 use limits::SIZE_CELLS;
+use lists::index;
 
 // How many entries row i has.
-fn entries(ss: &[u32], i: usize) -> u32
-    requires { ⌜ RowWithin (now ss) i ⌝ }
-    ensures { λ r. ⌜ r ≡ getD (now (ss .entry)) (i + 1) 0 - getD (now (ss .entry)) i 0 ⌝ }
+fn entries(starts: &[u32], i: usize) -> u32
+    requires { ⌜ RowWithin (now starts) i ⌝ }
+    ensures { λ r. ⌜ r ≡ getD (now (starts .entry)) (i + 1) 0 - getD (now (starts .entry)) i 0 ⌝ }
 {
-    ss[i + 1] - ss[i]
+    starts[i + 1] - starts[i]
 }
 
 // The cell of the column at which row i leads, where `cell` was it before.
-fn preferred(ss: &[u32], i: usize, cell: u64) -> u64
-    requires { ⌜ PreferReady (now ss) i cell ⌝ }
-    ensures { λ r. ⌜ Preferred (now (ss .entry)) i cell r ⌝ }
+fn preferred(starts: &[u32], i: usize, cell: u64) -> u64
+    requires { ⌜ PreferReady (now starts) i cell ⌝ }
+    ensures { λ r. ⌜ Preferred (now (starts .entry)) i cell r ⌝ }
 {
     if cell == 0 {
         return i as u64 + 1;
     }
-    if entries(ss, i) < entries(ss, cell as usize - 1) {
+    if entries(starts, i) < entries(starts, cell as usize - 1) {
         return i as u64 + 1;
     }
     cell
 }
 
 // Considers row i for its leftmost column.
-fn consider(ss: &[u32], cols: &[u32], vals: &[u32], p: u32, i: usize, work: &mut [u64])
-    requires { ⌜ ConsiderReady p i (compressed (now ss) (now cols) (now vals)) (now work) ⌝ }
-    ensures { λ _. ⌜ Chosen (compressed (now (ss .entry)) (now (cols .entry)) (now (vals .entry))) (i + 1) (now (work .exit)) ⌝ }
+fn consider(starts: &[u32], cols: &[u32], vals: &[u32], p: u32, i: usize, work: &mut [u64])
+    requires { ⌜ ConsiderReady p i (compressed (now starts) (now cols) (now vals)) (now work) ⌝ }
+    ensures { λ _. ⌜ Chosen (compressed (now (starts .entry)) (now (cols .entry)) (now (vals .entry))) (i + 1) (now (work .exit)) ⌝ }
 {
-    if entries(ss, i) == 0 {
+    if entries(starts, i) == 0 {
         return;
     }
-    let start = index(ss[i]);
+    let start = index(starts[i]);
     let c = index(cols[start]);
-    work[c] = preferred(ss, i, work[c]);
+    work[c] = preferred(starts, i, work[c]);
 }
 
 // Chooses among the n rows: the cell of each column names its row.
-fn choose(ss: &[u32], cols: &[u32], vals: &[u32], p: u32, n: usize, work: &mut [u64])
-    requires { ⌜ ChooseReady p n (compressed (now ss) (now cols) (now vals)) (now work) ⌝ }
-    ensures { λ _. ⌜ Chosen (compressed (now (ss .entry)) (now (cols .entry)) (now (vals .entry))) n (now (work .exit)) ⌝ }
+fn choose(starts: &[u32], cols: &[u32], vals: &[u32], p: u32, n: usize, work: &mut [u64])
+    requires { ⌜ ChooseReady p n (compressed (now starts) (now cols) (now vals)) (now work) ⌝ }
+    ensures { λ _. ⌜ Chosen (compressed (now (starts .entry)) (now (cols .entry)) (now (vals .entry))) n (now (work .exit)) ⌝ }
 {
     let mut i = 0;
     while i < n {
-        consider(ss, cols, vals, p, i, work);
+        consider(starts, cols, vals, p, i, work);
         i += 1;
     }
 }
 
 // Finds the structural pivots; `named` has a cell for each row and is all zero.
 fn find_pairs(
-    ss: &[u32],
+    starts: &[u32],
     cols: &[u32],
     vals: &[u32],
     p: u32,
     n: usize,
     named: &mut [u32],
-    rows: &mut [u32],
-    columns: &mut [u32],
+    ro: &mut [u32],
+    co: &mut [u32],
     work: &mut [u64],
 ) -> usize
-    requires { ⌜ Findable p n (length (now columns)) (compressed (now ss) (now cols) (now vals)) (now named) (now rows) (now columns) (now work) ⌝ }
-    ensures { λ s. ⌜ PairsFound n (length (now (columns .entry))) (compressed (now (ss .entry)) (now (cols .entry)) (now (vals .entry))) s (now (rows .exit)) (now (columns .exit)) (now (work .exit)) ⌝ }
+    requires { ⌜ Findable p n (length (now co)) (compressed (now starts) (now cols) (now vals)) (now named) (now ro) (now co) (now work) ⌝ }
+    ensures { λ s. ⌜ PairsFound n (length (now (co .entry))) (compressed (now (starts .entry)) (now (cols .entry)) (now (vals .entry))) s (now (ro .exit)) (now (co .exit)) (now (work .exit)) ⌝ }
 {
-    choose(ss, cols, vals, p, n, work);
-    factor_select::select(ss, cols, vals, p, n, work, named);
-    let found = factor_arrange::arrange(ss, cols, vals, p, n, work, named, rows, columns);
+    choose(starts, cols, vals, p, n, work);
+    factor_select::select(starts, cols, vals, p, n, work, named);
+    let found = factor_arrange::arrange(starts, cols, vals, p, n, work, named, ro, co);
     lists::clear_row(work);
     found
 }
 
 // Finds the structural pivots: document 01's, those that close no cycle with them, and their order; gives how many there are.
 pub fn structural_pairs(
-    ss: &[u32],
+    starts: &[u32],
     cols: &[u32],
     vals: &[u32],
     p: u32,
     n: usize,
-    rows: &mut [u32],
-    columns: &mut [u32],
+    ro: &mut [u32],
+    co: &mut [u32],
     work: &mut [u64],
 ) -> usize
-    requires { ⌜ Searchable p n (length (now columns)) (compressed (now ss) (now cols) (now vals)) (now rows) (now columns) (now work) ⌝ }
-    ensures { λ s. ⌜ PairsFound n (length (now (columns .entry))) (compressed (now (ss .entry)) (now (cols .entry)) (now (vals .entry))) s (now (rows .exit)) (now (columns .exit)) (now (work .exit)) ⌝ }
+    requires { ⌜ Searchable p n (length (now co)) (compressed (now starts) (now cols) (now vals)) (now ro) (now co) (now work) ⌝ }
+    ensures { λ s. ⌜ PairsFound n (length (now (co .entry))) (compressed (now (starts .entry)) (now (cols .entry)) (now (vals .entry))) s (now (ro .exit)) (now (co .exit)) (now (work .exit)) ⌝ }
 {
     let mut named = [0u32; SIZE_CELLS];
-    find_pairs(ss, cols, vals, p, n, &mut named[..n], rows, columns, work)
+    find_pairs(starts, cols, vals, p, n, &mut named[..n], ro, co, work)
 }

@@ -18,28 +18,28 @@ use factor_turn::fill::fill_dependents;
 use residue::Modulus;
 
 // Completes `columns` where what is left of n rows after the first s fits the block: its columns are then those after the first s.
-fn complete_columns(n: usize, s: usize, columns: &mut [u32], marks: &mut [u64])
-    requires { ⌜ (s ≤ n) × Completable s (now columns) (now marks) ⌝ }
-    ensures { λ _. ⌜ ColumnsCompleted n s (now (columns .entry)) (now (columns .exit)) (now (marks .exit)) ⌝ }
+fn complete_columns(n: usize, s: usize, co: &mut [u32], marks: &mut [u64])
+    requires { ⌜ (s ≤ n) × Completable s (now co) (now marks) ⌝ }
+    ensures { λ _. ⌜ ColumnsCompleted n s (now (co .entry)) (now (co .exit)) (now (marks .exit)) ⌝ }
 {
     if 32 < n - s {
         return;
     }
-    if 32 < columns.len() - s {
+    if 32 < co.len() - s {
         return;
     }
-    complete(s, columns, marks);
+    complete(s, co, marks);
 }
 
 // Takes the s pairs that `rows` and `columns` hold, then the other rows, rising.
 pub fn pass_one(
     q: Modulus,
-    ss: &[u32],
+    starts: &[u32],
     cols: &[u32],
     vals: &[u32],
     s: usize,
-    rows: &mut [u32],
-    columns: &mut [u32],
+    ro: &mut [u32],
+    co: &mut [u32],
     ls: &mut [u32],
     lc: &mut [u32],
     lv: &mut [u32],
@@ -48,21 +48,21 @@ pub fn pass_one(
     uv: &mut [u32],
     work: &mut [u64],
 ) -> Pass
-    requires { ⌜ FromReady (q .p) s (compressed (now ss) (now cols) (now vals)) (now rows) (now columns) (compressed (now ls) (now lc) (now lv)) (compressed (now us) (now uc) (now uv)) (now work) ⌝ }
-    ensures { λ to. ⌜ PassLeaves (q .p) s (compressed (now (ss .entry)) (now (cols .entry)) (now (vals .entry))) (now (rows .entry)) (now (columns .entry)) (length (now (columns .entry))) (length (now (lc .entry))) (length (now (uc .entry))) (now (rows .exit)) (now (columns .exit)) (compressed (now (ls .exit)) (now (lc .exit)) (now (lv .exit))) (compressed (now (us .exit)) (now (uc .exit)) (now (uv .exit))) (to .so .over) (to .stop) (to .so .r) (to .so .at) (to .so .l) (to .so .total) × (to .so .over ≡ false → now (work .exit) ≡ zeros (length (now (work .entry)))) ⌝ }
+    requires { ⌜ FromReady (q .p) s (compressed (now starts) (now cols) (now vals)) (now ro) (now co) (compressed (now ls) (now lc) (now lv)) (compressed (now us) (now uc) (now uv)) (now work) ⌝ }
+    ensures { λ to. ⌜ PassLeaves (q .p) s (compressed (now (starts .entry)) (now (cols .entry)) (now (vals .entry))) (now (ro .entry)) (now (co .entry)) (length (now (co .entry))) (length (now (lc .entry))) (length (now (uc .entry))) (now (ro .exit)) (now (co .exit)) (compressed (now (ls .exit)) (now (lc .exit)) (now (lv .exit))) (compressed (now (us .exit)) (now (uc .exit)) (now (uv .exit))) (to .so .over) (to .stop) (to .so .r) (to .so .at) (to .so .l) (to .so .total) × (to .so .over ≡ false → now (work .exit) ≡ zeros (length (now (work .entry)))) ⌝ }
 {
-    let n = rows.len();
-    let m = columns.len();
-    complete(s, rows, &mut work[..n]);
-    complete_columns(n, s, columns, &mut work[..m]);
+    let n = ro.len();
+    let m = co.len();
+    complete(s, ro, &mut work[..n]);
+    complete_columns(n, s, co, &mut work[..m]);
     find_pivots(
         q,
-        ss,
+        starts,
         cols,
         vals,
         s,
-        rows,
-        columns,
+        ro,
+        co,
         ls,
         lc,
         lv,
@@ -76,7 +76,7 @@ pub fn pass_one(
 // Completes `rows` and `columns`, of which the first r are the pivots', and stores the rows of L of the dependent rows.
 pub fn pass_two(
     q: Modulus,
-    ss: &[u32],
+    starts: &[u32],
     cols: &[u32],
     vals: &[u32],
     r: usize,
@@ -85,31 +85,31 @@ pub fn pass_two(
     us: &[u32],
     uc: &[u32],
     uv: &[u32],
-    rows: &mut [u32],
-    columns: &mut [u32],
+    ro: &mut [u32],
+    co: &mut [u32],
     ls: &mut [u32],
     lc: &mut [u32],
     lv: &mut [u32],
     work: &mut [u64],
 )
-    requires { ⌜ CompleteReady (q .p) (compressed (now ss) (now cols) (now vals)) (now rows) (now columns) (compressed (now ls) (now lc) (now lv)) (compressed (now us) (now uc) (now uv)) (now work) r at l ⌝ }
-    ensures completed { λ _. ⌜ ((f : Found) (total : ℕ) → FoundFrom (q .p) (compressed (now (ss .entry)) (now (cols .entry)) (now (vals .entry))) (now (rows .entry)) (now (columns .entry)) (compressed (now (ls .entry)) (now (lc .entry)) (now (lv .entry))) (compressed (now (us .entry)) (now (uc .entry)) (now (uv .entry))) r at l total f → CompletedFor f (length (now (columns .entry))) (now (rows .exit)) (now (columns .exit)) (compressed (now (ls .exit)) (now (lc .exit)) (now (lv .exit)))) ⌝ }
+    requires { ⌜ CompleteReady (q .p) (compressed (now starts) (now cols) (now vals)) (now ro) (now co) (compressed (now ls) (now lc) (now lv)) (compressed (now us) (now uc) (now uv)) (now work) r at l ⌝ }
+    ensures completed { λ _. ⌜ ((f : Found) (total : ℕ) → FoundFrom (q .p) (compressed (now (starts .entry)) (now (cols .entry)) (now (vals .entry))) (now (ro .entry)) (now (co .entry)) (compressed (now (ls .entry)) (now (lc .entry)) (now (lv .entry))) (compressed (now (us .entry)) (now (uc .entry)) (now (uv .entry))) r at l total f → CompletedFor f (length (now (co .entry))) (now (ro .exit)) (now (co .exit)) (compressed (now (ls .exit)) (now (lc .exit)) (now (lv .exit)))) ⌝ }
     ensures clear { λ _. ⌜ now (work .exit) ≡ zeros (length (now (work .entry))) ⌝ }
 {
-    let n = rows.len();
-    let m = columns.len();
-    complete(r, columns, &mut work[..m]);
-    complete(r, rows, &mut work[..n]);
+    let n = ro.len();
+    let m = co.len();
+    complete(r, co, &mut work[..m]);
+    complete(r, ro, &mut work[..n]);
     fill_dependents(
         q,
-        ss,
+        starts,
         cols,
         vals,
         r,
         at,
         l,
-        rows,
-        columns,
+        ro,
+        co,
         us,
         uc,
         uv,

@@ -6,16 +6,16 @@ ghost use Rattle.sparse.specs.Matrix.{compressed, matrix};
 ghost use Rattle.factor_row.specs.Loading.{multiples};
 ghost use Rattle.factor_row.specs.Gathering.{cut, multiplesBy, remainderBy, GatherRowReady, RowGathered, GatherReadyFrom};
 use crate::loading::load_row;
-use lists::part;
 use factor_reduce::gather::Gathered;
 use factor_reduce::gather::gather_multiples;
+use lists::part;
 use residue::Modulus;
 
 // Reduces row i by the rows of U, stores the multiples that were taken away at place l, if they fit after `total` entries, and
 // leaves the remainder in the working row. The lists of U and its pivot columns are cut to their lengths.
 fn gather_cut(
     q: Modulus,
-    ss: &[u32],
+    starts: &[u32],
     cols: &[u32],
     vals: &[u32],
     i: usize,
@@ -29,10 +29,10 @@ fn gather_cut(
     lv: &mut [u32],
     work: &mut [u64],
 ) -> Gathered
-    requires { ⌜ GatherRowReady (q .p) i l total (compressed (now ss) (now cols) (now vals)) (now co) (compressed (now us) (now uc) (now uv)) (now work) (now lc) (now lv) ⌝ }
-    ensures { λ g. ⌜ RowGathered (q .p) (length (now (work .entry))) l total (multiples (q .p) (length (now (co .entry))) (vector (now (co .entry))) (matrix (compressed (now (us .entry)) (now (uc .entry)) (now (uv .entry)))) (matrix (compressed (now (ss .entry)) (now (cols .entry)) (now (vals .entry))) i)) (reduced (q .p) (vector (now (co .entry))) (matrix (compressed (now (us .entry)) (now (uc .entry)) (now (uv .entry)))) (length (now (co .entry))) (matrix (compressed (now (ss .entry)) (now (cols .entry)) (now (vals .entry))) i)) (now (lc .entry)) (now (lv .entry)) (now (lc .exit)) (now (lv .exit)) (now (work .exit)) (g .over) (g .next) ⌝ }
+    requires { ⌜ GatherRowReady (q .p) i l total (compressed (now starts) (now cols) (now vals)) (now co) (compressed (now us) (now uc) (now uv)) (now work) (now lc) (now lv) ⌝ }
+    ensures { λ g. ⌜ RowGathered (q .p) (length (now (work .entry))) l total (multiples (q .p) (length (now (co .entry))) (vector (now (co .entry))) (matrix (compressed (now (us .entry)) (now (uc .entry)) (now (uv .entry)))) (matrix (compressed (now (starts .entry)) (now (cols .entry)) (now (vals .entry))) i)) (reduced (q .p) (vector (now (co .entry))) (matrix (compressed (now (us .entry)) (now (uc .entry)) (now (uv .entry)))) (length (now (co .entry))) (matrix (compressed (now (starts .entry)) (now (cols .entry)) (now (vals .entry))) i)) (now (lc .entry)) (now (lv .entry)) (now (lc .exit)) (now (lv .exit)) (now (work .exit)) (g .over) (g .next) ⌝ }
 {
-    load_row(ss, cols, vals, i, q.p, work);
+    load_row(starts, cols, vals, i, q.p, work);
     // `total` counts the entries of dependent rows too, which are stored later: their places are not free.
     let limit = l + (lc.len() - total);
     gather_multiples(q, us, uc, uv, co, l, limit, work, lc, lv)
@@ -41,13 +41,13 @@ fn gather_cut(
 // The same by r rows of U with `at` entries, whose lists and pivot columns are cut here.
 pub fn gather_row(
     q: Modulus,
-    ss: &[u32],
+    starts: &[u32],
     cols: &[u32],
     vals: &[u32],
     i: usize,
     r: usize,
     at: usize,
-    columns: &[u32],
+    co: &[u32],
     us: &[u32],
     uc: &[u32],
     uv: &[u32],
@@ -57,16 +57,16 @@ pub fn gather_row(
     lv: &mut [u32],
     work: &mut [u64],
 ) -> Gathered
-    requires { ⌜ GatherReadyFrom (q .p) i r at l total (compressed (now ss) (now cols) (now vals)) (now columns) (now us) (now uc) (now uv) (now work) (now lc) (now lv) ⌝ }
-    ensures { λ g. ⌜ RowGathered (q .p) (length (now (work .entry))) l total (multiplesBy (q .p) r (now (columns .entry)) (cut r at (now (us .entry)) (now (uc .entry)) (now (uv .entry))) (matrix (compressed (now (ss .entry)) (now (cols .entry)) (now (vals .entry))) i)) (remainderBy (q .p) r (now (columns .entry)) (cut r at (now (us .entry)) (now (uc .entry)) (now (uv .entry))) (matrix (compressed (now (ss .entry)) (now (cols .entry)) (now (vals .entry))) i)) (now (lc .entry)) (now (lv .entry)) (now (lc .exit)) (now (lv .exit)) (now (work .exit)) (g .over) (g .next) ⌝ }
+    requires { ⌜ GatherReadyFrom (q .p) i r at l total (compressed (now starts) (now cols) (now vals)) (now co) (now us) (now uc) (now uv) (now work) (now lc) (now lv) ⌝ }
+    ensures { λ g. ⌜ RowGathered (q .p) (length (now (work .entry))) l total (multiplesBy (q .p) r (now (co .entry)) (cut r at (now (us .entry)) (now (uc .entry)) (now (uv .entry))) (matrix (compressed (now (starts .entry)) (now (cols .entry)) (now (vals .entry))) i)) (remainderBy (q .p) r (now (co .entry)) (cut r at (now (us .entry)) (now (uc .entry)) (now (uv .entry))) (matrix (compressed (now (starts .entry)) (now (cols .entry)) (now (vals .entry))) i)) (now (lc .entry)) (now (lv .entry)) (now (lc .exit)) (now (lv .exit)) (now (work .exit)) (g .over) (g .next) ⌝ }
 {
     gather_cut(
         q,
-        ss,
+        starts,
         cols,
         vals,
         i,
-        part(columns, 0, r),
+        part(co, 0, r),
         part(us, 0, r + 1),
         part(uc, 0, at),
         part(uv, 0, at),

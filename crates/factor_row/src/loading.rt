@@ -9,11 +9,11 @@ use lists::part;
 use sparse::dense::load;
 
 // Puts row i of the matrix into the working row, which is all zero.
-pub fn load_row(ss: &[u32], cols: &[u32], vals: &[u32], i: usize, p: u32, work: &mut [u64])
-    requires { ⌜ RowLoadable p i (compressed (now ss) (now cols) (now vals)) (now work) ⌝ }
-    ensures { λ _. ⌜ now (work .exit) ≡ tabulate (length (now (work .entry))) (matrix (compressed (now (ss .entry)) (now (cols .entry)) (now (vals .entry))) i) ⌝ }
+pub fn load_row(starts: &[u32], cols: &[u32], vals: &[u32], i: usize, p: u32, work: &mut [u64])
+    requires { ⌜ RowLoadable p i (compressed (now starts) (now cols) (now vals)) (now work) ⌝ }
+    ensures { λ _. ⌜ now (work .exit) ≡ tabulate (length (now (work .entry))) (matrix (compressed (now (starts .entry)) (now (cols .entry)) (now (vals .entry))) i) ⌝ }
 {
-    let a = index(ss[i]);
-    let e = index(ss[i + 1]);
+    let a = index(starts[i]);
+    let e = index(starts[i + 1]);
     load(part(cols, a, e), &[], part(vals, a, e), &[], p, work);
 }

@@ -19,7 +19,7 @@ use sparse::dense::first_nonzero;
 // Row i becomes the pivot row of column c as it stands. It is copied; the working row, all zero, gives only its length.
 pub fn take_pair(
     q: Modulus,
-    ss: &[u32],
+    starts: &[u32],
     cols: &[u32],
     vals: &[u32],
     i: usize,
@@ -34,11 +34,11 @@ pub fn take_pair(
     uv: &mut [u32],
     work: &mut [u64],
 ) -> Step
-    requires { ⌜ PairReady (q .p) i c r at l total (compressed (now ss) (now cols) (now vals)) (now work) (now lc) (now lv) (now uc) (now uv) ⌝ }
-    ensures { λ s. ⌜ RowFound (q .p) (length (now (work .entry))) at l total (zeros r) (matrix (compressed (now (ss .entry)) (now (cols .entry)) (now (vals .entry))) i) c (now (lc .entry)) (now (lv .entry)) (now (uc .entry)) (now (uv .entry)) (now (lc .exit)) (now (lv .exit)) (now (uc .exit)) (now (uv .exit)) (now (work .exit)) (s .over) (s .column) (s .at) (s .l) (s .total) ⌝ }
+    requires { ⌜ PairReady (q .p) i c r at l total (compressed (now starts) (now cols) (now vals)) (now work) (now lc) (now lv) (now uc) (now uv) ⌝ }
+    ensures { λ s. ⌜ RowFound (q .p) (length (now (work .entry))) at l total (zeros r) (matrix (compressed (now (starts .entry)) (now (cols .entry)) (now (vals .entry))) i) c (now (lc .entry)) (now (lv .entry)) (now (uc .entry)) (now (uv .entry)) (now (lc .exit)) (now (lv .exit)) (now (uc .exit)) (now (uv .exit)) (now (work .exit)) (s .over) (s .column) (s .at) (s .l) (s .total) ⌝ }
 {
-    let a = index(ss[i]);
-    let e = index(ss[i + 1]);
+    let a = index(starts[i]);
+    let e = index(starts[i + 1]);
     let m = work.len();
     copy_pivot(
         q,
@@ -60,7 +60,7 @@ pub fn take_pair(
 // Row i is reduced by r rows of U with `at` entries; what remains gives a pivot row, or the row is dependent.
 pub fn take_other(
     q: Modulus,
-    ss: &[u32],
+    starts: &[u32],
     cols: &[u32],
     vals: &[u32],
     i: usize,
@@ -68,7 +68,7 @@ pub fn take_other(
     at: usize,
     l: usize,
     total: usize,
-    columns: &[u32],
+    co: &[u32],
     us: &[u32],
     lc: &mut [u32],
     lv: &mut [u32],
@@ -76,18 +76,18 @@ pub fn take_other(
     uv: &mut [u32],
     work: &mut [u64],
 ) -> Step
-    requires { ⌜ OtherReady (q .p) i r at l total (compressed (now ss) (now cols) (now vals)) (now columns) (now us) (now work) (now lc) (now lv) (now uc) (now uv) ⌝ }
-    ensures { λ s. ⌜ RowFound (q .p) (length (now (work .entry))) at l total (multiplesBy (q .p) r (now (columns .entry)) (cut r at (now (us .entry)) (now (uc .entry)) (now (uv .entry))) (matrix (compressed (now (ss .entry)) (now (cols .entry)) (now (vals .entry))) i)) (remainderBy (q .p) r (now (columns .entry)) (cut r at (now (us .entry)) (now (uc .entry)) (now (uv .entry))) (matrix (compressed (now (ss .entry)) (now (cols .entry)) (now (vals .entry))) i)) (first (length (now (work .entry))) (λ j. eqb (remainderBy (q .p) r (now (columns .entry)) (cut r at (now (us .entry)) (now (uc .entry)) (now (uv .entry))) (matrix (compressed (now (ss .entry)) (now (cols .entry)) (now (vals .entry))) i) j) 0)) (now (lc .entry)) (now (lv .entry)) (now (uc .entry)) (now (uv .entry)) (now (lc .exit)) (now (lv .exit)) (now (uc .exit)) (now (uv .exit)) (now (work .exit)) (s .over) (s .column) (s .at) (s .l) (s .total) ⌝ }
+    requires { ⌜ OtherReady (q .p) i r at l total (compressed (now starts) (now cols) (now vals)) (now co) (now us) (now work) (now lc) (now lv) (now uc) (now uv) ⌝ }
+    ensures { λ s. ⌜ RowFound (q .p) (length (now (work .entry))) at l total (multiplesBy (q .p) r (now (co .entry)) (cut r at (now (us .entry)) (now (uc .entry)) (now (uv .entry))) (matrix (compressed (now (starts .entry)) (now (cols .entry)) (now (vals .entry))) i)) (remainderBy (q .p) r (now (co .entry)) (cut r at (now (us .entry)) (now (uc .entry)) (now (uv .entry))) (matrix (compressed (now (starts .entry)) (now (cols .entry)) (now (vals .entry))) i)) (first (length (now (work .entry))) (λ j. eqb (remainderBy (q .p) r (now (co .entry)) (cut r at (now (us .entry)) (now (uc .entry)) (now (uv .entry))) (matrix (compressed (now (starts .entry)) (now (cols .entry)) (now (vals .entry))) i) j) 0)) (now (lc .entry)) (now (lv .entry)) (now (uc .entry)) (now (uv .entry)) (now (lc .exit)) (now (lv .exit)) (now (uc .exit)) (now (uv .exit)) (now (work .exit)) (s .over) (s .column) (s .at) (s .l) (s .total) ⌝ }
 {
     let g = gather_row(
         q,
-        ss,
+        starts,
         cols,
         vals,
         i,
         r,
         at,
-        columns,
+        co,
         us,
         uc,
         uv,

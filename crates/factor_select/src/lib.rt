@@ -15,7 +15,7 @@ pub mod search;
 
 // Names the column of each row that is chosen.
 fn name_rows(
-    ss: &[u32],
+    starts: &[u32],
     cols: &[u32],
     vals: &[u32],
     p: u32,
@@ -23,8 +23,8 @@ fn name_rows(
     work: &[u64],
     chosen: &mut [u32],
 )
-    requires { ⌜ NameReady p n (compressed (now ss) (now cols) (now vals)) (now work) (now chosen) ⌝ }
-    ensures { λ _. ⌜ ByRow (now (chosen .exit)) (leading (compressed (now (ss .entry)) (now (cols .entry)) (now (vals .entry))) n (length (now (work .entry)))) ⌝ }
+    requires { ⌜ NameReady p n (compressed (now starts) (now cols) (now vals)) (now work) (now chosen) ⌝ }
+    ensures { λ _. ⌜ ByRow (now (chosen .exit)) (leading (compressed (now (starts .entry)) (now (cols .entry)) (now (vals .entry))) n (length (now (work .entry)))) ⌝ }
 {
     let mut c = 0;
     while c < work.len() {
@@ -37,7 +37,7 @@ fn name_rows(
 
 // Takes row i: unless it is chosen, it gets its lowest column that is not used and closes no cycle, if there is one.
 fn extend_row(
-    ss: &[u32],
+    starts: &[u32],
     cols: &[u32],
     vals: &[u32],
     p: u32,
@@ -48,14 +48,26 @@ fn extend_row(
     stamps: &mut [u32],
     queue: &mut [u32],
 )
-    requires { ⌜ ExtendReady p n i (compressed (now ss) (now cols) (now vals)) (now work) (now chosen) (now stamps) (now queue) ⌝ }
-    ensures { λ _. ⌜ Extended (compressed (now (ss .entry)) (now (cols .entry)) (now (vals .entry))) n (length (now (work .entry))) (i + 1) (now (work .exit)) (now (chosen .exit)) (now (stamps .exit)) (now (queue .exit)) ⌝ }
+    requires { ⌜ ExtendReady p n i (compressed (now starts) (now cols) (now vals)) (now work) (now chosen) (now stamps) (now queue) ⌝ }
+    ensures { λ _. ⌜ Extended (compressed (now (starts .entry)) (now (cols .entry)) (now (vals .entry))) n (length (now (work .entry))) (i + 1) (now (work .exit)) (now (chosen .exit)) (now (stamps .exit)) (now (queue .exit)) ⌝ }
 {
     if chosen[i] != 0 {
         return;
     }
     let mark = i as u32 + 1;
-    let c = search::search(ss, cols, vals, p, n, i, mark, work, chosen, stamps, queue);
+    let c = search::search(
+        starts,
+        cols,
+        vals,
+        p,
+        n,
+        i,
+        mark,
+        work,
+        chosen,
+        stamps,
+        queue,
+    );
     if c < work.len() {
         work[c] = i as u64 + 1;
         chosen[i] = c as u32 + 1;
@@ -64,7 +76,7 @@ fn extend_row(
 
 // Takes all rows by number.
 fn extend_all(
-    ss: &[u32],
+    starts: &[u32],
     cols: &[u32],
     vals: &[u32],
     p: u32,
@@ -74,19 +86,19 @@ fn extend_all(
     stamps: &mut [u32],
     queue: &mut [u32],
 )
-    requires { ⌜ SelectReady p n (compressed (now ss) (now cols) (now vals)) (now work) (now chosen) (now stamps) (now queue) ⌝ }
-    ensures { λ _. ⌜ Extended (compressed (now (ss .entry)) (now (cols .entry)) (now (vals .entry))) n (length (now (work .entry))) n (now (work .exit)) (now (chosen .exit)) (now (stamps .exit)) (now (queue .exit)) ⌝ }
+    requires { ⌜ SelectReady p n (compressed (now starts) (now cols) (now vals)) (now work) (now chosen) (now stamps) (now queue) ⌝ }
+    ensures { λ _. ⌜ Extended (compressed (now (starts .entry)) (now (cols .entry)) (now (vals .entry))) n (length (now (work .entry))) n (now (work .exit)) (now (chosen .exit)) (now (stamps .exit)) (now (queue .exit)) ⌝ }
 {
     let mut i = 0;
     while i < n {
-        extend_row(ss, cols, vals, p, n, i, work, chosen, stamps, queue);
+        extend_row(starts, cols, vals, p, n, i, work, chosen, stamps, queue);
         i += 1;
     }
 }
 
 // Selects the structural pivots: the working row names document 01's, `chosen` is all zero; afterwards both name all that are selected.
 pub fn select(
-    ss: &[u32],
+    starts: &[u32],
     cols: &[u32],
     vals: &[u32],
     p: u32,
@@ -94,15 +106,15 @@ pub fn select(
     work: &mut [u64],
     chosen: &mut [u32],
 )
-    requires { ⌜ NameReady p n (compressed (now ss) (now cols) (now vals)) (now work) (now chosen) ⌝ }
-    ensures { λ _. ⌜ Named (compressed (now (ss .entry)) (now (cols .entry)) (now (vals .entry))) n (length (now (work .entry))) n (now (work .exit)) (now (chosen .exit)) ⌝ }
+    requires { ⌜ NameReady p n (compressed (now starts) (now cols) (now vals)) (now work) (now chosen) ⌝ }
+    ensures { λ _. ⌜ Named (compressed (now (starts .entry)) (now (cols .entry)) (now (vals .entry))) n (length (now (work .entry))) n (now (work .exit)) (now (chosen .exit)) ⌝ }
 {
     let m = work.len();
     let mut stamps = [0u32; SIZE_CELLS];
     let mut queue = [0u32; SIZE_CELLS];
-    name_rows(ss, cols, vals, p, n, work, chosen);
+    name_rows(starts, cols, vals, p, n, work, chosen);
     extend_all(
-        ss,
+        starts,
         cols,
         vals,
         p,

@@ -65,7 +65,7 @@ fn visit(
 // Searches from row i: the rows of the used columns that it reaches are visited, as they come in the queue, while the row has a candidate left, a
 // column that is neither used nor stamped. The lowest that is left when the queue is empty is the answer, the width where none is.
 pub fn search(
-    ss: &[u32],
+    starts: &[u32],
     cols: &[u32],
     vals: &[u32],
     p: u32,
@@ -77,10 +77,10 @@ pub fn search(
     stamps: &mut [u32],
     queue: &mut [u32],
 ) -> usize
-    requires { ⌜ SearchReady p n i (compressed (now ss) (now cols) (now vals)) (now work) (now chosen) (now stamps) (now queue) mark ⌝ }
-    ensures { λ r. ⌜ Survivor (compressed (now (ss .entry)) (now (cols .entry)) (now (vals .entry))) n (length (now (work .entry))) i mark (now (stamps .entry)) (now (stamps .exit)) r ⌝ }
+    requires { ⌜ SearchReady p n i (compressed (now starts) (now cols) (now vals)) (now work) (now chosen) (now stamps) (now queue) mark ⌝ }
+    ensures { λ r. ⌜ Survivor (compressed (now (starts .entry)) (now (cols .entry)) (now (vals .entry))) n (length (now (work .entry))) i mark (now (stamps .entry)) (now (stamps .exit)) r ⌝ }
 {
-    let own = factor_names::columns_of(ss, cols, i);
+    let own = factor_names::columns_of(starts, cols, i);
     let mut tail = visit(true, own, work, mark, stamps, queue, 0);
     let mut head = 0;
     let mut t = next_fit(own, work, mark, stamps, 0);
@@ -90,7 +90,7 @@ pub fn search(
         }
         let c = index(queue[head]);
         let r = work[c] as usize - 1;
-        let row = factor_names::columns_of(ss, cols, r);
+        let row = factor_names::columns_of(starts, cols, r);
         tail = visit(false, row, work, mark, stamps, queue, tail);
         head += 1;
         t = next_fit(own, work, mark, stamps, t);

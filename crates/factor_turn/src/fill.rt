@@ -6,20 +6,20 @@ ghost use Rattle.lists.specs.Filled.{zeros};
 ghost use Rattle.sparse.specs.Matrix.{compressed};
 ghost use Rattle.elimination.specs.Pivots.{Found};
 ghost use Rattle.factor_turn.specs.Filling.{FillRowReady, LowerStored, FillFrom, FillReady, FillDone};
+use factor_row::gathering::gather_row;
 use lists::clear_row;
 use residue::Modulus;
-use factor_row::gathering::gather_row;
 
 // Stores the row of L of row i at place l, where nothing remains of the row; gives the next place.
 fn lower_row(
     q: Modulus,
-    ss: &[u32],
+    starts: &[u32],
     cols: &[u32],
     vals: &[u32],
     i: usize,
     r: usize,
     at: usize,
-    columns: &[u32],
+    co: &[u32],
     us: &[u32],
     uc: &[u32],
     uv: &[u32],
@@ -28,18 +28,18 @@ fn lower_row(
     lv: &mut [u32],
     work: &mut [u64],
 ) -> usize
-    requires { ⌜ FillRowReady (q .p) i r at l (compressed (now ss) (now cols) (now vals)) (now columns) (now us) (now uc) (now uv) (now work) (now lc) (now lv) ⌝ }
-    ensures { λ next. ⌜ LowerStored (q .p) i r at l (compressed (now (ss .entry)) (now (cols .entry)) (now (vals .entry))) (now (columns .entry)) (now (us .entry)) (now (uc .entry)) (now (uv .entry)) (length (now (work .entry))) (now (lc .entry)) (now (lv .entry)) (now (lc .exit)) (now (lv .exit)) (now (work .exit)) next ⌝ }
+    requires { ⌜ FillRowReady (q .p) i r at l (compressed (now starts) (now cols) (now vals)) (now co) (now us) (now uc) (now uv) (now work) (now lc) (now lv) ⌝ }
+    ensures { λ next. ⌜ LowerStored (q .p) i r at l (compressed (now (starts .entry)) (now (cols .entry)) (now (vals .entry))) (now (co .entry)) (now (us .entry)) (now (uc .entry)) (now (uv .entry)) (length (now (work .entry))) (now (lc .entry)) (now (lv .entry)) (now (lc .exit)) (now (lv .exit)) (now (work .exit)) next ⌝ }
 {
     let g = gather_row(
         q,
-        ss,
+        starts,
         cols,
         vals,
         i,
         r,
         at,
-        columns,
+        co,
         us,
         uc,
         uv,
@@ -56,14 +56,14 @@ fn lower_row(
 // Stores the rows of L of the rows from place r on, after those of the pivot rows, which have l entries.
 pub fn fill_dependents(
     q: Modulus,
-    ss: &[u32],
+    starts: &[u32],
     cols: &[u32],
     vals: &[u32],
     r: usize,
     at: usize,
     l: usize,
-    rows: &[u32],
-    columns: &[u32],
+    ro: &[u32],
+    co: &[u32],
     us: &[u32],
     uc: &[u32],
     uv: &[u32],
@@ -72,23 +72,23 @@ pub fn fill_dependents(
     lv: &mut [u32],
     work: &mut [u64],
 )
-    requires { ⌜ FillReady (q .p) (compressed (now ss) (now cols) (now vals)) (now rows) (now columns) (compressed (now ls) (now lc) (now lv)) (compressed (now us) (now uc) (now uv)) (now work) r at l ⌝ }
-    ensures filled { λ _. ⌜ ((f : Found) (total : ℕ) → FillFrom (q .p) (compressed (now (ss .entry)) (now (cols .entry)) (now (vals .entry))) (now (rows .entry)) (now (columns .entry)) (compressed (now (ls .entry)) (now (lc .entry)) (now (lv .entry))) (compressed (now (us .entry)) (now (uc .entry)) (now (uv .entry))) (length (now (work .entry))) r at l total f → FillDone f (compressed (now (ls .exit)) (now (lc .exit)) (now (lv .exit)))) ⌝ }
+    requires { ⌜ FillReady (q .p) (compressed (now starts) (now cols) (now vals)) (now ro) (now co) (compressed (now ls) (now lc) (now lv)) (compressed (now us) (now uc) (now uv)) (now work) r at l ⌝ }
+    ensures filled { λ _. ⌜ ((f : Found) (total : ℕ) → FillFrom (q .p) (compressed (now (starts .entry)) (now (cols .entry)) (now (vals .entry))) (now (ro .entry)) (now (co .entry)) (compressed (now (ls .entry)) (now (lc .entry)) (now (lv .entry))) (compressed (now (us .entry)) (now (uc .entry)) (now (uv .entry))) (length (now (work .entry))) r at l total f → FillDone f (compressed (now (ls .exit)) (now (lc .exit)) (now (lv .exit)))) ⌝ }
     ensures clear { λ _. ⌜ now (work .exit) ≡ zeros (length (now (work .entry))) ⌝ }
 {
     let mut next = l;
     let mut k = r;
-    while k < rows.len() {
-        let i = rows[k] as usize;
+    while k < ro.len() {
+        let i = ro[k] as usize;
         next = lower_row(
             q,
-            ss,
+            starts,
             cols,
             vals,
             i,
             r,
             at,
-            columns,
+            co,
             us,
             uc,
             uv,

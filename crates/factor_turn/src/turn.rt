@@ -8,11 +8,11 @@ ghost use Rattle.sparse.specs.Matrix.{compressed, matrix};
 ghost use Rattle.factor_row.specs.Gathering.{cut};
 ghost use Rattle.factor_row.specs.Taking.{RowFound};
 ghost use Rattle.factor_turn.specs.Turning.{lowerOf, remainderOf, columnOf, FindReady, SettleReady, Settled, TurnReady, TurnLeaves};
-use lists::index;
-use residue::Modulus;
 use factor_row::pivot_row::Step;
 use factor_row::taking::take_other;
 use factor_row::taking::take_pair;
+use lists::index;
+use residue::Modulus;
 
 // How far the factoring is: whether the entries of a row did not fit, the pivots found, the entries of U stored, the entries of
 // L stored (of pivot rows only), and all entries of L.
@@ -27,7 +27,7 @@ pub struct Progress {
 // Takes row i: as it stands with column C[r] where it is paired, otherwise reduced by the rows of U.
 fn find(
     q: Modulus,
-    ss: &[u32],
+    starts: &[u32],
     cols: &[u32],
     vals: &[u32],
     i: usize,
@@ -36,7 +36,7 @@ fn find(
     at: usize,
     l: usize,
     total: usize,
-    columns: &[u32],
+    co: &[u32],
     us: &[u32],
     lc: &mut [u32],
     lv: &mut [u32],
@@ -44,14 +44,14 @@ fn find(
     uv: &mut [u32],
     work: &mut [u64],
 ) -> Step
-    requires { ⌜ FindReady (q .p) i paired r at l total (compressed (now ss) (now cols) (now vals)) (now columns) (now us) (now work) (now lc) (now lv) (now uc) (now uv) ⌝ }
-    ensures { λ s. ⌜ RowFound (q .p) (length (now (work .entry))) at l total (lowerOf (q .p) paired r (now (columns .entry)) (cut r at (now (us .entry)) (now (uc .entry)) (now (uv .entry))) (matrix (compressed (now (ss .entry)) (now (cols .entry)) (now (vals .entry))) i)) (remainderOf (q .p) paired r (now (columns .entry)) (cut r at (now (us .entry)) (now (uc .entry)) (now (uv .entry))) (matrix (compressed (now (ss .entry)) (now (cols .entry)) (now (vals .entry))) i)) (columnOf (q .p) (length (now (work .entry))) paired r (now (columns .entry)) (cut r at (now (us .entry)) (now (uc .entry)) (now (uv .entry))) (matrix (compressed (now (ss .entry)) (now (cols .entry)) (now (vals .entry))) i)) (now (lc .entry)) (now (lv .entry)) (now (uc .entry)) (now (uv .entry)) (now (lc .exit)) (now (lv .exit)) (now (uc .exit)) (now (uv .exit)) (now (work .exit)) (s .over) (s .column) (s .at) (s .l) (s .total) ⌝ }
+    requires { ⌜ FindReady (q .p) i paired r at l total (compressed (now starts) (now cols) (now vals)) (now co) (now us) (now work) (now lc) (now lv) (now uc) (now uv) ⌝ }
+    ensures { λ s. ⌜ RowFound (q .p) (length (now (work .entry))) at l total (lowerOf (q .p) paired r (now (co .entry)) (cut r at (now (us .entry)) (now (uc .entry)) (now (uv .entry))) (matrix (compressed (now (starts .entry)) (now (cols .entry)) (now (vals .entry))) i)) (remainderOf (q .p) paired r (now (co .entry)) (cut r at (now (us .entry)) (now (uc .entry)) (now (uv .entry))) (matrix (compressed (now (starts .entry)) (now (cols .entry)) (now (vals .entry))) i)) (columnOf (q .p) (length (now (work .entry))) paired r (now (co .entry)) (cut r at (now (us .entry)) (now (uc .entry)) (now (uv .entry))) (matrix (compressed (now (starts .entry)) (now (cols .entry)) (now (vals .entry))) i)) (now (lc .entry)) (now (lv .entry)) (now (uc .entry)) (now (uv .entry)) (now (lc .exit)) (now (lv .exit)) (now (uc .exit)) (now (uv .exit)) (now (work .exit)) (s .over) (s .column) (s .at) (s .l) (s .total) ⌝ }
 {
     if paired {
-        let c = index(columns[r]);
+        let c = index(co[r]);
         return take_pair(
             q,
-            ss,
+            starts,
             cols,
             vals,
             i,
@@ -69,7 +69,7 @@ fn find(
     }
     take_other(
         q,
-        ss,
+        starts,
         cols,
         vals,
         i,
@@ -77,7 +77,7 @@ fn find(
         at,
         l,
         total,
-        columns,
+        co,
         us,
         lc,
         lv,
@@ -104,16 +104,16 @@ fn enter(
     c: u32,
     l: u32,
     at: u32,
-    rows: &mut [u32],
-    columns: &mut [u32],
+    ro: &mut [u32],
+    co: &mut [u32],
     ls: &mut [u32],
     us: &mut [u32],
 )
-    requires { ⌜ (r < length (now rows)) × (r < length (now columns)) × (r + 1 < length (now ls)) × (r + 1 < length (now us)) ⌝ }
-    ensures { λ _. ⌜ (now (rows .exit) ≡ set (now (rows .entry)) r i) × (now (columns .exit) ≡ set (now (columns .entry)) r c) × (now (ls .exit) ≡ set (now (ls .entry)) (r + 1) l) × (now (us .exit) ≡ set (now (us .entry)) (r + 1) at) ⌝ }
+    requires { ⌜ (r < length (now ro)) × (r < length (now co)) × (r + 1 < length (now ls)) × (r + 1 < length (now us)) ⌝ }
+    ensures { λ _. ⌜ (now (ro .exit) ≡ set (now (ro .entry)) r i) × (now (co .exit) ≡ set (now (co .entry)) r c) × (now (ls .exit) ≡ set (now (ls .entry)) (r + 1) l) × (now (us .exit) ≡ set (now (us .entry)) (r + 1) at) ⌝ }
 {
-    rows[r] = i;
-    columns[r] = c;
+    ro[r] = i;
+    co[r] = c;
     ls[r + 1] = l;
     us[r + 1] = at;
 }
@@ -124,13 +124,13 @@ pub fn settle(
     i: u32,
     r: usize,
     m: usize,
-    rows: &mut [u32],
-    columns: &mut [u32],
+    ro: &mut [u32],
+    co: &mut [u32],
     ls: &mut [u32],
     us: &mut [u32],
 ) -> Progress
-    requires { ⌜ SettleReady (step .over) (step .column) (step .at) (step .l) r m (now rows) (now columns) (now ls) (now us) ⌝ }
-    ensures { λ to. ⌜ Settled (step .over) (step .column) (step .at) (step .l) (step .total) i r m (now (rows .entry)) (now (columns .entry)) (now (ls .entry)) (now (us .entry)) (now (rows .exit)) (now (columns .exit)) (now (ls .exit)) (now (us .exit)) (to .over) (to .r) (to .at) (to .l) (to .total) ⌝ }
+    requires { ⌜ SettleReady (step .over) (step .column) (step .at) (step .l) r m (now ro) (now co) (now ls) (now us) ⌝ }
+    ensures { λ to. ⌜ Settled (step .over) (step .column) (step .at) (step .l) (step .total) i r m (now (ro .entry)) (now (co .entry)) (now (ls .entry)) (now (us .entry)) (now (ro .exit)) (now (co .exit)) (now (ls .exit)) (now (us .exit)) (to .over) (to .r) (to .at) (to .l) (to .total) ⌝ }
 {
     let over = step.over;
     let c = step.column;
@@ -146,7 +146,7 @@ pub fn settle(
             total: total,
         };
     }
-    enter(r, i, c as u32, l as u32, at as u32, rows, columns, ls, us);
+    enter(r, i, c as u32, l as u32, at as u32, ro, co, ls, us);
     Progress {
         over: false,
         r: r + 1,
@@ -159,14 +159,14 @@ pub fn settle(
 // Takes row i, and enters it where it is a pivot row.
 pub fn take_row(
     q: Modulus,
-    ss: &[u32],
+    starts: &[u32],
     cols: &[u32],
     vals: &[u32],
     i: u32,
     paired: bool,
     so: Progress,
-    rows: &mut [u32],
-    columns: &mut [u32],
+    ro: &mut [u32],
+    co: &mut [u32],
     ls: &mut [u32],
     lc: &mut [u32],
     lv: &mut [u32],
@@ -175,13 +175,13 @@ pub fn take_row(
     uv: &mut [u32],
     work: &mut [u64],
 ) -> Progress
-    requires { ⌜ TurnReady (q .p) i paired (compressed (now ss) (now cols) (now vals)) (now rows) (now columns) (compressed (now ls) (now lc) (now lv)) (compressed (now us) (now uc) (now uv)) (now work) (so .r) (so .at) (so .l) (so .total) ⌝ }
-    ensures { λ to. ⌜ TurnLeaves (q .p) i paired (compressed (now (ss .entry)) (now (cols .entry)) (now (vals .entry))) (now (rows .entry)) (now (columns .entry)) (compressed (now (ls .entry)) (now (lc .entry)) (now (lv .entry))) (compressed (now (us .entry)) (now (uc .entry)) (now (uv .entry))) (now (work .entry)) (so .r) (so .at) (so .l) (so .total) (now (rows .exit)) (now (columns .exit)) (compressed (now (ls .exit)) (now (lc .exit)) (now (lv .exit))) (compressed (now (us .exit)) (now (uc .exit)) (now (uv .exit))) (now (work .exit)) (to .over) (to .r) (to .at) (to .l) (to .total) ⌝ }
+    requires { ⌜ TurnReady (q .p) i paired (compressed (now starts) (now cols) (now vals)) (now ro) (now co) (compressed (now ls) (now lc) (now lv)) (compressed (now us) (now uc) (now uv)) (now work) (so .r) (so .at) (so .l) (so .total) ⌝ }
+    ensures { λ to. ⌜ TurnLeaves (q .p) i paired (compressed (now (starts .entry)) (now (cols .entry)) (now (vals .entry))) (now (ro .entry)) (now (co .entry)) (compressed (now (ls .entry)) (now (lc .entry)) (now (lv .entry))) (compressed (now (us .entry)) (now (uc .entry)) (now (uv .entry))) (now (work .entry)) (so .r) (so .at) (so .l) (so .total) (now (ro .exit)) (now (co .exit)) (compressed (now (ls .exit)) (now (lc .exit)) (now (lv .exit))) (compressed (now (us .exit)) (now (uc .exit)) (now (uv .exit))) (now (work .exit)) (to .over) (to .r) (to .at) (to .l) (to .total) ⌝ }
 {
     let r = so.r;
     let step = find(
         q,
-        ss,
+        starts,
         cols,
         vals,
         i as usize,
@@ -190,7 +190,7 @@ pub fn take_row(
         so.at,
         so.l,
         so.total,
-        columns,
+        co,
         us,
         lc,
         lv,
@@ -199,5 +199,5 @@ pub fn take_row(
         work,
     );
     let m = work.len();
-    settle(step, i, r, m, rows, columns, ls, us)
+    settle(step, i, r, m, ro, co, ls, us)
 }

@@ -2,6 +2,7 @@
 
 // n and m, as a stored plan has them and as a text states them.
 pub const LARGEST_SIZE: u32 = 2048;
+
 pub const LARGEST_STATED: u64 = 2048;
 
 // A list with a cell for each row or column.

@@ -15,23 +15,23 @@ use text_plan::Reading;
 fn check_held(
     r: Reading,
     starts: &[u32],
-    columns: &[u32],
-    values: &[u32],
+    cols: &[u32],
+    vals: &[u32],
     certificate: &[u8],
     work: &mut [u64],
 ) -> Outcome
-    requires { ⌜ Held r (compressed (now starts) (now columns) (now values)) ⌝ }
-    ensures { λ o. ⌜ Checks (checkCertificateOf (r .p) (r .n) (r .m) (heldPlan r (now (starts .entry)) (now (columns .entry)) (now (values .entry))) (now (certificate .entry)) (length (now (work .entry)))) o (now (work .entry)) (now (work .exit)) ⌝ }
+    requires { ⌜ Held r (compressed (now starts) (now cols) (now vals)) ⌝ }
+    ensures { λ o. ⌜ Checks (checkCertificateOf (r .p) (r .n) (r .m) (heldPlan r (now (starts .entry)) (now (cols .entry)) (now (vals .entry))) (now (certificate .entry)) (length (now (work .entry)))) o (now (work .entry)) (now (work .exit)) ⌝ }
 {
-    let rows = r.n as usize + 1;
+    let ro = r.n as usize + 1;
     let count = r.count as usize;
     check_certificate(
         r.p,
         r.n,
         r.m,
-        &starts[..rows],
-        &columns[..count],
-        &values[..count],
+        &starts[..ro],
+        &cols[..count],
+        &vals[..count],
         certificate,
         work,
     )
@@ -42,16 +42,16 @@ pub fn check_text(
     text: &[u8],
     certificate: &[u8],
     starts: &mut [u32],
-    columns: &mut [u32],
-    values: &mut [u32],
+    cols: &mut [u32],
+    vals: &mut [u32],
     work: &mut [u64],
 ) -> Outcome
-    requires { ⌜ CheckLists (compressed (now starts) (now columns) (now values)) (now work) ⌝ }
+    requires { ⌜ CheckLists (compressed (now starts) (now cols) (now vals)) (now work) ⌝ }
     ensures { λ o. ⌜ o ≡ checkTextOf (now (text .entry)) (now (certificate .entry)) ⌝ }
 {
-    let r = text_plan::read(text, starts, columns, values);
+    let r = text_plan::read(text, starts, cols, vals);
     if r.number != 0 {
         return Outcome::Refused(r.number, r.detail);
     }
-    check_held(r, starts, columns, values, certificate, work)
+    check_held(r, starts, cols, vals, certificate, work)
 }

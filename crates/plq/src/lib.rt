@@ -4,21 +4,21 @@ pub use call_answer::from_certificate::answer_from_certificate;
 pub use call_answer::from_factors::answer_from_factors;
 pub use call_check::check_certificate;
 pub use call_check::check_factors;
+pub use call_factor::factor;
 pub use call_open::from_certificate::open_columns_from_certificate;
 pub use call_open::from_factors::open_columns_from_factors;
-pub use call_factor::factor;
-pub use text_plan::read as read_plan;
 pub use call_write::write_certificate;
+pub use text_plan::read as read_plan;
 ghost use mathlib.Core.Path.{_≡_};
 ghost use Rattle.plq.specs.Calls.{checkTextOf, packed, Makes};
 use check::check_text;
-use refusals::Outcome;
-use make::make_staged;
-use stages::factor_text;
 use limits::ENTRY_CELLS;
 use limits::SIZE_CELLS;
 use limits::START_CELLS;
 use limits::WORK_CELLS;
+use make::make_staged;
+use refusals::Outcome;
+use stages::factor_text;
 
 pub mod check;
 pub mod make;
@@ -43,10 +43,10 @@ pub extern "C" fn plq_make_certificate(text: &[u8], buffer: &mut [u8]) -> u64
     ensures { λ z. ⌜ Makes (now (text .entry)) z (now (buffer .entry)) (now (buffer .exit)) ⌝ }
 {
     let mut starts = [0u32; START_CELLS];
-    let mut columns = [0u32; ENTRY_CELLS];
-    let mut values = [0u32; ENTRY_CELLS];
-    let mut rows = [0u32; SIZE_CELLS];
-    let mut cols = [0u32; SIZE_CELLS];
+    let mut cols = [0u32; ENTRY_CELLS];
+    let mut vals = [0u32; ENTRY_CELLS];
+    let mut ro = [0u32; SIZE_CELLS];
+    let mut co = [0u32; SIZE_CELLS];
     let mut ls = [0u32; START_CELLS];
     let mut lc = [0u32; ENTRY_CELLS];
     let mut lv = [0u32; ENTRY_CELLS];
@@ -57,10 +57,10 @@ pub extern "C" fn plq_make_certificate(text: &[u8], buffer: &mut [u8]) -> u64
     let s = factor_text(
         text,
         &mut starts,
-        &mut columns,
-        &mut values,
-        &mut rows,
         &mut cols,
+        &mut vals,
+        &mut ro,
+        &mut co,
         &mut ls,
         &mut lc,
         &mut lv,
@@ -72,10 +72,10 @@ pub extern "C" fn plq_make_certificate(text: &[u8], buffer: &mut [u8]) -> u64
     pack(make_staged(
         s,
         &starts,
-        &columns,
-        &values,
-        &rows,
         &cols,
+        &vals,
+        &ro,
+        &co,
         &ls,
         &lc,
         &lv,
@@ -97,15 +97,15 @@ pub extern "C" fn plq_check_certificate(text: &[u8], certificate: &[u8]) -> u64
     ensures { λ z. ⌜ z ≡ packed (checkTextOf (now (text .entry)) (now (certificate .entry))) ⌝ }
 {
     let mut starts = [0u32; START_CELLS];
-    let mut columns = [0u32; ENTRY_CELLS];
-    let mut values = [0u32; ENTRY_CELLS];
+    let mut cols = [0u32; ENTRY_CELLS];
+    let mut vals = [0u32; ENTRY_CELLS];
     let mut work = [0u64; WORK_CELLS];
     pack(check_text(
         text,
         certificate,
         &mut starts,
-        &mut columns,
-        &mut values,
+        &mut cols,
+        &mut vals,
         &mut work,
     ))
 }

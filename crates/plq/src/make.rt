@@ -3,19 +3,19 @@ ghost use lib.ListN.{length};
 ghost use Rattle.sparse.specs.Matrix.{compressed};
 ghost use Rattle.stages.specs.Staged.{Fits};
 ghost use Rattle.plq.specs.Held.{heldCertificate, writtenOf, stagedOutcome, Puts, StagedFits};
-use refusals::Outcome;
-use lists::clear_bytes;
-use stages::Stages;
 use call_write::write_certificate;
+use lists::clear_bytes;
+use refusals::Outcome;
+use stages::Stages;
 
 // Writes the certificate of the set that the stages left in lists.
 fn write_held(
     s: Stages,
     starts: &[u32],
-    columns: &[u32],
-    values: &[u32],
-    rows: &[u32],
     cols: &[u32],
+    vals: &[u32],
+    ro: &[u32],
+    co: &[u32],
     ls: &[u32],
     lc: &[u32],
     lv: &[u32],
@@ -25,8 +25,8 @@ fn write_held(
     buffer: &mut [u8],
     work: &mut [u64],
 ) -> Outcome
-    requires { ⌜ Fits s (compressed (now starts) (now columns) (now values)) (now rows) (now cols) (compressed (now ls) (now lc) (now lv)) (compressed (now us) (now uc) (now uv)) ⌝ }
-    ensures { λ o. ⌜ Puts (writtenOf s (compressed (now (starts .entry)) (now (columns .entry)) (now (values .entry))) (now (rows .entry)) (now (cols .entry)) (compressed (now (ls .entry)) (now (lc .entry)) (now (lv .entry))) (compressed (now (us .entry)) (now (uc .entry)) (now (uv .entry))) (length (now (work .entry))) (length (now (buffer .entry)))) (heldCertificate s (now (rows .entry)) (now (cols .entry)) (compressed (now (ls .entry)) (now (lc .entry)) (now (lv .entry))) (compressed (now (us .entry)) (now (uc .entry)) (now (uv .entry)))) o (now (buffer .entry)) (now (buffer .exit)) ⌝ }
+    requires { ⌜ Fits s (compressed (now starts) (now cols) (now vals)) (now ro) (now co) (compressed (now ls) (now lc) (now lv)) (compressed (now us) (now uc) (now uv)) ⌝ }
+    ensures { λ o. ⌜ Puts (writtenOf s (compressed (now (starts .entry)) (now (cols .entry)) (now (vals .entry))) (now (ro .entry)) (now (co .entry)) (compressed (now (ls .entry)) (now (lc .entry)) (now (lv .entry))) (compressed (now (us .entry)) (now (uc .entry)) (now (uv .entry))) (length (now (work .entry))) (length (now (buffer .entry)))) (heldCertificate s (now (ro .entry)) (now (co .entry)) (compressed (now (ls .entry)) (now (lc .entry)) (now (lv .entry))) (compressed (now (us .entry)) (now (uc .entry)) (now (uv .entry)))) o (now (buffer .entry)) (now (buffer .exit)) ⌝ }
 {
     let r = s.reading;
     let n = r.n as usize;
@@ -41,11 +41,11 @@ fn write_held(
         r.n,
         r.m,
         &starts[..n + 1],
-        &columns[..count],
-        &values[..count],
+        &cols[..count],
+        &vals[..count],
         factored.rank,
-        &rows[..n],
-        &cols[..m],
+        &ro[..n],
+        &co[..m],
         &ls[..n + 1],
         &lc[..lower],
         &lv[..lower],
@@ -62,10 +62,10 @@ fn write_held(
 pub fn make_staged(
     s: Stages,
     starts: &[u32],
-    columns: &[u32],
-    values: &[u32],
-    rows: &[u32],
     cols: &[u32],
+    vals: &[u32],
+    ro: &[u32],
+    co: &[u32],
     ls: &[u32],
     lc: &[u32],
     lv: &[u32],
@@ -75,8 +75,8 @@ pub fn make_staged(
     buffer: &mut [u8],
     work: &mut [u64],
 ) -> Outcome
-    requires { ⌜ StagedFits s (compressed (now starts) (now columns) (now values)) (now rows) (now cols) (compressed (now ls) (now lc) (now lv)) (compressed (now us) (now uc) (now uv)) ⌝ }
-    ensures { λ o. ⌜ Puts (stagedOutcome s (compressed (now (starts .entry)) (now (columns .entry)) (now (values .entry))) (now (rows .entry)) (now (cols .entry)) (compressed (now (ls .entry)) (now (lc .entry)) (now (lv .entry))) (compressed (now (us .entry)) (now (uc .entry)) (now (uv .entry))) (length (now (work .entry))) (length (now (buffer .entry)))) (heldCertificate s (now (rows .entry)) (now (cols .entry)) (compressed (now (ls .entry)) (now (lc .entry)) (now (lv .entry))) (compressed (now (us .entry)) (now (uc .entry)) (now (uv .entry)))) o (now (buffer .entry)) (now (buffer .exit)) ⌝ }
+    requires { ⌜ StagedFits s (compressed (now starts) (now cols) (now vals)) (now ro) (now co) (compressed (now ls) (now lc) (now lv)) (compressed (now us) (now uc) (now uv)) ⌝ }
+    ensures { λ o. ⌜ Puts (stagedOutcome s (compressed (now (starts .entry)) (now (cols .entry)) (now (vals .entry))) (now (ro .entry)) (now (co .entry)) (compressed (now (ls .entry)) (now (lc .entry)) (now (lv .entry))) (compressed (now (us .entry)) (now (uc .entry)) (now (uv .entry))) (length (now (work .entry))) (length (now (buffer .entry)))) (heldCertificate s (now (ro .entry)) (now (co .entry)) (compressed (now (ls .entry)) (now (lc .entry)) (now (lv .entry))) (compressed (now (us .entry)) (now (uc .entry)) (now (uv .entry)))) o (now (buffer .entry)) (now (buffer .exit)) ⌝ }
 {
     let read = s.reading;
     if read.number != 0 {
@@ -91,10 +91,10 @@ pub fn make_staged(
     write_held(
         s,
         starts,
-        columns,
-        values,
-        rows,
         cols,
+        vals,
+        ro,
+        co,
         ls,
         lc,
         lv,

@@ -1,8 +1,8 @@
 // The report program: the report of the plan text on standard input, on standard output.
 ghost use Rattle.report_lib.specs.Reporting.{ReportLists};
-use report_lib::report;
 use limits::PRINT_ROOM;
 use limits::WORK_CELLS;
+use report_lib::report;
 
 fn run(text: &mut [u8], out: &mut [u8], work: &mut [u64])
     requires { ⌜ ReportLists (now out) (now work) ⌝ }

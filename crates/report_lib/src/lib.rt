@@ -8,16 +8,16 @@ ghost use Rattle.print_text.specs.Printed.{Prints};
 ghost use Rattle.report_lib.specs.Held.{heldSummary, heldList, heldText, stagedText, HeldReady, ReportStagedReady};
 ghost use Rattle.report_lib.specs.Reporting.{ReportLists, Reports};
 use call_open::from_factors::open_columns_from_factors;
-use refusals::Outcome;
+use limits::ENTRY_CELLS;
+use limits::SIZE_CELLS;
+use limits::START_CELLS;
 use print_text::lines::Summary;
 use print_text::report::from_one;
 use print_text::report::write_refusal;
 use print_text::report::write_report;
+use refusals::Outcome;
 use stages::Stages;
 use stages::factor_text;
-use limits::ENTRY_CELLS;
-use limits::SIZE_CELLS;
-use limits::START_CELLS;
 
 // The number whose detail is a row of the plan, which counts from 1 in print: lent entry storage is too short.
 const STORAGE_TOO_SHORT: u32 = 7;
@@ -44,10 +44,10 @@ fn summary(s: Stages) -> Summary
 fn list_held(
     s: Stages,
     starts: &[u32],
-    columns: &[u32],
-    values: &[u32],
-    rows: &[u32],
     cols: &[u32],
+    vals: &[u32],
+    ro: &[u32],
+    co: &[u32],
     ls: &[u32],
     lc: &[u32],
     lv: &[u32],
@@ -57,8 +57,8 @@ fn list_held(
     marks: &mut [u32],
     work: &mut [u64],
 ) -> Outcome
-    requires { ⌜ Fits s (compressed (now starts) (now columns) (now values)) (now rows) (now cols) (compressed (now ls) (now lc) (now lv)) (compressed (now us) (now uc) (now uv)) ⌝ }
-    ensures { λ o. ⌜ Lists (heldList s (compressed (now (starts .entry)) (now (columns .entry)) (now (values .entry))) (now (rows .entry)) (now (cols .entry)) (compressed (now (ls .entry)) (now (lc .entry)) (now (lv .entry))) (compressed (now (us .entry)) (now (uc .entry)) (now (uv .entry))) (length (now (marks .entry))) (length (now (work .entry)))) o (now (marks .entry)) (now (marks .exit)) (now (work .entry)) (now (work .exit)) ⌝ }
+    requires { ⌜ Fits s (compressed (now starts) (now cols) (now vals)) (now ro) (now co) (compressed (now ls) (now lc) (now lv)) (compressed (now us) (now uc) (now uv)) ⌝ }
+    ensures { λ o. ⌜ Lists (heldList s (compressed (now (starts .entry)) (now (cols .entry)) (now (vals .entry))) (now (ro .entry)) (now (co .entry)) (compressed (now (ls .entry)) (now (lc .entry)) (now (lv .entry))) (compressed (now (us .entry)) (now (uc .entry)) (now (uv .entry))) (length (now (marks .entry))) (length (now (work .entry)))) o (now (marks .entry)) (now (marks .exit)) (now (work .entry)) (now (work .exit)) ⌝ }
 {
     let r = s.reading;
     let f = s.factored;
@@ -73,11 +73,11 @@ fn list_held(
         r.n,
         r.m,
         &starts[..n + 1],
-        &columns[..count],
-        &values[..count],
+        &cols[..count],
+        &vals[..count],
         f.rank,
-        &rows[..n],
-        &cols[..m],
+        &ro[..n],
+        &co[..m],
         &ls[..n + 1],
         &lc[..lower],
         &lv[..lower],
@@ -93,10 +93,10 @@ fn list_held(
 fn report_held(
     s: Stages,
     starts: &[u32],
-    columns: &[u32],
-    values: &[u32],
-    rows: &[u32],
     cols: &[u32],
+    vals: &[u32],
+    ro: &[u32],
+    co: &[u32],
     ls: &[u32],
     lc: &[u32],
     lv: &[u32],
@@ -107,16 +107,16 @@ fn report_held(
     out: &mut [u8],
     work: &mut [u64],
 ) -> usize
-    requires { ⌜ HeldReady s (compressed (now starts) (now columns) (now values)) (now rows) (now cols) (compressed (now ls) (now lc) (now lv)) (compressed (now us) (now uc) (now uv)) (now marks) (now out) (now work) ⌝ }
-    ensures { λ size. ⌜ Prints (heldText s (compressed (now (starts .entry)) (now (columns .entry)) (now (values .entry))) (now (rows .entry)) (now (cols .entry)) (compressed (now (ls .entry)) (now (lc .entry)) (now (lv .entry))) (compressed (now (us .entry)) (now (uc .entry)) (now (uv .entry)))) size (now (out .entry)) (now (out .exit)) (now (work .entry)) (now (work .exit)) ⌝ }
+    requires { ⌜ HeldReady s (compressed (now starts) (now cols) (now vals)) (now ro) (now co) (compressed (now ls) (now lc) (now lv)) (compressed (now us) (now uc) (now uv)) (now marks) (now out) (now work) ⌝ }
+    ensures { λ size. ⌜ Prints (heldText s (compressed (now (starts .entry)) (now (cols .entry)) (now (vals .entry))) (now (ro .entry)) (now (co .entry)) (compressed (now (ls .entry)) (now (lc .entry)) (now (lv .entry))) (compressed (now (us .entry)) (now (uc .entry)) (now (uv .entry)))) size (now (out .entry)) (now (out .exit)) (now (work .entry)) (now (work .exit)) ⌝ }
 {
     let listed = list_held(
         s,
         starts,
-        columns,
-        values,
-        rows,
         cols,
+        vals,
+        ro,
+        co,
         ls,
         lc,
         lv,
@@ -136,10 +136,10 @@ fn report_held(
 fn report_staged(
     s: Stages,
     starts: &[u32],
-    columns: &[u32],
-    values: &[u32],
-    rows: &[u32],
     cols: &[u32],
+    vals: &[u32],
+    ro: &[u32],
+    co: &[u32],
     ls: &[u32],
     lc: &[u32],
     lv: &[u32],
@@ -150,8 +150,8 @@ fn report_staged(
     out: &mut [u8],
     work: &mut [u64],
 ) -> usize
-    requires { ⌜ ReportStagedReady s (compressed (now starts) (now columns) (now values)) (now rows) (now cols) (compressed (now ls) (now lc) (now lv)) (compressed (now us) (now uc) (now uv)) (now marks) (now out) (now work) ⌝ }
-    ensures { λ size. ⌜ Prints (stagedText s (compressed (now (starts .entry)) (now (columns .entry)) (now (values .entry))) (now (rows .entry)) (now (cols .entry)) (compressed (now (ls .entry)) (now (lc .entry)) (now (lv .entry))) (compressed (now (us .entry)) (now (uc .entry)) (now (uv .entry)))) size (now (out .entry)) (now (out .exit)) (now (work .entry)) (now (work .exit)) ⌝ }
+    requires { ⌜ ReportStagedReady s (compressed (now starts) (now cols) (now vals)) (now ro) (now co) (compressed (now ls) (now lc) (now lv)) (compressed (now us) (now uc) (now uv)) (now marks) (now out) (now work) ⌝ }
+    ensures { λ size. ⌜ Prints (stagedText s (compressed (now (starts .entry)) (now (cols .entry)) (now (vals .entry))) (now (ro .entry)) (now (co .entry)) (compressed (now (ls .entry)) (now (lc .entry)) (now (lv .entry))) (compressed (now (us .entry)) (now (uc .entry)) (now (uv .entry)))) size (now (out .entry)) (now (out .exit)) (now (work .entry)) (now (work .exit)) ⌝ }
 {
     let r = s.reading;
     let f = s.factored;
@@ -166,10 +166,10 @@ fn report_staged(
     report_held(
         s,
         starts,
-        columns,
-        values,
-        rows,
         cols,
+        vals,
+        ro,
+        co,
         ls,
         lc,
         lv,
@@ -191,10 +191,10 @@ pub fn report(text: &[u8], out: &mut [u8], work: &mut [u64]) -> usize
     ensures { λ size. ⌜ Reports (now (text .entry)) size (now (out .entry)) (now (out .exit)) (now (work .entry)) (now (work .exit)) ⌝ }
 {
     let mut starts = [0u32; START_CELLS];
-    let mut columns = [0u32; ENTRY_CELLS];
-    let mut values = [0u32; ENTRY_CELLS];
-    let mut rows = [0u32; SIZE_CELLS];
-    let mut cols = [0u32; SIZE_CELLS];
+    let mut cols = [0u32; ENTRY_CELLS];
+    let mut vals = [0u32; ENTRY_CELLS];
+    let mut ro = [0u32; SIZE_CELLS];
+    let mut co = [0u32; SIZE_CELLS];
     let mut ls = [0u32; START_CELLS];
     let mut lc = [0u32; ENTRY_CELLS];
     let mut lv = [0u32; ENTRY_CELLS];
@@ -205,10 +205,10 @@ pub fn report(text: &[u8], out: &mut [u8], work: &mut [u64]) -> usize
     let s = factor_text(
         text,
         &mut starts,
-        &mut columns,
-        &mut values,
-        &mut rows,
         &mut cols,
+        &mut vals,
+        &mut ro,
+        &mut co,
         &mut ls,
         &mut lc,
         &mut lv,
@@ -220,10 +220,10 @@ pub fn report(text: &[u8], out: &mut [u8], work: &mut [u64]) -> usize
     report_staged(
         s,
         &starts,
-        &columns,
-        &values,
-        &rows,
         &cols,
+        &vals,
+        &ro,
+        &co,
         &ls,
         &lc,
         &lv,

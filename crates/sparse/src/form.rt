@@ -32,14 +32,14 @@ fn rises(cols: &[u32], cb: &[u8], a: usize, e: usize, width: u32) -> bool
 }
 
 // Whether the row starts after the first, which is 0, never fall, and the last is total.
-fn starts_from(ss: &[u32], sb: &[u8], n: usize, total: usize) -> bool
-    requires { ⌜ (1 ≤ n) × (n ≡ length (view (now ss) (now sb))) ⌝ }
-    ensures { λ r. ⌜ r ≡ startsFrom total 0 (drop 1 (view (now (ss .entry)) (now (sb .entry)))) ⌝ }
+fn starts_from(starts: &[u32], sb: &[u8], n: usize, total: usize) -> bool
+    requires { ⌜ (1 ≤ n) × (n ≡ length (view (now starts) (now sb))) ⌝ }
+    ensures { λ r. ⌜ r ≡ startsFrom total 0 (drop 1 (view (now (starts .entry)) (now (sb .entry)))) ⌝ }
 {
     let mut from: u32 = 0;
     let mut i = 1;
     while i < n {
-        let s = word(ss, sb, i);
+        let s = word(starts, sb, i);
         if s < from {
             return false;
         }
@@ -50,30 +50,30 @@ fn starts_from(ss: &[u32], sb: &[u8], n: usize, total: usize) -> bool
 }
 
 // Whether all row starts have their form: the first is 0, and the last is total.
-fn starts_ok(ss: &[u32], sb: &[u8], total: usize) -> bool
-    ensures { λ r. ⌜ r ≡ starts total (view (now (ss .entry)) (now (sb .entry))) ⌝ }
+fn starts_ok(starts: &[u32], sb: &[u8], total: usize) -> bool
+    ensures { λ r. ⌜ r ≡ starts total (view (now (starts .entry)) (now (sb .entry))) ⌝ }
 {
-    let n = count(ss, sb);
+    let n = count(starts, sb);
     if n == 0 {
         return false;
     }
-    let first = word(ss, sb, 0);
+    let first = word(starts, sb, 0);
     if first != 0 {
         return false;
     }
-    starts_from(ss, sb, n, total)
+    starts_from(starts, sb, n, total)
 }
 
 // Whether the columns of every row rise strictly and are below width; the row starts are known to be right.
-fn rows_ok(ss: &[u32], sb: &[u8], cols: &[u32], cb: &[u8], width: u32) -> bool
-    requires { ⌜ starts (length (view (now cols) (now cb))) (view (now ss) (now sb)) ≡ true ⌝ }
-    ensures { λ r. ⌜ r ≡ rowsFrom width (view (now (cols .entry)) (now (cb .entry))) 0 (drop 1 (view (now (ss .entry)) (now (sb .entry)))) ⌝ }
+fn rows_ok(starts: &[u32], sb: &[u8], cols: &[u32], cb: &[u8], width: u32) -> bool
+    requires { ⌜ starts (length (view (now cols) (now cb))) (view (now starts) (now sb)) ≡ true ⌝ }
+    ensures { λ r. ⌜ r ≡ rowsFrom width (view (now (cols .entry)) (now (cb .entry))) 0 (drop 1 (view (now (starts .entry)) (now (sb .entry)))) ⌝ }
 {
-    let n = count(ss, sb);
+    let n = count(starts, sb);
     let mut from: usize = 0;
     let mut i = 1;
     while i < n {
-        let s = word(ss, sb, i) as usize;
+        let s = word(starts, sb, i) as usize;
         if !rises(cols, cb, from, s, width) {
             return false;
         }
@@ -104,7 +104,7 @@ fn values_ok(vals: &[u32], vb: &[u8], p: u32) -> bool
 
 // Whether a matrix of that width is stored in its form.
 pub fn form_ok(
-    ss: &[u32],
+    starts: &[u32],
     sb: &[u8],
     cols: &[u32],
     cb: &[u8],
@@ -113,16 +113,16 @@ pub fn form_ok(
     width: u32,
     p: u32,
 ) -> bool
-    ensures { λ r. ⌜ r ≡ form p width (viewed (now (ss .entry)) (now (sb .entry)) (now (cols .entry)) (now (cb .entry)) (now (vals .entry)) (now (vb .entry))) ⌝ }
+    ensures { λ r. ⌜ r ≡ form p width (viewed (now (starts .entry)) (now (sb .entry)) (now (cols .entry)) (now (cb .entry)) (now (vals .entry)) (now (vb .entry))) ⌝ }
 {
     let total = count(cols, cb);
-    if !starts_ok(ss, sb, total) {
+    if !starts_ok(starts, sb, total) {
         return false;
     }
     if count(vals, vb) != total {
         return false;
     }
-    if !rows_ok(ss, sb, cols, cb, width) {
+    if !rows_ok(starts, sb, cols, cb, width) {
         return false;
     }
     values_ok(vals, vb, p)

@@ -110,7 +110,7 @@ pub fn subtract(
 // work - c M[k], where M is a stored matrix: the row is handed on as middle parts of its lists.
 pub fn subtract_row(
     q: Modulus,
-    ss: &[u32],
+    starts: &[u32],
     sb: &[u8],
     cols: &[u32],
     cb: &[u8],
@@ -120,11 +120,11 @@ pub fn subtract_row(
     c: u32,
     work: &mut [u64],
 )
-    requires { ⌜ MatrixReady (q .p) k c (viewed (now ss) (now sb) (now cols) (now cb) (now vals) (now vb)) (now work) ⌝ }
-    ensures { λ _. ⌜ Subtracted (q .p) (λ j. c * matrix (viewed (now (ss .entry)) (now (sb .entry)) (now (cols .entry)) (now (cb .entry)) (now (vals .entry)) (now (vb .entry))) k j) (now (work .entry)) (now (work .exit)) ⌝ }
+    requires { ⌜ MatrixReady (q .p) k c (viewed (now starts) (now sb) (now cols) (now cb) (now vals) (now vb)) (now work) ⌝ }
+    ensures { λ _. ⌜ Subtracted (q .p) (λ j. c * matrix (viewed (now (starts .entry)) (now (sb .entry)) (now (cols .entry)) (now (cb .entry)) (now (vals .entry)) (now (vb .entry))) k j) (now (work .entry)) (now (work .exit)) ⌝ }
 {
-    let a = index(word(ss, sb, k));
-    let e = index(word(ss, sb, k + 1));
+    let a = index(word(starts, sb, k));
+    let e = index(word(starts, sb, k + 1));
     subtract(
         q,
         list_part(cols, a, e),
@@ -139,17 +139,17 @@ pub fn subtract_row(
 // work - c M[k], where M is a matrix in stored lists.
 pub fn subtract_list_row(
     q: Modulus,
-    ss: &[u32],
+    starts: &[u32],
     cols: &[u32],
     vals: &[u32],
     k: usize,
     c: u32,
     work: &mut [u64],
 )
-    requires { ⌜ MatrixReady (q .p) k c (compressed (now ss) (now cols) (now vals)) (now work) ⌝ }
-    ensures { λ _. ⌜ Subtracted (q .p) (λ j. c * matrix (compressed (now (ss .entry)) (now (cols .entry)) (now (vals .entry))) k j) (now (work .entry)) (now (work .exit)) ⌝ }
+    requires { ⌜ MatrixReady (q .p) k c (compressed (now starts) (now cols) (now vals)) (now work) ⌝ }
+    ensures { λ _. ⌜ Subtracted (q .p) (λ j. c * matrix (compressed (now (starts .entry)) (now (cols .entry)) (now (vals .entry))) k j) (now (work .entry)) (now (work .exit)) ⌝ }
 {
-    let a = index(ss[k]);
-    let e = index(ss[k + 1]);
+    let a = index(starts[k]);
+    let e = index(starts[k + 1]);
     subtract_list(q, part(cols, a, e), part(vals, a, e), c, work);
 }

@@ -99,6 +99,6 @@ module _ (p n m : ℕ) (A : Compressed) (l : Lent) where
   unfolding factorCallOf
   counted = go (lentOutcome p n m A l) refl
     where
-      go : (o : tests.Outcome) → lentOutcome p n m A l ≡ o → Counted n (unlessRefused o (factoring p n m A (l .lcols) (l .ucols)))
-      go Passed e = counted-factoring e (l .lcols) (l .ucols)
+      go : (o : tests.Outcome) → lentOutcome p n m A l ≡ o → Counted n (unlessRefused o (factoring p n m A (l .lc) (l .uc)))
+      go Passed e = counted-factoring e (l .lc) (l .uc)
       go (Refused c d) e = counted-refusal n c d (omega (arith, ap detailOf (sym e) ∙ lent-detail))

@@ -190,15 +190,15 @@ module _ (text : List ℕ) (A₀ A : Compressed) (R C : List ℕ) (L U : Compres
             C-length = same .columns ∙ d .set .C-length;
             L-lists =
                 record {
-                  starts-length = same .lstarts ∙ d .set .L-lists .starts-length;
-                  columns-length = same .lcols ∙ d .set .L-lists .columns-length;
-                  values-length = same .lvals ∙ d .set .L-lists .values-length;
+                  starts-length = same .ls ∙ d .set .L-lists .starts-length;
+                  columns-length = same .lc ∙ d .set .L-lists .columns-length;
+                  values-length = same .lv ∙ d .set .L-lists .values-length;
                 };
             U-lists =
                 record {
-                  starts-length = same .ustarts ∙ d .set .U-lists .starts-length;
-                  columns-length = same .ucols ∙ d .set .U-lists .columns-length;
-                  values-length = same .uvals ∙ d .set .U-lists .values-length;
+                  starts-length = same .us ∙ d .set .U-lists .starts-length;
+                  columns-length = same .uc ∙ d .set .U-lists .columns-length;
+                  values-length = same .uv ∙ d .set .U-lists .values-length;
                 };
           }
 

@@ -46,12 +46,12 @@ module _ (r : Reading) (A : Compressed) (R C : List ℕ) (L U : Compressed) (w :
       record {
         rows = R-part t;
         columns = C-part t;
-        lstarts = L-part t;
-        lcols = d .set .L-lists .columns-length t;
-        lvals = d .set .L-lists .values-length t;
-        ustarts = U-part t;
-        ucols = d .set .U-lists .columns-length t;
-        uvals = d .set .U-lists .values-length t;
+        ls = L-part t;
+        lc = d .set .L-lists .columns-length t;
+        lv = d .set .L-lists .values-length t;
+        us = U-part t;
+        uc = d .set .U-lists .columns-length t;
+        uv = d .set .U-lists .values-length t;
         work = d .work-length t;
       }
 

@@ -98,7 +98,7 @@ module _ (text : List ℕ) where
 
   module _ (states : StatesPlan largestEntries text) where
     lent-right : LentRight n m (lentFor n m)
-    lent-right = record { rows = refl; columns = refl; lstarts = refl; lower = refl; ustarts = refl; upper = refl; work = refl }
+    lent-right = record { rows = refl; columns = refl; ls = refl; lower = refl; us = refl; upper = refl; work = refl }
 
     pub factored-is : factoredOf (reading text) ≡ unlessOver firstRow wholeSet
     unfolding factoredOf

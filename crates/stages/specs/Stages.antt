@@ -34,12 +34,12 @@ lentFor n m =
     record {
       rows = n;
       columns = m;
-      lstarts = n + 1;
-      lcols = largestEntries;
-      lvals = largestEntries;
-      ustarts = n + 1;
-      ucols = largestEntries;
-      uvals = largestEntries;
+      ls = n + 1;
+      lc = largestEntries;
+      lv = largestEntries;
+      us = n + 1;
+      uc = largestEntries;
+      uv = largestEntries;
       work = workLength;
     }
 

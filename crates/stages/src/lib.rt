@@ -25,10 +25,10 @@ pub struct Stages {
 fn factor_held(
     r: Reading,
     starts: &[u32],
-    columns: &[u32],
-    values: &[u32],
-    rows: &mut [u32],
-    cols: &mut [u32],
+    cols: &[u32],
+    vals: &[u32],
+    ro: &mut [u32],
+    co: &mut [u32],
     ls: &mut [u32],
     lc: &mut [u32],
     lv: &mut [u32],
@@ -37,8 +37,8 @@ fn factor_held(
     uv: &mut [u32],
     work: &mut [u64],
 ) -> Factored
-    requires { ⌜ Lendable r (compressed (now starts) (now columns) (now values)) (now rows) (now cols) (compressed (now ls) (now lc) (now lv)) (compressed (now us) (now uc) (now uv)) (now work) ⌝ }
-    ensures { λ f. ⌜ Leaves (factorCallOf (r .p) (r .n) (r .m) (heldPlan r (now (starts .entry)) (now (columns .entry)) (now (values .entry))) (lentFor (r .n) (r .m))) (f .number) (f .detail) (f .rank) (f .structural) (take (r .n) (now (rows .exit))) (take (r .m) (now (cols .exit))) (compressed (take (r .n + 1) (now (ls .exit))) (now (lc .exit)) (now (lv .exit))) (compressed (take (r .n + 1) (now (us .exit))) (now (uc .exit)) (now (uv .exit))) (now (work .exit)) ⌝ }
+    requires { ⌜ Lendable r (compressed (now starts) (now cols) (now vals)) (now ro) (now co) (compressed (now ls) (now lc) (now lv)) (compressed (now us) (now uc) (now uv)) (now work) ⌝ }
+    ensures { λ f. ⌜ Leaves (factorCallOf (r .p) (r .n) (r .m) (heldPlan r (now (starts .entry)) (now (cols .entry)) (now (vals .entry))) (lentFor (r .n) (r .m))) (f .number) (f .detail) (f .rank) (f .structural) (take (r .n) (now (ro .exit))) (take (r .m) (now (co .exit))) (compressed (take (r .n + 1) (now (ls .exit))) (now (lc .exit)) (now (lv .exit))) (compressed (take (r .n + 1) (now (us .exit))) (now (uc .exit)) (now (uv .exit))) (now (work .exit)) ⌝ }
 {
     let n = r.n as usize;
     let m = r.m as usize;
@@ -48,10 +48,10 @@ fn factor_held(
         r.n,
         r.m,
         &starts[..n + 1],
-        &columns[..count],
-        &values[..count],
-        &mut rows[..n],
-        &mut cols[..m],
+        &cols[..count],
+        &vals[..count],
+        &mut ro[..n],
+        &mut co[..m],
         &mut ls[..n + 1],
         lc,
         lv,
@@ -66,10 +66,10 @@ fn factor_held(
 pub fn factor_text(
     text: &[u8],
     starts: &mut [u32],
-    columns: &mut [u32],
-    values: &mut [u32],
-    rows: &mut [u32],
     cols: &mut [u32],
+    vals: &mut [u32],
+    ro: &mut [u32],
+    co: &mut [u32],
     ls: &mut [u32],
     lc: &mut [u32],
     lv: &mut [u32],
@@ -78,10 +78,10 @@ pub fn factor_text(
     uv: &mut [u32],
     work: &mut [u64],
 ) -> Stages
-    requires { ⌜ StageLists (compressed (now starts) (now columns) (now values)) (now rows) (now cols) (compressed (now ls) (now lc) (now lv)) (compressed (now us) (now uc) (now uv)) (now work) ⌝ }
-    ensures { λ s. ⌜ Staged (now (text .entry)) s (compressed (now (starts .exit)) (now (columns .exit)) (now (values .exit))) (now (rows .exit)) (now (cols .exit)) (compressed (now (ls .exit)) (now (lc .exit)) (now (lv .exit))) (compressed (now (us .exit)) (now (uc .exit)) (now (uv .exit))) (now (work .entry)) (now (work .exit)) ⌝ }
+    requires { ⌜ StageLists (compressed (now starts) (now cols) (now vals)) (now ro) (now co) (compressed (now ls) (now lc) (now lv)) (compressed (now us) (now uc) (now uv)) (now work) ⌝ }
+    ensures { λ s. ⌜ Staged (now (text .entry)) s (compressed (now (starts .exit)) (now (cols .exit)) (now (vals .exit))) (now (ro .exit)) (now (co .exit)) (compressed (now (ls .exit)) (now (lc .exit)) (now (lv .exit))) (compressed (now (us .exit)) (now (uc .exit)) (now (uv .exit))) (now (work .entry)) (now (work .exit)) ⌝ }
 {
-    let reading = text_plan::read(text, starts, columns, values);
+    let reading = text_plan::read(text, starts, cols, vals);
     if reading.number != 0 {
         clear_row(work);
         let factored = Factored {
@@ -100,10 +100,10 @@ pub fn factor_text(
     let factored = factor_held(
         reading,
         starts,
-        columns,
-        values,
-        rows,
         cols,
+        vals,
+        ro,
+        co,
         ls,
         lc,
         lv,

@@ -6,8 +6,8 @@ ghost use Rattle.text_judge.specs.Judge.{before, mayStand, judgeLine};
 ghost use Rattle.text_judge.specs.Sight.{judgedFrom};
 use crate::line::Line;
 use crate::sight::Sight;
-use residue::Modulus;
 use refusals::numbers::REPEATED_PLACE;
+use residue::Modulus;
 
 // The modulus and the sizes of a plan.
 pub struct Sizes {

@@ -7,10 +7,10 @@ ghost use Rattle.text_judge.specs.Judge.{inRange, residueAt, isZero, isL
 ghost use Rattle.text_judge.specs.Sight.{standsIf, sight};
 use crate::judge::Sizes;
 use crate::line::Line;
-use text_fields::numbers::Signed;
-use residue::Modulus;
 use refusals::numbers::STORAGE_TOO_SHORT;
 use refusals::numbers::VALUE_OUT_OF_RANGE;
+use residue::Modulus;
+use text_fields::numbers::Signed;
 
 // The range of v: from -2,147,483,648 to 2,147,483,647.
 const LARGEST_V: u64 = 2147483647;
@@ -96,7 +96,11 @@ fn stands_if(full: bool, i: u64, j: u64, v: u32) -> Sight
         return Sight::Stands { i, j, v };
     }
     if full {
-        return Sight::Fails { number: STORAGE_TOO_SHORT, i, j };
+        return Sight::Fails {
+            number: STORAGE_TOO_SHORT,
+            i,
+            j,
+        };
     }
     Sight::Stands { i, j, v }
 }
@@ -113,7 +117,11 @@ fn sight_triple(full: bool, s: Sizes, i: u64, j: u64, v: Signed) -> Sight
         return Sight::Stops(4);
     }
     if !in_range(v) {
-        return Sight::Fails { number: VALUE_OUT_OF_RANGE, i, j };
+        return Sight::Fails {
+            number: VALUE_OUT_OF_RANGE,
+            i,
+            j,
+        };
     }
     let modulus = s.modulus;
     stands_if(full, i, j, residue_of(modulus, v))

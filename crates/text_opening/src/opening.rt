@@ -8,16 +8,16 @@ ghost use Rattle.text_fields.specs.Pieces.{pieces};
 ghost use Rattle.residue.specs.Range.{isModulus};
 ghost use Rattle.text_opening.specs.Reading.{Entry, fromSecond, readBy};
 ghost use Rattle.text_opening.specs.Opening.{afterOpen, Bounded, Second};
-use text_fields::numbers::Number;
-use text_lines::Place;
-use text_judge::header::Header;
-use text_judge::judge::Sizes;
-use residue::Modulus;
 use limits::LARGEST_STATED;
 use limits::LARGEST_TEXT;
 use refusals::numbers::BAD_MODULUS;
 use refusals::numbers::MALFORMED;
 use refusals::numbers::OVER_LIMIT;
+use residue::Modulus;
+use text_fields::numbers::Number;
+use text_judge::header::Header;
+use text_judge::judge::Sizes;
+use text_lines::Place;
 
 // What the first two lines lead to: a refusal, or the sizes, and the place and number of the third line.
 pub enum Opening {
@@ -43,7 +43,10 @@ fn open_second(text: &[u8], second: Place, modulus: Modulus) -> Opening
     let detail = second.line;
     let l = text_lines::line_from(text, second.at, second.line);
     if second.at + l.len() == text.len() {
-        return Opening::Refused { number: MALFORMED, detail };
+        return Opening::Refused {
+            number: MALFORMED,
+            detail,
+        };
     }
     let third = text_lines::next_from(text, second.at, second.line, l.len());
     match text_judge::header::header_of(l) {
@@ -69,7 +72,10 @@ fn open_second(text: &[u8], second: Place, modulus: Modulus) -> Opening
                 third,
             }
         }
-        Header::NotHeader => Opening::Refused { number: MALFORMED, detail },
+        Header::NotHeader => Opening::Refused {
+            number: MALFORMED,
+            detail,
+        },
     }
 }
 
@@ -87,7 +93,10 @@ pub fn open(text: &[u8]) -> Opening
     let detail = first.line;
     let l = text_lines::line_from(text, first.at, first.line);
     if first.at + l.len() == text.len() {
-        return Opening::Refused { number: MALFORMED, detail };
+        return Opening::Refused {
+            number: MALFORMED,
+            detail,
+        };
     }
     let second = text_lines::next_from(text, first.at, first.line, l.len());
     match text_fields::numbers::number_of(l) {
@@ -100,6 +109,9 @@ pub fn open(text: &[u8]) -> Opening
                 detail: 0,
             }
         }
-        Number::NotNumber => Opening::Refused { number: MALFORMED, detail },
+        Number::NotNumber => Opening::Refused {
+            number: MALFORMED,
+            detail,
+        },
     }
 }

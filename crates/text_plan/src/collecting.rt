@@ -7,11 +7,11 @@ ghost use lib.ListN.{length, drop, set};
 ghost use Rattle.text_fields.specs.Pieces.{pieces};
 ghost use Rattle.text_plan.specs.Collect.{collect};
 ghost use Rattle.text_plan.specs.Needs.{Keepable, Collectable, Collects};
-use text_lines::Place;
 use refusals::Outcome;
+use refusals::numbers::MALFORMED;
 use text_judge::judge::Sizes;
 use text_judge::sight::Sight;
-use refusals::numbers::MALFORMED;
+use text_lines::Place;
 
 // How many lines were collected, and what ended it, places that are taken twice left aside: the last line, or a refusal.
 pub struct Gathered {

@@ -22,16 +22,16 @@ pub fn extend_starts(starts: &mut [u32], from: usize, to: usize, count: u32)
 // One entry more, in a row that is not before `row`, the last one so far. A value of 0 is not stored.
 pub fn store(
     starts: &mut [u32],
-    columns: &mut [u32],
-    values: &mut [u32],
+    cols: &mut [u32],
+    vals: &mut [u32],
     count: u32,
     row: u64,
     i: u64,
     j: u64,
     v: u32,
 ) -> u32
-    requires { ⌜ Storable (length (now starts)) (length (now columns)) (length (now values)) count row i j v ⌝ }
-    ensures { λ r. ⌜ ((seen : List Entry) → EntriesStored row (length (now (columns .entry))) (kept seen) count (now (starts .entry)) (now (columns .entry)) (now (values .entry)) → EntriesStored i (length (now (columns .entry))) (kept (record { row = i; column = j; value = v } ∷ seen)) r (now (starts .exit)) (now (columns .exit)) (now (values .exit))) ⌝ }
+    requires { ⌜ Storable (length (now starts)) (length (now cols)) (length (now vals)) count row i j v ⌝ }
+    ensures { λ r. ⌜ ((seen : List Entry) → EntriesStored row (length (now (cols .entry))) (kept seen) count (now (starts .entry)) (now (cols .entry)) (now (vals .entry)) → EntriesStored i (length (now (cols .entry))) (kept (record { row = i; column = j; value = v } ∷ seen)) r (now (starts .exit)) (now (cols .exit)) (now (vals .exit))) ⌝ }
 {
     let top = i as usize;
     extend_starts(starts, row as usize, top, count);
@@ -40,7 +40,7 @@ pub fn store(
     }
     let at = lists::index(count);
     starts[top] = count + 1;
-    columns[at] = (j - 1) as u32;
-    values[at] = v;
+    cols[at] = (j - 1) as u32;
+    vals[at] = v;
     count + 1
 }

@@ -5,12 +5,12 @@ ghost use lib.ListN.{length, drop};
 ghost use Rattle.text_fields.specs.Pieces.{pieces};
 ghost use Rattle.text_opening.specs.Reading.{fresh, triples, readOf};
 ghost use Rattle.text_plan.specs.Call.{readAnswerOf, callOf, refusalOf, Gives, NothingStored, ReadingReady, Settles};
-use text_lines::Place;
-use text_judge::judge::Sizes;
-use text_opening::opening::Opening;
-use triples::TripleLines;
 use limits::START_CELLS;
 use refusals::numbers::REPEATED_PLACE;
+use text_judge::judge::Sizes;
+use text_lines::Place;
+use text_opening::opening::Opening;
+use triples::TripleLines;
 
 pub mod collecting;
 pub mod filling;
@@ -47,38 +47,38 @@ fn read_lines(
     third: Place,
     s: Sizes,
     starts: &mut [u32],
-    columns: &mut [u32],
-    values: &mut [u32],
+    cols: &mut [u32],
+    vals: &mut [u32],
 ) -> TripleLines
-    requires { ⌜ ReadingReady (now text) third s (now starts) (now columns) (now values) ⌝ }
-    ensures { λ r. ⌜ Settles (length (now (columns .entry))) (triples fresh s (length (now (columns .entry))) (third .line) [] (pieces 10 (drop (third .at) (now (text .entry))))) r (now (starts .exit)) (now (columns .exit)) (now (values .exit)) ⌝ }
+    requires { ⌜ ReadingReady (now text) third s (now starts) (now cols) (now vals) ⌝ }
+    ensures { λ r. ⌜ Settles (length (now (cols .entry))) (triples fresh s (length (now (cols .entry))) (third .line) [] (pieces 10 (drop (third .at) (now (text .entry))))) r (now (starts .exit)) (now (cols .exit)) (now (vals .exit)) ⌝ }
 {
-    match triples::read_triples(text, third, s, starts, columns, values) {
+    match triples::read_triples(text, third, s, starts, cols, vals) {
         TripleLines::Read { count, row } => TripleLines::Read { count, row },
         TripleLines::Refused { number, line } => {
             if number != REPEATED_PLACE {
                 return TripleLines::Refused { number, line };
             }
             lists::clear(starts);
-            lists::clear(columns);
-            lists::clear(values);
-            sorting::read_any_order(text, third, s, starts, columns, values)
+            lists::clear(cols);
+            lists::clear(vals);
+            sorting::read_any_order(text, third, s, starts, cols, vals)
         }
     }
 }
 
 // Reads into lists of the right lengths that are all zero.
-fn fill(text: &[u8], starts: &mut [u32], columns: &mut [u32], values: &mut [u32]) -> Reading
-    requires { ⌜ NothingStored (now starts) (now columns) (now values) ⌝ }
-    ensures { λ r. ⌜ Gives (readAnswerOf (length (now (columns .entry))) (readOf (length (now (columns .entry))) (now (text .entry)))) r (now (starts .exit)) (now (columns .exit)) (now (values .exit)) ⌝ }
+fn fill(text: &[u8], starts: &mut [u32], cols: &mut [u32], vals: &mut [u32]) -> Reading
+    requires { ⌜ NothingStored (now starts) (now cols) (now vals) ⌝ }
+    ensures { λ r. ⌜ Gives (readAnswerOf (length (now (cols .entry))) (readOf (length (now (cols .entry))) (now (text .entry)))) r (now (starts .exit)) (now (cols .exit)) (now (vals .exit)) ⌝ }
 {
     match text_opening::opening::open(text) {
         Opening::Refused { number, detail } => refusal(number, detail),
-        Opening::Opened { s, third } => match read_lines(text, third, s, starts, columns, values) {
+        Opening::Opened { s, third } => match read_lines(text, third, s, starts, cols, vals) {
             TripleLines::Refused { number, line } => {
                 lists::clear(starts);
-                lists::clear(columns);
-                lists::clear(values);
+                lists::clear(cols);
+                lists::clear(vals);
                 refusal(number, line)
             }
             TripleLines::Read { count, row } => {
@@ -102,17 +102,17 @@ fn fill(text: &[u8], starts: &mut [u32], columns: &mut [u32], values: &mut [u32]
 // Gives: the modulus, the sizes and the number of entries, and the plan in the lent lists, zero past its end.
 // Refuses with: 9 for a wrong length; 2 for a longer text; then the first line at fault: 3, then 1, 2, or 4, 5, 6, 7.
 // Leaves: after a refusal every number 0 and every lent list all zero. The text never changes.
-pub fn read(text: &[u8], starts: &mut [u32], columns: &mut [u32], values: &mut [u32]) -> Reading
-    ensures { λ r. ⌜ Gives (callOf (now (text .entry)) (length (now (starts .entry))) (length (now (columns .entry))) (length (now (values .entry)))) r (now (starts .exit)) (now (columns .exit)) (now (values .exit)) ⌝ }
+pub fn read(text: &[u8], starts: &mut [u32], cols: &mut [u32], vals: &mut [u32]) -> Reading
+    ensures { λ r. ⌜ Gives (callOf (now (text .entry)) (length (now (starts .entry))) (length (now (cols .entry))) (length (now (vals .entry)))) r (now (starts .exit)) (now (cols .exit)) (now (vals .exit)) ⌝ }
 {
     lists::clear(starts);
-    lists::clear(columns);
-    lists::clear(values);
+    lists::clear(cols);
+    lists::clear(vals);
     if starts.len() != START_CELLS {
         return refusal(9, 0);
     }
-    if columns.len() != values.len() {
+    if cols.len() != vals.len() {
         return refusal(9, 0);
     }
-    fill(text, starts, columns, values)
+    fill(text, starts, cols, vals)
 }

@@ -5,10 +5,10 @@ ghost use Rattle.text_fields.specs.Pieces.{pieces};
 ghost use Rattle.text_opening.specs.Reading.{triples};
 ghost use Rattle.text_plan.specs.Rising.{rises};
 ghost use Rattle.text_plan.specs.Call.{ReadingReady, Shows};
-use text_lines::Place;
+use refusals::numbers::MALFORMED;
 use text_judge::judge::Sizes;
 use text_judge::judge::Verdict;
-use refusals::numbers::MALFORMED;
+use text_lines::Place;
 
 // What they come to: a refusal and its line, or the number of entries and the row of the last triple.
 pub enum TripleLines {
@@ -22,13 +22,13 @@ pub fn read_triples(
     from: Place,
     s: Sizes,
     starts: &mut [u32],
-    columns: &mut [u32],
-    values: &mut [u32],
+    cols: &mut [u32],
+    vals: &mut [u32],
 ) -> TripleLines
-    requires { ⌜ ReadingReady (now text) from s (now starts) (now columns) (now values) ⌝ }
-    ensures { λ r. ⌜ Shows (length (now (columns .entry))) (triples rises s (length (now (columns .entry))) (from .line) [] (pieces 10 (drop (from .at) (now (text .entry))))) r (now (starts .exit)) (now (columns .exit)) (now (values .exit)) ⌝ }
+    requires { ⌜ ReadingReady (now text) from s (now starts) (now cols) (now vals) ⌝ }
+    ensures { λ r. ⌜ Shows (length (now (cols .entry))) (triples rises s (length (now (cols .entry))) (from .line) [] (pieces 10 (drop (from .at) (now (text .entry))))) r (now (starts .exit)) (now (cols .exit)) (now (vals .exit)) ⌝ }
 {
-    let room = columns.len();
+    let room = cols.len();
     let mut here = from;
     let mut a: u64 = 0;
     let mut b: u64 = 0;
@@ -37,7 +37,10 @@ pub fn read_triples(
         let line = here.line;
         let l = text_lines::line_from(text, here.at, line);
         if here.at + l.len() == text.len() {
-            return TripleLines::Refused { number: MALFORMED, line };
+            return TripleLines::Refused {
+                number: MALFORMED,
+                line,
+            };
         }
         let next = text_lines::next_from(text, here.at, line, l.len());
         let verdict = text_judge::judge::judge_after(a, b, room <= count as usize, s, l);
@@ -50,10 +53,13 @@ pub fn read_triples(
                     return TripleLines::Read { count, row: a };
                 }
                 let line = next.line;
-                return TripleLines::Refused { number: MALFORMED, line };
+                return TripleLines::Refused {
+                    number: MALFORMED,
+                    line,
+                };
             }
             Verdict::Entry { i, j, v } => {
-                count = crate::filling::store(starts, columns, values, count, a, i, j, v);
+                count = crate::filling::store(starts, cols, vals, count, a, i, j, v);
                 a = i;
                 b = j;
             }
@@ -61,5 +67,8 @@ pub fn read_triples(
         here = next;
     }
     let line = here.line;
-    TripleLines::Refused { number: MALFORMED, line }
+    TripleLines::Refused {
+        number: MALFORMED,
+        line,
+    }
 }

@@ -133,7 +133,7 @@ module _ (p n m : ℕ) (A : Compressed) (l : Lent) (number detail rank pivots : 
   pub factor-seven : GoodPlan p n m A → LentRight n m l → (number ≡ storageTooShort) ↔ (¬ FactorsFit p n m A l)
   factor-seven = factors.factored-seven p n m A l number detail rank pivots R C L U w call
 
-  pub factor-row : number ≡ storageTooShort → Overflows p m (matrix A) (l .lcols) (l .ucols) nothing (schedule n (structural A n m)) detail
+  pub factor-row : number ≡ storageTooShort → Overflows p m (matrix A) (l .lc) (l .uc) nothing (schedule n (structural A n m)) detail
   factor-row = factors.factored-row p n m A l number detail rank pivots R C L U w call
 
   pub factor-by : NumberFrom (planFaults ++ (storageTooShort ∷ [])) number

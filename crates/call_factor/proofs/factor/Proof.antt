@@ -10,18 +10,18 @@ use Rattle.call_factor.proofs.factor.Statement.{statement}
 use Rattle.call_factor.proofs.factor.Tie as tie
 
 abbrev plan : tie.Start → Compressed
-plan s = compressed (s .args .ss .now) (s .args .cols .now) (s .args .vals .now)
+plan s = compressed (s .args .starts .now) (s .args .cols .now) (s .args .vals .now)
 
 -- the lengths of the lent lists
 abbrev lent : tie.Start → Lent
-lent s = lentOf (s .args .rows .now) (s .args .columns .now) (compressed (s .args .ls .now) (s .args .lc .now) (s .args .lv .now)) (compressed (s .args .us .now) (s .args .uc .now) (s .args .uv .now)) (s .args .work .now)
+lent s = lentOf (s .args .ro .now) (s .args .co .now) (compressed (s .args .ls .now) (s .args .lc .now) (s .args .lv .now)) (compressed (s .args .us .now) (s .args .uc .now) (s .args .uv .now)) (s .args .work .now)
 
 -- the same after the lists were cleared
 abbrev own : tie.After-clear-all → Lent
 own x = lentOf (x .clear-all .last .0) (x .clear-all .last .1 .0) (compressed (x .clear-all .last .1 .1 .0) (x .clear-all .last .1 .1 .1 .0) (x .clear-all .last .1 .1 .1 .1 .0)) (compressed (x .clear-all .last .1 .1 .1 .1 .1 .0) (x .clear-all .last .1 .1 .1 .1 .1 .1 .0) (x .clear-all .last .1 .1 .1 .1 .1 .1 .1 .0)) (x .clear-all .last .1 .1 .1 .1 .1 .1 .1 .1 .0)
 
 same : (x : tie.After-clear-all) → own x ≡ lent (x .before .before .before .before .before .before .before .before .before .before .before .before .before .before .before .before .before .before .before .before .before .before)
-same x = kept-same (lent (x .before .before .before .before .before .before .before .before .before .before .before .before .before .before .before .before .before .before .before .before .before .before)) (own x) (record { rows = x .clear-all .kept .0; columns = x .clear-all .kept .1 .0; lstarts = x .clear-all .kept .1 .1 .0; lcols = x .clear-all .kept .1 .1 .1 .0; lvals = x .clear-all .kept .1 .1 .1 .1 .0; ustarts = x .clear-all .kept .1 .1 .1 .1 .1 .0; ucols = x .clear-all .kept .1 .1 .1 .1 .1 .1 .0; uvals = x .clear-all .kept .1 .1 .1 .1 .1 .1 .1 .0; work = x .clear-all .kept .1 .1 .1 .1 .1 .1 .1 .1 .0 })
+same x = kept-same (lent (x .before .before .before .before .before .before .before .before .before .before .before .before .before .before .before .before .before .before .before .before .before .before)) (own x) (record { rows = x .clear-all .kept .0; columns = x .clear-all .kept .1 .0; ls = x .clear-all .kept .1 .1 .0; lc = x .clear-all .kept .1 .1 .1 .0; lv = x .clear-all .kept .1 .1 .1 .1 .0; us = x .clear-all .kept .1 .1 .1 .1 .1 .0; uc = x .clear-all .kept .1 .1 .1 .1 .1 .1 .0; uv = x .clear-all .kept .1 .1 .1 .1 .1 .1 .1 .0; work = x .clear-all .kept .1 .1 .1 .1 .1 .1 .1 .1 .0 })
 
 tested-own : (c : tie.After-lent-outcome) → let s = c .before .before .before .before .before .before .before .before .before .before .before .before .before .before .before .before .before .before .before .before .before .before .before .before .before .before .before .before .before .before .before .before .before .before .before .before .before .before .before .before .before in c .lent-outcome .result ≡ lentOutcome (s .args .p) (s .args .n) (s .args .m) (plan s) (own (c .before .before .before .before .before .before .before .before .before .before .before .before .before .before .before .before .before .before .before))
 tested-own c = c .lent-outcome .ensures

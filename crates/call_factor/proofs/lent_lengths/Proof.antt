@@ -1,5 +1,5 @@
 -- `lent_lengths` meets its contract. Assumes nothing.
-use Rattle.call_factor.proofs.LentLists.{rows-differ, columns-differ, lstarts-differ, lower-differs, ustarts-differ, upper-differs, upper-agrees}
+use Rattle.call_factor.proofs.LentLists.{rows-differ, columns-differ, ls-differ, lower-differs, us-differ, upper-differs, upper-agrees}
 use borrow.Author.Needs.{needs}
 use Rattle.call_factor.proofs.lent_lengths.Statement.{statement}
 use Rattle.call_factor.proofs.lent_lengths.Tie as tie
@@ -24,7 +24,7 @@ add-if3 c = search needs
 
 returns-3 : tie.Need-returns-3
 returns-3 c = let f = c .before .before in let j = c .before .before .before .before in let e = c .before .before .before .before .before in let i = c .before .before .before .before .before .before .before in let s = start i in
-    lstarts-differ (s .args .n) (s .args .m) (s .args .lent) (i .index .result) (i .index .ensures) (e .if1 .left) (j .index2 .result) (j .index2 .ensures) (f .if2 .left) (c .if3 .taken)
+    ls-differ (s .args .n) (s .args .m) (s .args .lent) (i .index .result) (i .index .ensures) (e .if1 .left) (j .index2 .result) (j .index2 .ensures) (f .if2 .left) (c .if3 .taken)
 
 returns-4 : tie.Need-returns-4
 returns-4 c = let g = c .before .before in let f = c .before .before .before .before in let j = c .before .before .before .before .before .before in let e = c .before .before .before .before .before .before .before in let i = c .before .before .before .before .before .before .before .before .before in let s = start i in
@@ -35,7 +35,7 @@ add-if5 c = search needs
 
 returns-5 : tie.Need-returns-5
 returns-5 c = let h = c .before .before in let g = c .before .before .before .before in let f = c .before .before .before .before .before .before in let j = c .before .before .before .before .before .before .before .before in let e = c .before .before .before .before .before .before .before .before .before in let i = c .before .before .before .before .before .before .before .before .before .before .before in let s = start i in
-    ustarts-differ (s .args .n) (s .args .m) (s .args .lent) (i .index .result) (i .index .ensures) (e .if1 .left) (j .index2 .result) (j .index2 .ensures) (f .if2 .left) (g .if3 .left) (h .if4 .left) (c .if5 .taken)
+    us-differ (s .args .n) (s .args .m) (s .args .lent) (i .index .result) (i .index .ensures) (e .if1 .left) (j .index2 .result) (j .index2 .ensures) (f .if2 .left) (g .if3 .left) (h .if4 .left) (c .if5 .taken)
 
 returns-6 : tie.Need-returns-6
 returns-6 c = let k = c .before .before in let h = c .before .before .before .before in let g = c .before .before .before .before .before .before in let f = c .before .before .before .before .before .before .before .before in let j = c .before .before .before .before .before .before .before .before .before .before in let e = c .before .before .before .before .before .before .before .before .before .before .before in let i = c .before .before .before .before .before .before .before .before .before .before .before .before .before in let s = start i in

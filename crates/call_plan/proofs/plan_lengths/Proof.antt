@@ -6,7 +6,7 @@ use Rattle.call_plan.proofs.plan_lengths.Statement.{statement}
 use Rattle.call_plan.proofs.plan_lengths.Tie as tie
 
 abbrev matrixOf : tie.Start → Compressed
-matrixOf s = compressed (s .args .ss .now) (s .args .cols .now) (s .args .vals .now)
+matrixOf s = compressed (s .args .starts .now) (s .args .cols .now) (s .args .vals .now)
 
 abbrev start : tie.After-index → tie.Start
 start c = c .before .before .before .before

@@ -12,7 +12,7 @@ use Rattle.call_plan.proofs.plan_outcome.Statement.{statement}
 use Rattle.call_plan.proofs.plan_outcome.Tie as tie
 
 abbrev plan : tie.Start → Compressed
-plan s = compressed (s .args .ss .now) (s .args .cols .now) (s .args .vals .now)
+plan s = compressed (s .args .starts .now) (s .args .cols .now) (s .args .vals .now)
 
 abbrev start : tie.After-is-modulus → tie.Start
 start c = c .before .before .before .before
@@ -27,7 +27,7 @@ within c = sym (c .before .limits-ok .ensures) ∙ not-false (c .before .limits-
 tested : (c : tie.After-form-ok)
     → let s = start (c .before .before .before .before .before .before .before) in c .form-ok .result ≡ form (s .args .p) (s .args .m) (plan s)
 tested c = let s = start (c .before .before .before .before .before .before .before) in
-    c .form-ok .ensures ∙ ap (form (s .args .p) (s .args .m)) (viewed-lists (s .args .ss .now) (s .args .cols .now) (s .args .vals .now))
+    c .form-ok .ensures ∙ ap (form (s .args .p) (s .args .m)) (viewed-lists (s .args .starts .now) (s .args .cols .now) (s .args .vals .now))
 
 is-modulus-requires : tie.Need-is-modulus-requires
 is-modulus-requires c κs = search needs

@@ -10,7 +10,7 @@ use Rattle.call_write.proofs.write_certificate.Statement.{statement}
 use Rattle.call_write.proofs.write_certificate.Tie as tie
 
 abbrev plan : tie.Start → Compressed
-plan s = compressed (s .args .ss .now) (s .args .cols .now) (s .args .vals .now)
+plan s = compressed (s .args .starts .now) (s .args .cols .now) (s .args .vals .now)
 
 abbrev set : tie.Start → Set
 set s =

@@ -24,10 +24,10 @@ start c = c .before .before .before .before .before .before .before .before .bef
 
 -- the test is of the row as it was first lent
 test : (c : tie.After-row-agrees Inv-loop μ-loop)
-    → let s = start c in c .row-agrees .result ≡ agrees (s .args .q .p) (length (s .args .work .now)) (s .args .r) (matrix (compressed (view (s .args .ss .now) (s .args .sb .now)) (view (s .args .cols .now) (s .args .cb .now)) (view (s .args .vals .now) (s .args .vb .now)))) (vector (view (s .args .ro .now) (s .args .rob .now))) (matrix (compressed (view (s .args .ls .now) (s .args .lsb .now)) (view (s .args .lc .now) (s .args .lcb .now)) (view (s .args .lv .now) (s .args .lvb .now)))) (matrix (compressed (view (s .args .us .now) (s .args .usb .now)) (view (s .args .uc .now) (s .args .ucb .now)) (view (s .args .uv .now) (s .args .uvb .now)))) (c .before .before .before .loop .i)
+    → let s = start c in c .row-agrees .result ≡ agrees (s .args .q .p) (length (s .args .work .now)) (s .args .r) (matrix (compressed (view (s .args .starts .now) (s .args .sb .now)) (view (s .args .cols .now) (s .args .cb .now)) (view (s .args .vals .now) (s .args .vb .now)))) (vector (view (s .args .ro .now) (s .args .rob .now))) (matrix (compressed (view (s .args .ls .now) (s .args .lsb .now)) (view (s .args .lc .now) (s .args .lcb .now)) (view (s .args .lv .now) (s .args .lvb .now)))) (matrix (compressed (view (s .args .us .now) (s .args .usb .now)) (view (s .args .uc .now) (s .args .ucb .now)) (view (s .args .uv .now) (s .args .uvb .now)))) (c .before .before .before .loop .i)
 test c =
     let s = start c in
-    c .row-agrees .ensures .0 ∙ ap (λ (w : List ℕ). agrees (s .args .q .p) (length w) (s .args .r) (matrix (compressed (view (s .args .ss .now) (s .args .sb .now)) (view (s .args .cols .now) (s .args .cb .now)) (view (s .args .vals .now) (s .args .vb .now)))) (vector (view (s .args .ro .now) (s .args .rob .now))) (matrix (compressed (view (s .args .ls .now) (s .args .lsb .now)) (view (s .args .lc .now) (s .args .lcb .now)) (view (s .args .lv .now) (s .args .lvb .now)))) (matrix (compressed (view (s .args .us .now) (s .args .usb .now)) (view (s .args .uc .now) (s .args .ucb .now)) (view (s .args .uv .now) (s .args .uvb .now)))) (c .before .before .before .loop .i)) (c .before .before .before .loop .inv .same)
+    c .row-agrees .ensures .0 ∙ ap (λ (w : List ℕ). agrees (s .args .q .p) (length w) (s .args .r) (matrix (compressed (view (s .args .starts .now) (s .args .sb .now)) (view (s .args .cols .now) (s .args .cb .now)) (view (s .args .vals .now) (s .args .vb .now)))) (vector (view (s .args .ro .now) (s .args .rob .now))) (matrix (compressed (view (s .args .ls .now) (s .args .lsb .now)) (view (s .args .lc .now) (s .args .lcb .now)) (view (s .args .lv .now) (s .args .lvb .now)))) (matrix (compressed (view (s .args .us .now) (s .args .usb .now)) (view (s .args .uc .now) (s .args .ucb .now)) (view (s .args .uv .now) (s .args .uvb .now)))) (c .before .before .before .loop .i)) (c .before .before .before .loop .inv .same)
 
 loop-holds : tie.Need-loop-holds Inv-loop μ-loop
 loop-holds c = scanning-starts _ _ _

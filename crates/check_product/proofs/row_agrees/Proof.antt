@@ -17,7 +17,7 @@ use Rattle.check_product.proofs.row_agrees.Statement.{statement}
 use Rattle.check_product.proofs.row_agrees.Tie as tie
 
 abbrev A : tie.Start → Compressed
-A s = viewed (s .args .ss .now) (s .args .sb .now) (s .args .cols .now) (s .args .cb .now) (s .args .vals .now) (s .args .vb .now)
+A s = viewed (s .args .starts .now) (s .args .sb .now) (s .args .cols .now) (s .args .cb .now) (s .args .vals .now) (s .args .vb .now)
 
 abbrev L : tie.Start → Compressed
 L s = viewed (s .args .ls .now) (s .args .lsb .now) (s .args .lc .now) (s .args .lcb .now) (s .args .lv .now) (s .args .lvb .now)

@@ -41,29 +41,29 @@ loop-holds : tie.Need-loop-holds Inv-loop μ-loop
 loop-holds c = let s = c .before .before .before .before .before .before .before .before .before .before .before .before in
     listing-starts _ _ _ _ _ _ _ _ _ _ _ (s .pre) (c .next-nonzero .ensures)
 
-cast-rows : tie.Need-cast-rows Inv-loop μ-loop
-cast-rows c = omega (arith, row-small c)
+cast-ro : tie.Need-cast-ro Inv-loop μ-loop
+cast-ro c = omega (arith, row-small c)
 
-mul-rows : tie.Need-mul-rows Inv-loop μ-loop
-mul-rows c = omega (arith, place-small c)
+mul-ro : tie.Need-mul-ro Inv-loop μ-loop
+mul-ro c = omega (arith, place-small c)
 
-slice-write-rows : tie.Need-slice-write-rows Inv-loop μ-loop
-slice-write-rows c = fits c .0
+slice-write-ro : tie.Need-slice-write-ro Inv-loop μ-loop
+slice-write-ro c = fits c .0
 
-mul-columns : tie.Need-mul-columns Inv-loop μ-loop
-mul-columns c = omega (arith, row-small c)
+mul-co : tie.Need-mul-co Inv-loop μ-loop
+mul-co c = omega (arith, row-small c)
 
-slice-read-columns : tie.Need-slice-read-columns Inv-loop μ-loop
-slice-read-columns c = row (c .before)
+slice-read-co : tie.Need-slice-read-co Inv-loop μ-loop
+slice-read-co c = row (c .before)
 
-sub-columns : tie.Need-sub-columns Inv-loop μ-loop
-sub-columns c = let i = c .before in omega (arith, listing-column _ _ _ _ _ _ _ _ _ _ _ _ (i .before .loop .inv) (i .loop-test .taken) .1)
+sub-co : tie.Need-sub-co Inv-loop μ-loop
+sub-co c = let i = c .before in omega (arith, listing-column _ _ _ _ _ _ _ _ _ _ _ _ (i .before .loop .inv) (i .loop-test .taken) .1)
 
-mul-columns-2 : tie.Need-mul-columns-2 Inv-loop μ-loop
-mul-columns-2 c = omega (arith, place-small (c .before))
+mul-co-2 : tie.Need-mul-co-2 Inv-loop μ-loop
+mul-co-2 c = omega (arith, place-small (c .before))
 
-slice-write-columns : tie.Need-slice-write-columns Inv-loop μ-loop
-slice-write-columns c = fits (c .before) .1
+slice-write-co : tie.Need-slice-write-co Inv-loop μ-loop
+slice-write-co c = fits (c .before) .1
 
 add-at : tie.Need-add-at Inv-loop μ-loop
 add-at c = omega (arith, place-small (c .before))
@@ -109,14 +109,14 @@ list-pairs-spec =
     μ-loop
     next-nonzero-requires
     loop-holds
-    cast-rows
-    mul-rows
-    slice-write-rows
-    mul-columns
-    slice-read-columns
-    sub-columns
-    mul-columns-2
-    slice-write-columns
+    cast-ro
+    mul-ro
+    slice-write-ro
+    mul-co
+    slice-read-co
+    sub-co
+    mul-co-2
+    slice-write-co
     add-at
     release-requires
     next-nonzero-requires-2

@@ -9,7 +9,7 @@ use Rattle.stages.proofs.factor_held.Statement.{statement}
 use Rattle.stages.proofs.factor_held.Tie as tie
 
 abbrev plan : tie.Start → Compressed
-plan s = compressed (s .args .starts .now) (s .args .columns .now) (s .args .values .now)
+plan s = compressed (s .args .starts .now) (s .args .cols .now) (s .args .vals .now)
 
 abbrev lower : tie.Start → Compressed
 lower s = compressed (s .args .ls .now) (s .args .lc .now) (s .args .lv .now)
@@ -42,13 +42,13 @@ slice-relend-prefix-factor : tie.Need-slice-relend-prefix-factor
 slice-relend-prefix-factor c = search needs
 
 slice-aggregate-factor-4 : tie.Need-slice-aggregate-factor-4
-slice-aggregate-factor-4 c = let s = c .before .before .before .before .before .before .before .before .before .before .before .before .before .before .before .before .before .before .before in sym (R-part (s .args .r) (plan s) (s .args .rows .now) (s .args .cols .now) (lower s) (upper s) (s .args .work .now) (s .pre))
+slice-aggregate-factor-4 c = let s = c .before .before .before .before .before .before .before .before .before .before .before .before .before .before .before .before .before .before .before in sym (R-part (s .args .r) (plan s) (s .args .ro .now) (s .args .co .now) (lower s) (upper s) (s .args .work .now) (s .pre))
 
 slice-relend-prefix-factor-2 : tie.Need-slice-relend-prefix-factor-2
 slice-relend-prefix-factor-2 c = search needs
 
 slice-aggregate-factor-5 : tie.Need-slice-aggregate-factor-5
-slice-aggregate-factor-5 c = let s = c .before .before .before .before .before .before .before .before .before .before .before .before .before .before .before .before .before .before .before .before in sym (C-part (s .args .r) (plan s) (s .args .rows .now) (s .args .cols .now) (lower s) (upper s) (s .args .work .now) (s .pre))
+slice-aggregate-factor-5 c = let s = c .before .before .before .before .before .before .before .before .before .before .before .before .before .before .before .before .before .before .before .before in sym (C-part (s .args .r) (plan s) (s .args .ro .now) (s .args .co .now) (lower s) (upper s) (s .args .work .now) (s .pre))
 
 add-factor-2 : tie.Need-add-factor-2
 add-factor-2 c = search needs
@@ -57,7 +57,7 @@ slice-relend-prefix-factor-3 : tie.Need-slice-relend-prefix-factor-3
 slice-relend-prefix-factor-3 c = search needs
 
 slice-aggregate-factor-6 : tie.Need-slice-aggregate-factor-6
-slice-aggregate-factor-6 c = let s = c .before .before .before .before .before .before .before .before .before .before .before .before .before .before .before .before .before .before .before .before .before in sym (L-part (s .args .r) (plan s) (s .args .rows .now) (s .args .cols .now) (lower s) (upper s) (s .args .work .now) (s .pre))
+slice-aggregate-factor-6 c = let s = c .before .before .before .before .before .before .before .before .before .before .before .before .before .before .before .before .before .before .before .before .before in sym (L-part (s .args .r) (plan s) (s .args .ro .now) (s .args .co .now) (lower s) (upper s) (s .args .work .now) (s .pre))
 
 add-factor-3 : tie.Need-add-factor-3
 add-factor-3 c = search needs
@@ -66,16 +66,16 @@ slice-relend-prefix-factor-4 : tie.Need-slice-relend-prefix-factor-4
 slice-relend-prefix-factor-4 c = search needs
 
 slice-aggregate-factor-7 : tie.Need-slice-aggregate-factor-7
-slice-aggregate-factor-7 c = let s = c .before .before .before .before .before .before .before .before .before .before .before .before .before .before .before .before .before .before .before .before .before .before .before .before in sym (U-part (s .args .r) (plan s) (s .args .rows .now) (s .args .cols .now) (lower s) (upper s) (s .args .work .now) (s .pre))
+slice-aggregate-factor-7 c = let s = c .before .before .before .before .before .before .before .before .before .before .before .before .before .before .before .before .before .before .before .before .before .before .before .before in sym (U-part (s .args .r) (plan s) (s .args .ro .now) (s .args .co .now) (lower s) (upper s) (s .args .work .now) (s .pre))
 
 factor-requires : tie.Need-factor-requires
 factor-requires c κs = search needs
 
 same-length : tie.Need-same-length
-same-length c = let s = c .before .before .before .before .before .before .before .before .before .before .before .before .before .before .before .before .before .before .before .before .before .before .before .before .before .before .before .before .before .before .before .before .before .before .before .before .before .before .before .before .before .before .before .before .before .before in let x = c .before .before .before .before .before .before .before .before .before .before .before .before .before .before .before .before .before .before .factor in back (s .args .r .n) (s .args .rows .now) (x .last .1 .1 .1 .1 .1 .1 .0) (x .kept .1 .1 .1 .1 .1 .1 .0)
+same-length c = let s = c .before .before .before .before .before .before .before .before .before .before .before .before .before .before .before .before .before .before .before .before .before .before .before .before .before .before .before .before .before .before .before .before .before .before .before .before .before .before .before .before .before .before .before .before .before .before in let x = c .before .before .before .before .before .before .before .before .before .before .before .before .before .before .before .before .before .before .factor in back (s .args .r .n) (s .args .ro .now) (x .last .1 .1 .1 .1 .1 .1 .0) (x .kept .1 .1 .1 .1 .1 .1 .0)
 
 same-length-2 : tie.Need-same-length-2
-same-length-2 c = let s = c .before .before .before .before .before .before .before .before .before .before .before .before .before .before .before .before .before .before .before .before .before .before .before .before .before .before .before .before .before .before .before .before .before .before .before .before .before .before .before .before .before .before .before .before .before .before in let x = c .before .before .before .before .before .before .before .before .before .before .before .before .before .before .before .before .before .before .factor in back (s .args .r .m) (s .args .cols .now) (x .last .1 .1 .1 .1 .1 .1 .1 .0) (x .kept .1 .1 .1 .1 .1 .1 .1 .0)
+same-length-2 c = let s = c .before .before .before .before .before .before .before .before .before .before .before .before .before .before .before .before .before .before .before .before .before .before .before .before .before .before .before .before .before .before .before .before .before .before .before .before .before .before .before .before .before .before .before .before .before .before in let x = c .before .before .before .before .before .before .before .before .before .before .before .before .before .before .before .before .before .before .factor in back (s .args .r .m) (s .args .co .now) (x .last .1 .1 .1 .1 .1 .1 .1 .0) (x .kept .1 .1 .1 .1 .1 .1 .1 .0)
 
 same-length-3 : tie.Need-same-length-3
 same-length-3 c = let s = c .before .before .before .before .before .before .before .before .before .before .before .before .before .before .before .before .before .before .before .before .before .before .before .before .before .before .before .before .before .before .before .before .before .before .before .before .before .before .before .before .before .before .before .before .before .before in let x = c .before .before .before .before .before .before .before .before .before .before .before .before .before .before .before .before .before .before .factor in back (s .args .r .n + 1) (s .args .ls .now) (x .last .1 .1 .1 .1 .1 .1 .1 .1 .0) (x .kept .1 .1 .1 .1 .1 .1 .1 .1 .0)
@@ -100,7 +100,7 @@ same-length-9 c = c .before .before .before .before .before .before .before .bef
 
 returns : tie.Need-returns
 returns c = let s = c .before .before .before .before .before .before .before .before .before .before .before .before .before .before .before .before .before .before .before .before .before .before .before .before .before .before .before .before .before .before .before .before .before .before .before .before .before .before .before .before .before .before .before .before .before .before in let x = c .before .before .before .before .before .before .before .before .before .before .before .before .before .before .before .before .before .before .factor in
-    lent-back (s .args .r) (plan s) (s .args .rows .now) (s .args .cols .now) (lower s) (upper s) (s .args .work .now) (s .pre) (x .result .number) (x .result .detail) (x .result .rank) (x .result .structural) (x .last .1 .1 .1 .1 .1 .1 .0) (x .last .1 .1 .1 .1 .1 .1 .1 .0) (compressed (x .last .1 .1 .1 .1 .1 .1 .1 .1 .0) (x .last .1 .1 .1 .1 .1 .1 .1 .1 .1 .0) (x .last .1 .1 .1 .1 .1 .1 .1 .1 .1 .1 .0)) (compressed (x .last .1 .1 .1 .1 .1 .1 .1 .1 .1 .1 .1 .0) (x .last .1 .1 .1 .1 .1 .1 .1 .1 .1 .1 .1 .1 .0) (x .last .1 .1 .1 .1 .1 .1 .1 .1 .1 .1 .1 .1 .1 .0)) (x .last .1 .1 .1 .1 .1 .1 .1 .1 .1 .1 .1 .1 .1 .1 .0) (x .kept .1 .1 .1 .1 .1 .1 .0) (x .kept .1 .1 .1 .1 .1 .1 .1 .0) (x .kept .1 .1 .1 .1 .1 .1 .1 .1 .0) (x .kept .1 .1 .1 .1 .1 .1 .1 .1 .1 .1 .1 .0) (x .ensures)
+    lent-back (s .args .r) (plan s) (s .args .ro .now) (s .args .co .now) (lower s) (upper s) (s .args .work .now) (s .pre) (x .result .number) (x .result .detail) (x .result .rank) (x .result .structural) (x .last .1 .1 .1 .1 .1 .1 .0) (x .last .1 .1 .1 .1 .1 .1 .1 .0) (compressed (x .last .1 .1 .1 .1 .1 .1 .1 .1 .0) (x .last .1 .1 .1 .1 .1 .1 .1 .1 .1 .0) (x .last .1 .1 .1 .1 .1 .1 .1 .1 .1 .1 .0)) (compressed (x .last .1 .1 .1 .1 .1 .1 .1 .1 .1 .1 .1 .0) (x .last .1 .1 .1 .1 .1 .1 .1 .1 .1 .1 .1 .1 .0) (x .last .1 .1 .1 .1 .1 .1 .1 .1 .1 .1 .1 .1 .1 .0)) (x .last .1 .1 .1 .1 .1 .1 .1 .1 .1 .1 .1 .1 .1 .1 .0) (x .kept .1 .1 .1 .1 .1 .1 .0) (x .kept .1 .1 .1 .1 .1 .1 .1 .0) (x .kept .1 .1 .1 .1 .1 .1 .1 .1 .0) (x .kept .1 .1 .1 .1 .1 .1 .1 .1 .1 .1 .1 .0) (x .ensures)
 
 pub factor-held-spec : {M : Type 1} → statement M
 factor-held-spec =

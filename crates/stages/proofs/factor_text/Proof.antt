@@ -24,10 +24,10 @@ same-length-4 : tie.Need-same-length-4
 same-length-4 c = c .before .before .clear-row .kept .0
 
 returns : tie.Need-returns
-returns c = let s = c .before .before .before .before .before .before .before .before .before .before .before .before .before .before .before .before .before .before .before .before .before .before .before .before .before .before .before .before .before in let x = c .before .before .before .before .before .before .before .before .before .before .before .before .read in read-refused (s .args .text .now) (compressed (s .args .starts .now) (s .args .columns .now) (s .args .values .now)) (compressed (x .last .1 .0) (x .last .1 .1 .0) (x .last .1 .1 .1 .0)) (s .args .rows .now) (s .args .cols .now) (compressed (s .args .ls .now) (s .args .lc .now) (s .args .lv .now)) (compressed (s .args .us .now) (s .args .uc .now) (s .args .uv .now)) (s .args .work .now) (s .pre) (x .result) (x .ensures) _ _ _ _ (compressed _ _ _) (compressed _ _ _) _ _ (c .before .before .before .before .if1 .taken) (c .before .before .clear-row .ensures)
+returns c = let s = c .before .before .before .before .before .before .before .before .before .before .before .before .before .before .before .before .before .before .before .before .before .before .before .before .before .before .before .before .before in let x = c .before .before .before .before .before .before .before .before .before .before .before .before .read in read-refused (s .args .text .now) (compressed (s .args .starts .now) (s .args .cols .now) (s .args .vals .now)) (compressed (x .last .1 .0) (x .last .1 .1 .0) (x .last .1 .1 .1 .0)) (s .args .ro .now) (s .args .co .now) (compressed (s .args .ls .now) (s .args .lc .now) (s .args .lv .now)) (compressed (s .args .us .now) (s .args .uc .now) (s .args .uv .now)) (s .args .work .now) (s .pre) (x .result) (x .ensures) _ _ _ _ (compressed _ _ _) (compressed _ _ _) _ _ (c .before .before .before .before .if1 .taken) (c .before .before .clear-row .ensures)
 
 factor-held-requires : tie.Need-factor-held-requires
-factor-held-requires c κs = let s = c .before .before .before .before .before .before .before .before .before .before .before .before .before .before .before .before .before .before .before .before .before .before .before .before .before .before .before .before .before .before .before .before .before .before .before .before .before in let x = c .before .before .before .before .before .before .before .before .before .before .before .before .before .before .before .before .before .before .before .before .read in lendable (s .args .text .now) (compressed (s .args .starts .now) (s .args .columns .now) (s .args .values .now)) (compressed (x .last .1 .0) (x .last .1 .1 .0) (x .last .1 .1 .1 .0)) (s .args .rows .now) (s .args .cols .now) (compressed (s .args .ls .now) (s .args .lc .now) (s .args .lv .now)) (compressed (s .args .us .now) (s .args .uc .now) (s .args .uv .now)) (s .args .work .now) (s .pre) (x .result) (x .ensures) (x .kept .1 .0) (x .kept .1 .1 .0) (x .kept .1 .1 .1 .0)
+factor-held-requires c κs = let s = c .before .before .before .before .before .before .before .before .before .before .before .before .before .before .before .before .before .before .before .before .before .before .before .before .before .before .before .before .before .before .before .before .before .before .before .before .before in let x = c .before .before .before .before .before .before .before .before .before .before .before .before .before .before .before .before .before .before .before .before .read in lendable (s .args .text .now) (compressed (s .args .starts .now) (s .args .cols .now) (s .args .vals .now)) (compressed (x .last .1 .0) (x .last .1 .1 .0) (x .last .1 .1 .1 .0)) (s .args .ro .now) (s .args .co .now) (compressed (s .args .ls .now) (s .args .lc .now) (s .args .lv .now)) (compressed (s .args .us .now) (s .args .uc .now) (s .args .uv .now)) (s .args .work .now) (s .pre) (x .result) (x .ensures) (x .kept .1 .0) (x .kept .1 .1 .0) (x .kept .1 .1 .1 .0)
 
 cast-lower : tie.Need-cast-lower
 cast-lower c = search needs
@@ -36,7 +36,7 @@ mul-lower : tie.Need-mul-lower
 mul-lower c = search needs
 
 slice-read-lower : tie.Need-slice-read-lower
-slice-read-lower c = let s = c .before .before .before .before .before .before .before .before .before .before .before .before .before .before .before .before .before .before .before .before .before .before .before .before .before .before .before .before .before .before .before .before .before .before .before .before .before .before .before .before .before .before .before .before .before .before .before .before .before .before .before .before .before .before .before .before .before .before in let x = c .before .before .before .before .before .before .before .before .before .before .before .before .before .before .before .before .before .before .before .before .before .before .before .before .before .before .before .before .before .before .before .before .before .before .before .before .before .before .before .before .before .read in let y = c .before .before .before .before .before .before .before .before .before .before .before .before .before .before .before .before .before .before .before .before .factor-held in lower-inside (s .args .text .now) (compressed (s .args .starts .now) (s .args .columns .now) (s .args .values .now)) (compressed (x .last .1 .0) (x .last .1 .1 .0) (x .last .1 .1 .1 .0)) (s .args .rows .now) (s .args .cols .now) (compressed (s .args .ls .now) (s .args .lc .now) (s .args .lv .now)) (compressed (s .args .us .now) (s .args .uc .now) (s .args .uv .now)) (s .args .work .now) (s .pre) (x .result) (x .ensures) (x .kept .1 .0) (x .kept .1 .1 .0) (x .kept .1 .1 .1 .0) (y .result) (y .last .1 .1 .1 .1 .0) (y .last .1 .1 .1 .1 .1 .0) (compressed (y .last .1 .1 .1 .1 .1 .1 .0) (y .last .1 .1 .1 .1 .1 .1 .1 .0) (y .last .1 .1 .1 .1 .1 .1 .1 .1 .0)) (compressed (y .last .1 .1 .1 .1 .1 .1 .1 .1 .1 .0) (y .last .1 .1 .1 .1 .1 .1 .1 .1 .1 .1 .0) (y .last .1 .1 .1 .1 .1 .1 .1 .1 .1 .1 .1 .0)) (y .last .1 .1 .1 .1 .1 .1 .1 .1 .1 .1 .1 .1 .0) (record { rows = y .kept .1 .1 .1 .1 .0; columns = y .kept .1 .1 .1 .1 .1 .0; lstarts = y .kept .1 .1 .1 .1 .1 .1 .0; lcols = y .kept .1 .1 .1 .1 .1 .1 .1 .0; lvals = y .kept .1 .1 .1 .1 .1 .1 .1 .1 .0; ustarts = y .kept .1 .1 .1 .1 .1 .1 .1 .1 .1 .0; ucols = y .kept .1 .1 .1 .1 .1 .1 .1 .1 .1 .1 .0; uvals = y .kept .1 .1 .1 .1 .1 .1 .1 .1 .1 .1 .1 .0; work = y .kept .1 .1 .1 .1 .1 .1 .1 .1 .1 .1 .1 .1 .0 }) (y .ensures)
+slice-read-lower c = let s = c .before .before .before .before .before .before .before .before .before .before .before .before .before .before .before .before .before .before .before .before .before .before .before .before .before .before .before .before .before .before .before .before .before .before .before .before .before .before .before .before .before .before .before .before .before .before .before .before .before .before .before .before .before .before .before .before .before .before in let x = c .before .before .before .before .before .before .before .before .before .before .before .before .before .before .before .before .before .before .before .before .before .before .before .before .before .before .before .before .before .before .before .before .before .before .before .before .before .before .before .before .before .read in let y = c .before .before .before .before .before .before .before .before .before .before .before .before .before .before .before .before .before .before .before .before .factor-held in lower-inside (s .args .text .now) (compressed (s .args .starts .now) (s .args .cols .now) (s .args .vals .now)) (compressed (x .last .1 .0) (x .last .1 .1 .0) (x .last .1 .1 .1 .0)) (s .args .ro .now) (s .args .co .now) (compressed (s .args .ls .now) (s .args .lc .now) (s .args .lv .now)) (compressed (s .args .us .now) (s .args .uc .now) (s .args .uv .now)) (s .args .work .now) (s .pre) (x .result) (x .ensures) (x .kept .1 .0) (x .kept .1 .1 .0) (x .kept .1 .1 .1 .0) (y .result) (y .last .1 .1 .1 .1 .0) (y .last .1 .1 .1 .1 .1 .0) (compressed (y .last .1 .1 .1 .1 .1 .1 .0) (y .last .1 .1 .1 .1 .1 .1 .1 .0) (y .last .1 .1 .1 .1 .1 .1 .1 .1 .0)) (compressed (y .last .1 .1 .1 .1 .1 .1 .1 .1 .1 .0) (y .last .1 .1 .1 .1 .1 .1 .1 .1 .1 .1 .0) (y .last .1 .1 .1 .1 .1 .1 .1 .1 .1 .1 .1 .0)) (y .last .1 .1 .1 .1 .1 .1 .1 .1 .1 .1 .1 .1 .0) (record { rows = y .kept .1 .1 .1 .1 .0; columns = y .kept .1 .1 .1 .1 .1 .0; ls = y .kept .1 .1 .1 .1 .1 .1 .0; lc = y .kept .1 .1 .1 .1 .1 .1 .1 .0; lv = y .kept .1 .1 .1 .1 .1 .1 .1 .1 .0; us = y .kept .1 .1 .1 .1 .1 .1 .1 .1 .1 .0; uc = y .kept .1 .1 .1 .1 .1 .1 .1 .1 .1 .1 .0; uv = y .kept .1 .1 .1 .1 .1 .1 .1 .1 .1 .1 .1 .0; work = y .kept .1 .1 .1 .1 .1 .1 .1 .1 .1 .1 .1 .1 .0 }) (y .ensures)
 
 cast-upper : tie.Need-cast-upper
 cast-upper c = search needs
@@ -45,7 +45,7 @@ mul-upper : tie.Need-mul-upper
 mul-upper c = search needs
 
 slice-read-upper : tie.Need-slice-read-upper
-slice-read-upper c = let s = c .before .before .before .before .before .before .before .before .before .before .before .before .before .before .before .before .before .before .before .before .before .before .before .before .before .before .before .before .before .before .before .before .before .before .before .before .before .before .before .before .before .before .before .before .before .before .before .before .before .before .before .before .before .before .before .before .before .before .before .before in let x = c .before .before .before .before .before .before .before .before .before .before .before .before .before .before .before .before .before .before .before .before .before .before .before .before .before .before .before .before .before .before .before .before .before .before .before .before .before .before .before .before .before .before .before .read in let y = c .before .before .before .before .before .before .before .before .before .before .before .before .before .before .before .before .before .before .before .before .before .before .factor-held in upper-inside (s .args .text .now) (compressed (s .args .starts .now) (s .args .columns .now) (s .args .values .now)) (compressed (x .last .1 .0) (x .last .1 .1 .0) (x .last .1 .1 .1 .0)) (s .args .rows .now) (s .args .cols .now) (compressed (s .args .ls .now) (s .args .lc .now) (s .args .lv .now)) (compressed (s .args .us .now) (s .args .uc .now) (s .args .uv .now)) (s .args .work .now) (s .pre) (x .result) (x .ensures) (x .kept .1 .0) (x .kept .1 .1 .0) (x .kept .1 .1 .1 .0) (y .result) (y .last .1 .1 .1 .1 .0) (y .last .1 .1 .1 .1 .1 .0) (compressed (y .last .1 .1 .1 .1 .1 .1 .0) (y .last .1 .1 .1 .1 .1 .1 .1 .0) (y .last .1 .1 .1 .1 .1 .1 .1 .1 .0)) (compressed (y .last .1 .1 .1 .1 .1 .1 .1 .1 .1 .0) (y .last .1 .1 .1 .1 .1 .1 .1 .1 .1 .1 .0) (y .last .1 .1 .1 .1 .1 .1 .1 .1 .1 .1 .1 .0)) (y .last .1 .1 .1 .1 .1 .1 .1 .1 .1 .1 .1 .1 .0) (record { rows = y .kept .1 .1 .1 .1 .0; columns = y .kept .1 .1 .1 .1 .1 .0; lstarts = y .kept .1 .1 .1 .1 .1 .1 .0; lcols = y .kept .1 .1 .1 .1 .1 .1 .1 .0; lvals = y .kept .1 .1 .1 .1 .1 .1 .1 .1 .0; ustarts = y .kept .1 .1 .1 .1 .1 .1 .1 .1 .1 .0; ucols = y .kept .1 .1 .1 .1 .1 .1 .1 .1 .1 .1 .0; uvals = y .kept .1 .1 .1 .1 .1 .1 .1 .1 .1 .1 .1 .0; work = y .kept .1 .1 .1 .1 .1 .1 .1 .1 .1 .1 .1 .1 .0 }) (y .ensures)
+slice-read-upper c = let s = c .before .before .before .before .before .before .before .before .before .before .before .before .before .before .before .before .before .before .before .before .before .before .before .before .before .before .before .before .before .before .before .before .before .before .before .before .before .before .before .before .before .before .before .before .before .before .before .before .before .before .before .before .before .before .before .before .before .before .before .before in let x = c .before .before .before .before .before .before .before .before .before .before .before .before .before .before .before .before .before .before .before .before .before .before .before .before .before .before .before .before .before .before .before .before .before .before .before .before .before .before .before .before .before .before .before .read in let y = c .before .before .before .before .before .before .before .before .before .before .before .before .before .before .before .before .before .before .before .before .before .before .factor-held in upper-inside (s .args .text .now) (compressed (s .args .starts .now) (s .args .cols .now) (s .args .vals .now)) (compressed (x .last .1 .0) (x .last .1 .1 .0) (x .last .1 .1 .1 .0)) (s .args .ro .now) (s .args .co .now) (compressed (s .args .ls .now) (s .args .lc .now) (s .args .lv .now)) (compressed (s .args .us .now) (s .args .uc .now) (s .args .uv .now)) (s .args .work .now) (s .pre) (x .result) (x .ensures) (x .kept .1 .0) (x .kept .1 .1 .0) (x .kept .1 .1 .1 .0) (y .result) (y .last .1 .1 .1 .1 .0) (y .last .1 .1 .1 .1 .1 .0) (compressed (y .last .1 .1 .1 .1 .1 .1 .0) (y .last .1 .1 .1 .1 .1 .1 .1 .0) (y .last .1 .1 .1 .1 .1 .1 .1 .1 .0)) (compressed (y .last .1 .1 .1 .1 .1 .1 .1 .1 .1 .0) (y .last .1 .1 .1 .1 .1 .1 .1 .1 .1 .1 .0) (y .last .1 .1 .1 .1 .1 .1 .1 .1 .1 .1 .1 .0)) (y .last .1 .1 .1 .1 .1 .1 .1 .1 .1 .1 .1 .1 .0) (record { rows = y .kept .1 .1 .1 .1 .0; columns = y .kept .1 .1 .1 .1 .1 .0; ls = y .kept .1 .1 .1 .1 .1 .1 .0; lc = y .kept .1 .1 .1 .1 .1 .1 .1 .0; lv = y .kept .1 .1 .1 .1 .1 .1 .1 .1 .0; us = y .kept .1 .1 .1 .1 .1 .1 .1 .1 .1 .0; uc = y .kept .1 .1 .1 .1 .1 .1 .1 .1 .1 .1 .0; uv = y .kept .1 .1 .1 .1 .1 .1 .1 .1 .1 .1 .1 .0; work = y .kept .1 .1 .1 .1 .1 .1 .1 .1 .1 .1 .1 .1 .0 }) (y .ensures)
 
 same-length-5 : tie.Need-same-length-5
 same-length-5 c = c .before .before .before .before .before .before .before .before .before .before .before .before .before .before .before .before .before .before .before .before .before .before .before .before .before .before .before .before .before .before .before .before .before .before .before .before .before .before .before .before .before .before .before .read .kept .1 .0
@@ -84,7 +84,7 @@ same-length-16 : tie.Need-same-length-16
 same-length-16 c = c .before .before .before .before .before .before .before .before .before .before .before .before .before .before .before .before .before .before .before .before .before .before .factor-held .kept .1 .1 .1 .1 .1 .1 .1 .1 .1 .1 .1 .1 .0
 
 returns-2 : tie.Need-returns-2
-returns-2 c = let s = c .before .before .before .before .before .before .before .before .before .before .before .before .before .before .before .before .before .before .before .before .before .before .before .before .before .before .before .before .before .before .before .before .before .before .before .before .before .before .before .before .before .before .before .before .before .before .before .before .before .before .before .before .before .before .before .before .before .before .before .before in let x = c .before .before .before .before .before .before .before .before .before .before .before .before .before .before .before .before .before .before .before .before .before .before .before .before .before .before .before .before .before .before .before .before .before .before .before .before .before .before .before .before .before .before .before .read in let y = c .before .before .before .before .before .before .before .before .before .before .before .before .before .before .before .before .before .before .before .before .before .before .factor-held in staged (s .args .text .now) (compressed (s .args .starts .now) (s .args .columns .now) (s .args .values .now)) (compressed (x .last .1 .0) (x .last .1 .1 .0) (x .last .1 .1 .1 .0)) (s .args .rows .now) (s .args .cols .now) (compressed (s .args .ls .now) (s .args .lc .now) (s .args .lv .now)) (compressed (s .args .us .now) (s .args .uc .now) (s .args .uv .now)) (s .args .work .now) (s .pre) (x .result) (x .ensures) (x .kept .1 .0) (x .kept .1 .1 .0) (x .kept .1 .1 .1 .0) (y .result) (y .last .1 .1 .1 .1 .0) (y .last .1 .1 .1 .1 .1 .0) (compressed (y .last .1 .1 .1 .1 .1 .1 .0) (y .last .1 .1 .1 .1 .1 .1 .1 .0) (y .last .1 .1 .1 .1 .1 .1 .1 .1 .0)) (compressed (y .last .1 .1 .1 .1 .1 .1 .1 .1 .1 .0) (y .last .1 .1 .1 .1 .1 .1 .1 .1 .1 .1 .0) (y .last .1 .1 .1 .1 .1 .1 .1 .1 .1 .1 .1 .0)) (y .last .1 .1 .1 .1 .1 .1 .1 .1 .1 .1 .1 .1 .0) (record { rows = y .kept .1 .1 .1 .1 .0; columns = y .kept .1 .1 .1 .1 .1 .0; lstarts = y .kept .1 .1 .1 .1 .1 .1 .0; lcols = y .kept .1 .1 .1 .1 .1 .1 .1 .0; lvals = y .kept .1 .1 .1 .1 .1 .1 .1 .1 .0; ustarts = y .kept .1 .1 .1 .1 .1 .1 .1 .1 .1 .0; ucols = y .kept .1 .1 .1 .1 .1 .1 .1 .1 .1 .1 .0; uvals = y .kept .1 .1 .1 .1 .1 .1 .1 .1 .1 .1 .1 .0; work = y .kept .1 .1 .1 .1 .1 .1 .1 .1 .1 .1 .1 .1 .0 }) (y .ensures)
+returns-2 c = let s = c .before .before .before .before .before .before .before .before .before .before .before .before .before .before .before .before .before .before .before .before .before .before .before .before .before .before .before .before .before .before .before .before .before .before .before .before .before .before .before .before .before .before .before .before .before .before .before .before .before .before .before .before .before .before .before .before .before .before .before .before in let x = c .before .before .before .before .before .before .before .before .before .before .before .before .before .before .before .before .before .before .before .before .before .before .before .before .before .before .before .before .before .before .before .before .before .before .before .before .before .before .before .before .before .before .before .read in let y = c .before .before .before .before .before .before .before .before .before .before .before .before .before .before .before .before .before .before .before .before .before .before .factor-held in staged (s .args .text .now) (compressed (s .args .starts .now) (s .args .cols .now) (s .args .vals .now)) (compressed (x .last .1 .0) (x .last .1 .1 .0) (x .last .1 .1 .1 .0)) (s .args .ro .now) (s .args .co .now) (compressed (s .args .ls .now) (s .args .lc .now) (s .args .lv .now)) (compressed (s .args .us .now) (s .args .uc .now) (s .args .uv .now)) (s .args .work .now) (s .pre) (x .result) (x .ensures) (x .kept .1 .0) (x .kept .1 .1 .0) (x .kept .1 .1 .1 .0) (y .result) (y .last .1 .1 .1 .1 .0) (y .last .1 .1 .1 .1 .1 .0) (compressed (y .last .1 .1 .1 .1 .1 .1 .0) (y .last .1 .1 .1 .1 .1 .1 .1 .0) (y .last .1 .1 .1 .1 .1 .1 .1 .1 .0)) (compressed (y .last .1 .1 .1 .1 .1 .1 .1 .1 .1 .0) (y .last .1 .1 .1 .1 .1 .1 .1 .1 .1 .1 .0) (y .last .1 .1 .1 .1 .1 .1 .1 .1 .1 .1 .1 .0)) (y .last .1 .1 .1 .1 .1 .1 .1 .1 .1 .1 .1 .1 .0) (record { rows = y .kept .1 .1 .1 .1 .0; columns = y .kept .1 .1 .1 .1 .1 .0; ls = y .kept .1 .1 .1 .1 .1 .1 .0; lc = y .kept .1 .1 .1 .1 .1 .1 .1 .0; lv = y .kept .1 .1 .1 .1 .1 .1 .1 .1 .0; us = y .kept .1 .1 .1 .1 .1 .1 .1 .1 .1 .0; uc = y .kept .1 .1 .1 .1 .1 .1 .1 .1 .1 .1 .0; uv = y .kept .1 .1 .1 .1 .1 .1 .1 .1 .1 .1 .1 .0; work = y .kept .1 .1 .1 .1 .1 .1 .1 .1 .1 .1 .1 .1 .0 }) (y .ensures)
 
 pub factor-text-spec : {M : Type 1} → statement M
 factor-text-spec =

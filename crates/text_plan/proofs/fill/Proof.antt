@@ -28,7 +28,7 @@ abbrev sizes : tie.After-read-lines → Sizes
 sizes c = c .before .before .before .before .before .s .given .0 .0
 
 abbrev room : tie.After-read-lines → ℕ
-room c = length (now (c .before .before .before .before .before .before .before .before .before .before .before .before .args .columns))
+room c = length (now (c .before .before .before .before .before .before .before .before .before .before .before .before .args .cols))
 
 abbrev third : tie.After-read-lines → Place
 third c = c .before .before .before .before .before .s .given .0 .1 .0
@@ -90,7 +90,7 @@ extend-starts-requires c κs =
 returns : tie.Need-returns
 returns c =
     let s = c .before .before .before .before .before .before .before .before .before in
-    let r = length (now (s .args .columns)) in
+    let r = length (now (s .args .cols)) in
     let o = c .before .before .before .before .open .ensures .0 fresh r ∙ ap (afterOpen fresh r (now (s .args .text))) (c .before .before .number .given .1) in
     gives-refusal r _ _ _ _ _ _ _ o (c .refusal .ensures) (s .pre .starts-zero) (s .pre .columns-zero) (s .pre .values-zero)
 

@@ -12,7 +12,7 @@ use Rattle.text_plan.proofs.read.Statement.{statement}
 use Rattle.text_plan.proofs.read.Tie as tie
 
 -- clearing keeps each length
-kept : (k : tie.After-slice-known6) → (length (k .before .before .before .before .before .before .before .before .before .before .clear .last .0) ≡ length (now (k .before .before .before .before .before .before .before .before .before .before .before .before .before .before .before .before .args .starts))) × (length (k .before .before .before .before .before .before .clear2 .last .0) ≡ length (now (k .before .before .before .before .before .before .before .before .before .before .before .before .before .before .before .before .args .columns))) × (length (k .before .before .clear3 .last .0) ≡ length (now (k .before .before .before .before .before .before .before .before .before .before .before .before .before .before .before .before .args .values)))
+kept : (k : tie.After-slice-known6) → (length (k .before .before .before .before .before .before .before .before .before .before .clear .last .0) ≡ length (now (k .before .before .before .before .before .before .before .before .before .before .before .before .before .before .before .before .args .starts))) × (length (k .before .before .before .before .before .before .clear2 .last .0) ≡ length (now (k .before .before .before .before .before .before .before .before .before .before .before .before .before .before .before .before .args .cols))) × (length (k .before .before .clear3 .last .0) ≡ length (now (k .before .before .before .before .before .before .before .before .before .before .before .before .before .before .before .before .args .vals)))
 kept k = (k .before .before .before .before .before .before .before .before .before .before .clear .kept .0, k .before .before .before .before .before .before .clear2 .kept .0, k .before .before .clear3 .kept .0)
 
 clear-requires : tie.Need-clear-requires

@@ -46,7 +46,7 @@ clear-requires-3 : tie.Need-clear-requires-3
 clear-requires-3 c κs = search needs
 
 -- the columns keep their length, from the start until they are read into once more
-columns-long : (c : tie.After-read-any-order-arg3) → length (c .before .before .before .before .before .before .before .before .before .clear2 .last .0) ≡ length (now (c .before .before .before .before .before .before .before .before .before .before .before .before .before .before .before .before .before .before .before .before .before .before .before .before .before .before .before .before .before .before .before .before .before .args .columns))
+columns-long : (c : tie.After-read-any-order-arg3) → length (c .before .before .before .before .before .before .before .before .before .clear2 .last .0) ≡ length (now (c .before .before .before .before .before .before .before .before .before .before .before .before .before .before .before .before .before .before .before .before .before .before .before .before .before .before .before .before .before .before .before .before .before .args .cols))
 columns-long c = c .before .before .before .before .before .before .before .before .before .clear2 .kept .0 ∙ c .before .before .before .before .before .before .before .before .before .before .before .before .before .before .before .before .before .before .before .before .before .before .before .before .before .read-triples .kept .1 .1 .1 .1 .0
 
 read-any-order-requires : tie.Need-read-any-order-requires

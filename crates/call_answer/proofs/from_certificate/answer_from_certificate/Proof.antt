@@ -15,7 +15,7 @@ use Rattle.call_answer.proofs.from_certificate.answer_from_certificate.
 use Rattle.call_answer.proofs.from_certificate.answer_from_certificate.Tie as tie
 
 abbrev plan : tie.Start → Compressed
-plan s = compressed (s .args .ss .now) (s .args .cols .now) (s .args .vals .now)
+plan s = compressed (s .args .starts .now) (s .args .cols .now) (s .args .vals .now)
 
 abbrev set : tie.Start → Set
 set s = setOfCertificate (s .args .n) (s .args .m) (s .args .cert .now)

@@ -19,9 +19,9 @@ start c = c .before .before .before .before .before .before .before
 
 -- the parts mean the set that the certificate holds
 meant : (c : tie.After-number) → let s = start c in let q = c .before .places-in .result in let cert = s .args .cert .now in
-    setOf (c .number .result) (view [] (part cert (q .rows) (q .cols))) (view [] (part cert (q .cols) (q .lstarts)))
-    (viewed [] (part cert (q .lstarts) (q .lcols)) [] (part cert (q .lcols) (q .lvals)) [] (part cert (q .lvals) (q .ustarts)))
-    (viewed [] (part cert (q .ustarts) (q .ucols)) [] (part cert (q .ucols) (q .uvals)) [] (part cert (q .uvals) (q .end)))
+    setOf (c .number .result) (view [] (part cert (q .ro) (q .co))) (view [] (part cert (q .co) (q .ls)))
+    (viewed [] (part cert (q .ls) (q .lc)) [] (part cert (q .lc) (q .lv)) [] (part cert (q .lv) (q .us)))
+    (viewed [] (part cert (q .us) (q .uc)) [] (part cert (q .uc) (q .uv)) [] (part cert (q .uv) (q .end)))
     ≡ setOfCertificate (s .args .n) (s .args .m) cert
 meant c = let s = start c in
     set-of-parts (s .args .n) (s .args .m) (s .args .cert .now) (c .before .places-in .result) (c .before .places-in .ensures .is) (c .number .result) (c .number .ensures)
@@ -36,73 +36,73 @@ slice-aggregate-none : tie.Need-slice-aggregate-none
 slice-aggregate-none c = search needs
 
 sub-answer : tie.Need-sub-answer
-sub-answer c = c .before .before .places-in .ensures .rows
+sub-answer c = c .before .before .places-in .ensures .ro
 
 part-answer-start : tie.Need-part-answer-start
-part-answer-start c = c .before .before .places-in .ensures .rows
+part-answer-start c = c .before .before .places-in .ensures .ro
 
 part-answer-end : tie.Need-part-answer-end
-part-answer-end c = let q = c .before .before .places-in .ensures in omega (arith, q .cols, q .lstarts, q .lcols, q .lvals, q .ustarts, q .ucols, q .uvals, q .end)
+part-answer-end c = let q = c .before .before .places-in .ensures in omega (arith, q .co, q .ls, q .lc, q .lv, q .us, q .uc, q .uv, q .end)
 
 sub-answer-2 : tie.Need-sub-answer-2
-sub-answer-2 c = c .before .before .before .places-in .ensures .cols
+sub-answer-2 c = c .before .before .before .places-in .ensures .co
 
 part-answer-start-2 : tie.Need-part-answer-start-2
-part-answer-start-2 c = c .before .before .before .places-in .ensures .cols
+part-answer-start-2 c = c .before .before .before .places-in .ensures .co
 
 part-answer-end-2 : tie.Need-part-answer-end-2
-part-answer-end-2 c = let q = c .before .before .before .places-in .ensures in omega (arith, q .lstarts, q .lcols, q .lvals, q .ustarts, q .ucols, q .uvals, q .end)
+part-answer-end-2 c = let q = c .before .before .before .places-in .ensures in omega (arith, q .ls, q .lc, q .lv, q .us, q .uc, q .uv, q .end)
 
 sub-answer-3 : tie.Need-sub-answer-3
-sub-answer-3 c = c .before .before .before .before .places-in .ensures .lstarts
+sub-answer-3 c = c .before .before .before .before .places-in .ensures .ls
 
 part-answer-start-3 : tie.Need-part-answer-start-3
-part-answer-start-3 c = c .before .before .before .before .places-in .ensures .lstarts
+part-answer-start-3 c = c .before .before .before .before .places-in .ensures .ls
 
 part-answer-end-3 : tie.Need-part-answer-end-3
-part-answer-end-3 c = let q = c .before .before .before .before .places-in .ensures in omega (arith, q .lcols, q .lvals, q .ustarts, q .ucols, q .uvals, q .end)
+part-answer-end-3 c = let q = c .before .before .before .before .places-in .ensures in omega (arith, q .lc, q .lv, q .us, q .uc, q .uv, q .end)
 
 sub-answer-4 : tie.Need-sub-answer-4
-sub-answer-4 c = c .before .before .before .before .before .places-in .ensures .lcols
+sub-answer-4 c = c .before .before .before .before .before .places-in .ensures .lc
 
 part-answer-start-4 : tie.Need-part-answer-start-4
-part-answer-start-4 c = c .before .before .before .before .before .places-in .ensures .lcols
+part-answer-start-4 c = c .before .before .before .before .before .places-in .ensures .lc
 
 part-answer-end-4 : tie.Need-part-answer-end-4
-part-answer-end-4 c = let q = c .before .before .before .before .before .places-in .ensures in omega (arith, q .lvals, q .ustarts, q .ucols, q .uvals, q .end)
+part-answer-end-4 c = let q = c .before .before .before .before .before .places-in .ensures in omega (arith, q .lv, q .us, q .uc, q .uv, q .end)
 
 sub-answer-5 : tie.Need-sub-answer-5
-sub-answer-5 c = c .before .before .before .before .before .before .places-in .ensures .lvals
+sub-answer-5 c = c .before .before .before .before .before .before .places-in .ensures .lv
 
 part-answer-start-5 : tie.Need-part-answer-start-5
-part-answer-start-5 c = c .before .before .before .before .before .before .places-in .ensures .lvals
+part-answer-start-5 c = c .before .before .before .before .before .before .places-in .ensures .lv
 
 part-answer-end-5 : tie.Need-part-answer-end-5
-part-answer-end-5 c = let q = c .before .before .before .before .before .before .places-in .ensures in omega (arith, q .ustarts, q .ucols, q .uvals, q .end)
+part-answer-end-5 c = let q = c .before .before .before .before .before .before .places-in .ensures in omega (arith, q .us, q .uc, q .uv, q .end)
 
 sub-answer-6 : tie.Need-sub-answer-6
-sub-answer-6 c = c .before .before .before .before .before .before .before .places-in .ensures .ustarts
+sub-answer-6 c = c .before .before .before .before .before .before .before .places-in .ensures .us
 
 part-answer-start-6 : tie.Need-part-answer-start-6
-part-answer-start-6 c = c .before .before .before .before .before .before .before .places-in .ensures .ustarts
+part-answer-start-6 c = c .before .before .before .before .before .before .before .places-in .ensures .us
 
 part-answer-end-6 : tie.Need-part-answer-end-6
-part-answer-end-6 c = let q = c .before .before .before .before .before .before .before .places-in .ensures in omega (arith, q .ucols, q .uvals, q .end)
+part-answer-end-6 c = let q = c .before .before .before .before .before .before .before .places-in .ensures in omega (arith, q .uc, q .uv, q .end)
 
 sub-answer-7 : tie.Need-sub-answer-7
-sub-answer-7 c = c .before .before .before .before .before .before .before .before .places-in .ensures .ucols
+sub-answer-7 c = c .before .before .before .before .before .before .before .before .places-in .ensures .uc
 
 part-answer-start-7 : tie.Need-part-answer-start-7
-part-answer-start-7 c = c .before .before .before .before .before .before .before .before .places-in .ensures .ucols
+part-answer-start-7 c = c .before .before .before .before .before .before .before .before .places-in .ensures .uc
 
 part-answer-end-7 : tie.Need-part-answer-end-7
-part-answer-end-7 c = let q = c .before .before .before .before .before .before .before .before .places-in .ensures in omega (arith, q .uvals, q .end)
+part-answer-end-7 c = let q = c .before .before .before .before .before .before .before .before .places-in .ensures in omega (arith, q .uv, q .end)
 
 sub-answer-8 : tie.Need-sub-answer-8
-sub-answer-8 c = c .before .before .before .before .before .before .before .before .before .places-in .ensures .uvals
+sub-answer-8 c = c .before .before .before .before .before .before .before .before .before .places-in .ensures .uv
 
 part-answer-start-8 : tie.Need-part-answer-start-8
-part-answer-start-8 c = c .before .before .before .before .before .before .before .before .before .places-in .ensures .uvals
+part-answer-start-8 c = c .before .before .before .before .before .before .before .before .before .places-in .ensures .uv
 
 part-answer-end-8 : tie.Need-part-answer-end-8
 part-answer-end-8 c = let q = c .before .before .before .before .before .before .before .before .before .places-in .ensures in omega (arith, q .end)

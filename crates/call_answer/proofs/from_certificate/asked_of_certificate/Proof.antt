@@ -16,7 +16,7 @@ use Rattle.call_answer.proofs.from_certificate.asked_of_certificate.Sta
 use Rattle.call_answer.proofs.from_certificate.asked_of_certificate.Tie as tie
 
 abbrev plan : tie.Start → Compressed
-plan s = compressed (s .args .ss .now) (s .args .cols .now) (s .args .vals .now)
+plan s = compressed (s .args .starts .now) (s .args .cols .now) (s .args .vals .now)
 
 abbrev check : tie.Start → Outcome
 check s = checkCertificateOf (s .args .q .p) (s .args .n) (s .args .m) (plan s) (s .args .cert .now) (length (s .args .work .now))

@@ -13,7 +13,7 @@ use Rattle.call_answer.proofs.from_factors.answer_from_factors.Statemen
 use Rattle.call_answer.proofs.from_factors.answer_from_factors.Tie as tie
 
 abbrev plan : tie.Start → Compressed
-plan s = compressed (s .args .ss .now) (s .args .cols .now) (s .args .vals .now)
+plan s = compressed (s .args .starts .now) (s .args .cols .now) (s .args .vals .now)
 
 abbrev set : tie.Start → Set
 set s =

@@ -17,7 +17,7 @@ use Rattle.call_answer.proofs.from_factors.asked_of_factors.Statement.{
 use Rattle.call_answer.proofs.from_factors.asked_of_factors.Tie as tie
 
 abbrev plan : tie.Start → Compressed
-plan s = compressed (s .args .ss .now) (s .args .cols .now) (s .args .vals .now)
+plan s = compressed (s .args .starts .now) (s .args .cols .now) (s .args .vals .now)
 
 abbrev set : tie.Start → Set
 set s =

@@ -25,7 +25,7 @@ use Rattle.call_check.proofs.from_certificate.check_bytes.Statement.{st
 use Rattle.call_check.proofs.from_certificate.check_bytes.Tie as tie
 
 abbrev plan : tie.Start → Compressed
-plan s = compressed (s .args .ss .now) (s .args .cols .now) (s .args .vals .now)
+plan s = compressed (s .args .starts .now) (s .args .cols .now) (s .args .vals .now)
 
 abbrev start : tie.After-certificate-outcome → tie.Start
 start c = c .before .before .before .before .before .before .before .before .before .before
@@ -43,9 +43,9 @@ good c = let s = start (c .before .before) in certificate-good (s .args .q .p) (
 
 -- the parts mean the set that the certificate holds
 meant : (c : tie.After-number) → let s = start (c .before .before .before .before) in let q = c .before .places-in .result in let cert = s .args .cert .now in
-    setOf (c .number .result) (view [] (part cert (q .rows) (q .cols))) (view [] (part cert (q .cols) (q .lstarts)))
-    (viewed [] (part cert (q .lstarts) (q .lcols)) [] (part cert (q .lcols) (q .lvals)) [] (part cert (q .lvals) (q .ustarts)))
-    (viewed [] (part cert (q .ustarts) (q .ucols)) [] (part cert (q .ucols) (q .uvals)) [] (part cert (q .uvals) (q .end)))
+    setOf (c .number .result) (view [] (part cert (q .ro) (q .co))) (view [] (part cert (q .co) (q .ls)))
+    (viewed [] (part cert (q .ls) (q .lc)) [] (part cert (q .lc) (q .lv)) [] (part cert (q .lv) (q .us)))
+    (viewed [] (part cert (q .us) (q .uc)) [] (part cert (q .uc) (q .uv)) [] (part cert (q .uv) (q .end)))
     ≡ setOfCertificate (s .args .n) (s .args .m) cert
 meant c = let s = start (c .before .before .before .before) in
     set-of-parts (s .args .n) (s .args .m) (s .args .cert .now) (c .before .places-in .result) (c .before .places-in .ensures .is) (c .number .result) (c .number .ensures)
@@ -85,80 +85,80 @@ slice-aggregate-empty : tie.Need-slice-aggregate-empty
 slice-aggregate-empty c = search needs
 
 sub-check : tie.Need-sub-check
-sub-check c = c .before .before .before .places-in .ensures .rows
+sub-check c = c .before .before .before .places-in .ensures .ro
 
 part-check-start : tie.Need-part-check-start
-part-check-start c = c .before .before .before .places-in .ensures .rows
+part-check-start c = c .before .before .before .places-in .ensures .ro
 
 part-check-end : tie.Need-part-check-end
-part-check-end c = let q = c .before .before .before .places-in .ensures in omega (arith, q .cols, q .lstarts, q .lcols, q .lvals, q .ustarts, q .ucols, q .uvals, q .end)
+part-check-end c = let q = c .before .before .before .places-in .ensures in omega (arith, q .co, q .ls, q .lc, q .lv, q .us, q .uc, q .uv, q .end)
 
 sub-check-2 : tie.Need-sub-check-2
-sub-check-2 c = c .before .before .before .before .places-in .ensures .cols
+sub-check-2 c = c .before .before .before .before .places-in .ensures .co
 
 part-check-start-2 : tie.Need-part-check-start-2
-part-check-start-2 c = c .before .before .before .before .places-in .ensures .cols
+part-check-start-2 c = c .before .before .before .before .places-in .ensures .co
 
 part-check-end-2 : tie.Need-part-check-end-2
-part-check-end-2 c = let q = c .before .before .before .before .places-in .ensures in omega (arith, q .lstarts, q .lcols, q .lvals, q .ustarts, q .ucols, q .uvals, q .end)
+part-check-end-2 c = let q = c .before .before .before .before .places-in .ensures in omega (arith, q .ls, q .lc, q .lv, q .us, q .uc, q .uv, q .end)
 
 sub-check-3 : tie.Need-sub-check-3
-sub-check-3 c = c .before .before .before .before .before .places-in .ensures .lstarts
+sub-check-3 c = c .before .before .before .before .before .places-in .ensures .ls
 
 part-check-start-3 : tie.Need-part-check-start-3
-part-check-start-3 c = c .before .before .before .before .before .places-in .ensures .lstarts
+part-check-start-3 c = c .before .before .before .before .before .places-in .ensures .ls
 
 part-check-end-3 : tie.Need-part-check-end-3
-part-check-end-3 c = let q = c .before .before .before .before .before .places-in .ensures in omega (arith, q .lcols, q .lvals, q .ustarts, q .ucols, q .uvals, q .end)
+part-check-end-3 c = let q = c .before .before .before .before .before .places-in .ensures in omega (arith, q .lc, q .lv, q .us, q .uc, q .uv, q .end)
 
 sub-check-4 : tie.Need-sub-check-4
-sub-check-4 c = c .before .before .before .before .before .before .places-in .ensures .lcols
+sub-check-4 c = c .before .before .before .before .before .before .places-in .ensures .lc
 
 part-check-start-4 : tie.Need-part-check-start-4
-part-check-start-4 c = c .before .before .before .before .before .before .places-in .ensures .lcols
+part-check-start-4 c = c .before .before .before .before .before .before .places-in .ensures .lc
 
 part-check-end-4 : tie.Need-part-check-end-4
-part-check-end-4 c = let q = c .before .before .before .before .before .before .places-in .ensures in omega (arith, q .lvals, q .ustarts, q .ucols, q .uvals, q .end)
+part-check-end-4 c = let q = c .before .before .before .before .before .before .places-in .ensures in omega (arith, q .lv, q .us, q .uc, q .uv, q .end)
 
 sub-check-5 : tie.Need-sub-check-5
-sub-check-5 c = c .before .before .before .before .before .before .before .places-in .ensures .lvals
+sub-check-5 c = c .before .before .before .before .before .before .before .places-in .ensures .lv
 
 part-check-start-5 : tie.Need-part-check-start-5
-part-check-start-5 c = c .before .before .before .before .before .before .before .places-in .ensures .lvals
+part-check-start-5 c = c .before .before .before .before .before .before .before .places-in .ensures .lv
 
 part-check-end-5 : tie.Need-part-check-end-5
-part-check-end-5 c = let q = c .before .before .before .before .before .before .before .places-in .ensures in omega (arith, q .ustarts, q .ucols, q .uvals, q .end)
+part-check-end-5 c = let q = c .before .before .before .before .before .before .before .places-in .ensures in omega (arith, q .us, q .uc, q .uv, q .end)
 
 sub-check-6 : tie.Need-sub-check-6
-sub-check-6 c = c .before .before .before .before .before .before .before .before .places-in .ensures .ustarts
+sub-check-6 c = c .before .before .before .before .before .before .before .before .places-in .ensures .us
 
 part-check-start-6 : tie.Need-part-check-start-6
-part-check-start-6 c = c .before .before .before .before .before .before .before .before .places-in .ensures .ustarts
+part-check-start-6 c = c .before .before .before .before .before .before .before .before .places-in .ensures .us
 
 part-check-end-6 : tie.Need-part-check-end-6
-part-check-end-6 c = let q = c .before .before .before .before .before .before .before .before .places-in .ensures in omega (arith, q .ucols, q .uvals, q .end)
+part-check-end-6 c = let q = c .before .before .before .before .before .before .before .before .places-in .ensures in omega (arith, q .uc, q .uv, q .end)
 
 sub-check-7 : tie.Need-sub-check-7
-sub-check-7 c = c .before .before .before .before .before .before .before .before .before .places-in .ensures .ucols
+sub-check-7 c = c .before .before .before .before .before .before .before .before .before .places-in .ensures .uc
 
 part-check-start-7 : tie.Need-part-check-start-7
-part-check-start-7 c = c .before .before .before .before .before .before .before .before .before .places-in .ensures .ucols
+part-check-start-7 c = c .before .before .before .before .before .before .before .before .before .places-in .ensures .uc
 
 part-check-end-7 : tie.Need-part-check-end-7
-part-check-end-7 c = let q = c .before .before .before .before .before .before .before .before .before .places-in .ensures in omega (arith, q .uvals, q .end)
+part-check-end-7 c = let q = c .before .before .before .before .before .before .before .before .before .places-in .ensures in omega (arith, q .uv, q .end)
 
 sub-check-8 : tie.Need-sub-check-8
-sub-check-8 c = c .before .before .before .before .before .before .before .before .before .before .places-in .ensures .uvals
+sub-check-8 c = c .before .before .before .before .before .before .before .before .before .before .places-in .ensures .uv
 
 part-check-start-8 : tie.Need-part-check-start-8
-part-check-start-8 c = c .before .before .before .before .before .before .before .before .before .before .places-in .ensures .uvals
+part-check-start-8 c = c .before .before .before .before .before .before .before .before .before .before .places-in .ensures .uv
 
 part-check-end-8 : tie.Need-part-check-end-8
 part-check-end-8 c = let q = c .before .before .before .before .before .before .before .before .before .before .places-in .ensures in omega (arith, q .end)
 
 check-requires : tie.Need-check-requires
 check-requires c κs = let k = c .before .before .before .before .before .before .before .before .before .before .before in let t = k .before .before in let o = t .before .before in let s = start o in let (g, h, w) = good t in
-    checkable-as (s .args .q .p) (s .args .n) (s .args .m) _ (plan s) _ (setOfCertificate (s .args .n) (s .args .m) (s .args .cert .now)) _ (viewed-lists (s .args .ss .now) (s .args .cols .now) (s .args .vals .now)) (meant k)
+    checkable-as (s .args .q .p) (s .args .n) (s .args .m) _ (plan s) _ (setOfCertificate (s .args .n) (s .args .m) (s .args .cert .now)) _ (viewed-lists (s .args .starts .now) (s .args .cols .now) (s .args .vals .now)) (meant k)
     (checkable (s .args .q .p) (s .args .n) (s .args .m) (plan s) (setOfCertificate (s .args .n) (s .args .m) (s .args .cert .now)) (o .before .before .before .clear-row .last .0) g (passed-sized (s .args .q .p) (s .args .n) (s .args .m) (s .args .cert .now) h) (wide o ∙ w) (o .before .before .before .clear-row .ensures ∙ ap zeros (sym (wide o))))
 
 same-length-2 : tie.Need-same-length-2
@@ -170,7 +170,7 @@ returns-2 c = let k = c .before .before in let u = k .before .before .before .be
     checks _ _ _ _
     (passed (o .certificate-outcome .result) (certificateOutcome (s .args .q .p) (s .args .n) (s .args .m) (plan s) (s .args .cert .now) (length (s .args .work .now))) (judge (s .args .q .p) (s .args .n) (s .args .m) (plan s) (setOfCertificate (s .args .n) (s .args .m) (s .args .cert .now))) (k .check .result) (t .enum-told .given .1) (tested o)
     (k .check .ensures .0
-    ∙ (λ j. judge (s .args .q .p) (s .args .n) (s .args .m) (viewed-lists (s .args .ss .now) (s .args .cols .now) (s .args .vals .now) j) (meant u j))))
+    ∙ (λ j. judge (s .args .q .p) (s .args .n) (s .args .m) (viewed-lists (s .args .starts .now) (s .args .cols .now) (s .args .vals .now) j) (meant u j))))
     (k .check .ensures .1 ∙ o .before .before .before .clear-row .ensures)
 
 pub check-bytes-spec : {M : Type 1} → statement M

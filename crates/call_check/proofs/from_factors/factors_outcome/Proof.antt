@@ -11,7 +11,7 @@ use Rattle.call_check.proofs.from_factors.factors_outcome.Statement.{st
 use Rattle.call_check.proofs.from_factors.factors_outcome.Tie as tie
 
 abbrev plan : tie.Start → Compressed
-plan s = compressed (s .args .ss .now) (s .args .cols .now) (s .args .vals .now)
+plan s = compressed (s .args .starts .now) (s .args .cols .now) (s .args .vals .now)
 
 abbrev set : tie.Start → Set
 set s = setOf (s .args .r) (s .args .ro .now) (s .args .co .now) (compressed (s .args .ls .now) (s .args .lc .now) (s .args .lv .now)) (compressed (s .args .us .now) (s .args .uc .now) (s .args .uv .now))

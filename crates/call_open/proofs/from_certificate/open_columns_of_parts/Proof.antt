@@ -18,9 +18,9 @@ start c = c .before .before .before .before .before
 
 -- the parts mean the set that the certificate holds
 meant : (c : tie.After-number) → let s = start c in let q = c .before .places-in .result in let cert = s .args .cert .now in
-    setOf (c .number .result) (view [] (part cert (q .rows) (q .cols))) (view [] (part cert (q .cols) (q .lstarts)))
-    (viewed [] (part cert (q .lstarts) (q .lcols)) [] (part cert (q .lcols) (q .lvals)) [] (part cert (q .lvals) (q .ustarts)))
-    (viewed [] (part cert (q .ustarts) (q .ucols)) [] (part cert (q .ucols) (q .uvals)) [] (part cert (q .uvals) (q .end)))
+    setOf (c .number .result) (view [] (part cert (q .ro) (q .co))) (view [] (part cert (q .co) (q .ls)))
+    (viewed [] (part cert (q .ls) (q .lc)) [] (part cert (q .lc) (q .lv)) [] (part cert (q .lv) (q .us)))
+    (viewed [] (part cert (q .us) (q .uc)) [] (part cert (q .uc) (q .uv)) [] (part cert (q .uv) (q .end)))
     ≡ setOfCertificate (s .args .n) (s .args .m) cert
 meant c = let s = start c in
     set-of-parts (s .args .n) (s .args .m) (s .args .cert .now) (c .before .places-in .result) (c .before .places-in .ensures .is) (c .number .result) (c .number .ensures)
@@ -35,46 +35,46 @@ slice-aggregate-open-columns : tie.Need-slice-aggregate-open-columns
 slice-aggregate-open-columns c = search needs
 
 sub-open-columns : tie.Need-sub-open-columns
-sub-open-columns c = c .before .before .places-in .ensures .cols
+sub-open-columns c = c .before .before .places-in .ensures .co
 
 part-open-columns-start : tie.Need-part-open-columns-start
-part-open-columns-start c = c .before .before .places-in .ensures .cols
+part-open-columns-start c = c .before .before .places-in .ensures .co
 
 part-open-columns-end : tie.Need-part-open-columns-end
-part-open-columns-end c = let q = c .before .before .places-in .ensures in omega (arith, q .lstarts, q .lcols, q .lvals, q .ustarts, q .ucols, q .uvals, q .end)
+part-open-columns-end c = let q = c .before .before .places-in .ensures in omega (arith, q .ls, q .lc, q .lv, q .us, q .uc, q .uv, q .end)
 
 slice-aggregate-open-columns-2 : tie.Need-slice-aggregate-open-columns-2
 slice-aggregate-open-columns-2 c = search needs
 
 sub-open-columns-2 : tie.Need-sub-open-columns-2
-sub-open-columns-2 c = c .before .before .before .before .places-in .ensures .ustarts
+sub-open-columns-2 c = c .before .before .before .before .places-in .ensures .us
 
 part-open-columns-start-2 : tie.Need-part-open-columns-start-2
-part-open-columns-start-2 c = c .before .before .before .before .places-in .ensures .ustarts
+part-open-columns-start-2 c = c .before .before .before .before .places-in .ensures .us
 
 part-open-columns-end-2 : tie.Need-part-open-columns-end-2
-part-open-columns-end-2 c = let q = c .before .before .before .before .places-in .ensures in omega (arith, q .ucols, q .uvals, q .end)
+part-open-columns-end-2 c = let q = c .before .before .before .before .places-in .ensures in omega (arith, q .uc, q .uv, q .end)
 
 slice-aggregate-open-columns-3 : tie.Need-slice-aggregate-open-columns-3
 slice-aggregate-open-columns-3 c = search needs
 
 sub-open-columns-3 : tie.Need-sub-open-columns-3
-sub-open-columns-3 c = c .before .before .before .before .before .before .places-in .ensures .ucols
+sub-open-columns-3 c = c .before .before .before .before .before .before .places-in .ensures .uc
 
 part-open-columns-start-3 : tie.Need-part-open-columns-start-3
-part-open-columns-start-3 c = c .before .before .before .before .before .before .places-in .ensures .ucols
+part-open-columns-start-3 c = c .before .before .before .before .before .before .places-in .ensures .uc
 
 part-open-columns-end-3 : tie.Need-part-open-columns-end-3
-part-open-columns-end-3 c = let q = c .before .before .before .before .before .before .places-in .ensures in omega (arith, q .uvals, q .end)
+part-open-columns-end-3 c = let q = c .before .before .before .before .before .before .places-in .ensures in omega (arith, q .uv, q .end)
 
 slice-aggregate-open-columns-4 : tie.Need-slice-aggregate-open-columns-4
 slice-aggregate-open-columns-4 c = search needs
 
 sub-open-columns-4 : tie.Need-sub-open-columns-4
-sub-open-columns-4 c = c .before .before .before .before .before .before .before .before .places-in .ensures .uvals
+sub-open-columns-4 c = c .before .before .before .before .before .before .before .before .places-in .ensures .uv
 
 part-open-columns-start-4 : tie.Need-part-open-columns-start-4
-part-open-columns-start-4 c = c .before .before .before .before .before .before .before .before .places-in .ensures .uvals
+part-open-columns-start-4 c = c .before .before .before .before .before .before .before .before .places-in .ensures .uv
 
 part-open-columns-end-4 : tie.Need-part-open-columns-end-4
 part-open-columns-end-4 c = let q = c .before .before .before .before .before .before .before .before .places-in .ensures in omega (arith, q .end)

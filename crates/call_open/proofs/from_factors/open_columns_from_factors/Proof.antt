@@ -14,7 +14,7 @@ use Rattle.call_open.proofs.from_factors.open_columns_from_factors.Stat
 use Rattle.call_open.proofs.from_factors.open_columns_from_factors.Tie as tie
 
 abbrev plan : tie.Start → Compressed
-plan s = compressed (s .args .ss .now) (s .args .cols .now) (s .args .vals .now)
+plan s = compressed (s .args .starts .now) (s .args .cols .now) (s .args .vals .now)
 
 abbrev set : tie.Start → Set
 set s =

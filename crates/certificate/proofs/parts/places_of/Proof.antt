@@ -19,53 +19,53 @@ index-requires-4 c κs = search needs
 index-requires-5 : tie.Need-index-requires-5
 index-requires-5 c κs = search needs
 
-mul-cols : tie.Need-mul-cols
-mul-cols c = search needs
+mul-co : tie.Need-mul-co
+mul-co c = search needs
 
-add-cols : tie.Need-add-cols
-add-cols c = search needs
+add-co : tie.Need-add-co
+add-co c = search needs
 
-mul-lstarts : tie.Need-mul-lstarts
-mul-lstarts c = search needs
+mul-ls : tie.Need-mul-ls
+mul-ls c = search needs
 
-add-lstarts : tie.Need-add-lstarts
-add-lstarts c = search needs
+add-ls : tie.Need-add-ls
+add-ls c = search needs
 
-add-lcols : tie.Need-add-lcols
-add-lcols c = search needs
+add-lc : tie.Need-add-lc
+add-lc c = search needs
 
-mul-lcols : tie.Need-mul-lcols
-mul-lcols c = search needs
+mul-lc : tie.Need-mul-lc
+mul-lc c = search needs
 
-add-lcols-2 : tie.Need-add-lcols-2
-add-lcols-2 c = search needs
+add-lc-2 : tie.Need-add-lc-2
+add-lc-2 c = search needs
 
-mul-lvals : tie.Need-mul-lvals
-mul-lvals c = search needs
+mul-lv : tie.Need-mul-lv
+mul-lv c = search needs
 
-add-lvals : tie.Need-add-lvals
-add-lvals c = search needs
+add-lv : tie.Need-add-lv
+add-lv c = search needs
 
-mul-ustarts : tie.Need-mul-ustarts
-mul-ustarts c = search needs
+mul-us : tie.Need-mul-us
+mul-us c = search needs
 
-add-ustarts : tie.Need-add-ustarts
-add-ustarts c = search needs
+add-us : tie.Need-add-us
+add-us c = search needs
 
-add-ucols : tie.Need-add-ucols
-add-ucols c = search needs
+add-uc : tie.Need-add-uc
+add-uc c = search needs
 
-mul-ucols : tie.Need-mul-ucols
-mul-ucols c = search needs
+mul-uc : tie.Need-mul-uc
+mul-uc c = search needs
 
-add-ucols-2 : tie.Need-add-ucols-2
-add-ucols-2 c = search needs
+add-uc-2 : tie.Need-add-uc-2
+add-uc-2 c = search needs
 
-mul-uvals : tie.Need-mul-uvals
-mul-uvals c = search needs
+mul-uv : tie.Need-mul-uv
+mul-uv c = search needs
 
-add-uvals : tie.Need-add-uvals
-add-uvals c = search needs
+add-uv : tie.Need-add-uv
+add-uv c = search needs
 
 mul-end : tie.Need-mul-end
 mul-end c = search needs
@@ -86,22 +86,22 @@ places-of-spec =
     index-requires-3
     index-requires-4
     index-requires-5
-    mul-cols
-    add-cols
-    mul-lstarts
-    add-lstarts
-    add-lcols
-    mul-lcols
-    add-lcols-2
-    mul-lvals
-    add-lvals
-    mul-ustarts
-    add-ustarts
-    add-ucols
-    mul-ucols
-    add-ucols-2
-    mul-uvals
-    add-uvals
+    mul-co
+    add-co
+    mul-ls
+    add-ls
+    add-lc
+    mul-lc
+    add-lc-2
+    mul-lv
+    add-lv
+    mul-us
+    add-us
+    add-uc
+    mul-uc
+    add-uc-2
+    mul-uv
+    add-uv
     mul-end
     add-end
     returns)

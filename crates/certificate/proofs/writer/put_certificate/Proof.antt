@@ -17,11 +17,11 @@ use Rattle.certificate.proofs.writer.put_certificate.Tie as tie
 
 abbrev the-set : tie.Start → Set
 the-set s =
-    setOf (s .args .r) (s .args .rows .now) (s .args .cols .now)
-    (compressed (s .args .lstarts .now) (s .args .lcols .now) (s .args .lvals .now))
-    (compressed (s .args .ustarts .now) (s .args .ucols .now) (s .args .uvals .now))
+    setOf (s .args .r) (s .args .ro .now) (s .args .co .now)
+    (compressed (s .args .ls .now) (s .args .lc .now) (s .args .lv .now))
+    (compressed (s .args .us .now) (s .args .uc .now) (s .args .uv .now))
 
-abbrev size : (s : tie.Start) → length (certificateOf (s .args .p) (s .args .n) (s .args .m) (the-set s)) ≡ 29 + 4 * (length (s .args .rows .now) + (length (s .args .cols .now) + (factorSize (the-set s .L) + factorSize (the-set s .U))))
+abbrev size : (s : tie.Start) → length (certificateOf (s .args .p) (s .args .n) (s .args .m) (the-set s)) ≡ 29 + 4 * (length (s .args .ro .now) + (length (s .args .co .now) + (factorSize (the-set s .L) + factorSize (the-set s .U))))
 size s = length-by-lists (s .args .p) (s .args .n) (s .args .m) (the-set s)
 
 -- from the place after a run to the place after the run before it
@@ -57,17 +57,17 @@ put-words-requires c κs = let h = c .before .before .before in let s = start h 
 put-words-requires-2 : tie.Need-put-words-requires-2
 unfolding mark version bytes
 put-words-requires-2 c κs = let w = c .before .before .before in let h = header w in let s = start h in
-    omega (arith, size s, s .pre .room, ends (h .put-header .ensures), ends (w .put-words .ensures), length-bytes (s .args .rows .now))
+    omega (arith, size s, s .pre .room, ends (h .put-header .ensures), ends (w .put-words .ensures), length-bytes (s .args .ro .now))
 
 put-factor-requires : tie.Need-put-factor-requires
 unfolding mark version bytes
 put-factor-requires c κs = let v = c .before .before .before in let w = rows v in let h = header w in let s = start h in
-    omega (arith, size s, s .pre .room, ends (h .put-header .ensures), ends (w .put-words .ensures), ends (v .put-words2 .ensures), length-bytes (s .args .rows .now), length-bytes (s .args .cols .now))
+    omega (arith, size s, s .pre .room, ends (h .put-header .ensures), ends (w .put-words .ensures), ends (v .put-words2 .ensures), length-bytes (s .args .ro .now), length-bytes (s .args .co .now))
 
 put-factor-requires-2 : tie.Need-put-factor-requires-2
 unfolding mark version bytes
 put-factor-requires-2 c κs = let l = c .before .before .before in let v = cols l in let w = rows v in let h = header w in let s = start h in
-    omega (arith, size s, s .pre .room, ends (h .put-header .ensures), ends (w .put-words .ensures), ends (v .put-words2 .ensures), ends (l .put-factor .ensures), length-bytes (s .args .rows .now), length-bytes (s .args .cols .now), length-bytes (factorNumbers (the-set s .L)), length-factor (the-set s .L))
+    omega (arith, size s, s .pre .room, ends (h .put-header .ensures), ends (w .put-words .ensures), ends (v .put-words2 .ensures), ends (l .put-factor .ensures), length-bytes (s .args .ro .now), length-bytes (s .args .co .now), length-bytes (factorNumbers (the-set s .L)), length-factor (the-set s .L))
 
 same-length : tie.Need-same-length
 same-length c = search needs
@@ -77,8 +77,8 @@ unfolding certificateOf numbersOf mark version bytes
 returns c = let u = c .before .before in let l = lower u in let v = cols l in let w = rows v in let h = header w in let s = start h in
     let L = factorNumbers (the-set s .L) in let U = factorNumbers (the-set s .U) in
     stored-then (h .put-header .ensures)
-    (numbers-then (s .args .rows .now) (s .args .cols .now ++ (L ++ U)) (w .put-words .ensures)
-    (numbers-then (s .args .cols .now) (L ++ U) (v .put-words2 .ensures) (numbers-then L U (l .put-factor .ensures) (u .put-factor2 .ensures))))
+    (numbers-then (s .args .ro .now) (s .args .co .now ++ (L ++ U)) (w .put-words .ensures)
+    (numbers-then (s .args .co .now) (L ++ U) (v .put-words2 .ensures) (numbers-then L U (l .put-factor .ensures) (u .put-factor2 .ensures))))
 
 pub put-certificate-spec : {M : Type 1} → statement M
 put-certificate-spec =

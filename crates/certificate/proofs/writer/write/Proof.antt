@@ -18,9 +18,9 @@ use Rattle.certificate.proofs.writer.write.Tie as tie
 abbrev certificate : tie.Start → List ℕ
 certificate s =
     certificateOf (s .args .p) (s .args .n) (s .args .m)
-    (setOf (s .args .r) (s .args .rows .now) (s .args .cols .now)
-    (compressed (s .args .lstarts .now) (s .args .lcols .now) (s .args .lvals .now))
-    (compressed (s .args .ustarts .now) (s .args .ucols .now) (s .args .uvals .now)))
+    (setOf (s .args .r) (s .args .ro .now) (s .args .co .now)
+    (compressed (s .args .ls .now) (s .args .lc .now) (s .args .lv .now))
+    (compressed (s .args .us .now) (s .args .uc .now) (s .args .uv .now)))
 
 abbrev start : tie.After-clear-bytes → tie.Start
 start a = a .before .before .before .before .before .before .before .before .before .before .before

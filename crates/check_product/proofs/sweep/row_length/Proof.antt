@@ -5,7 +5,7 @@ use Rattle.check_product.proofs.sweep.row_length.Statement.{statement}
 use Rattle.check_product.proofs.sweep.row_length.Tie as tie
 
 add-index-at : tie.Need-add-index-at
-add-index-at c = let s = c .before .before in omega (arith, s .pre .0, length-view (s .args .ss .now) (s .args .sb .now))
+add-index-at c = let s = c .before .before in omega (arith, s .pre .0, length-view (s .args .starts .now) (s .args .sb .now))
 
 index-at-requires : tie.Need-index-at-requires
 index-at-requires c κs = search needs

@@ -17,19 +17,19 @@ use Rattle.check_shape.proofs.lower.lower_row.Tie as tie
 abbrev start : tie.After-index2 → tie.Start
 start c = c .before .before .before .before .before .before .before .before .before .before
 
-upto : (c : tie.After-index2) → c .index2 .result ≡ getD (view (start c .args .ss .now) (start c .args .sb .now)) (start c .args .k + 1) 0
+upto : (c : tie.After-index2) → c .index2 .result ≡ getD (view (start c .args .starts .now) (start c .args .sb .now)) (start c .args .k + 1) 0
 upto c = c .index2 .ensures ∙ c .before .word2 .ensures
 
-inside : (s : tie.Start) → s .args .k + 1 < length (view (s .args .ss .now) (s .args .sb .now))
+inside : (s : tie.Start) → s .args .k + 1 < length (view (s .args .starts .now) (s .args .sb .now))
 inside s = omega (arith, s .pre .0, s .pre .1 .many)
 
 law : (c : tie.After-index2)
     → let s = start c in
     (ltb (c .before .before .index .result) (c .index2 .result) && eqb (getD (view (s .args .cols .now) (s .args .cb .now)) (c .index2 .result - 1) 0) (s .args .k))
-    ≡ lowerRow (s .args .r) (matrix (compressed (view (s .args .ss .now) (s .args .sb .now)) (view (s .args .cols .now) (s .args .cb .now)) (view (s .args .vals .now) (s .args .vb .now))) (s .args .k)) (s .args .k)
+    ≡ lowerRow (s .args .r) (matrix (compressed (view (s .args .starts .now) (s .args .sb .now)) (view (s .args .cols .now) (s .args .cb .now)) (view (s .args .vals .now) (s .args .vb .now))) (s .args .k)) (s .args .k)
 law c =
     let s = start c in
-    lower-by-last (s .args .p) (s .args .r) (view (s .args .ss .now) (s .args .sb .now)) (view (s .args .cols .now) (s .args .cb .now)) (view (s .args .vals .now) (s .args .vb .now)) (s .args .k) (c .before .before .index .result) (c .index2 .result)
+    lower-by-last (s .args .p) (s .args .r) (view (s .args .starts .now) (s .args .sb .now)) (view (s .args .cols .now) (s .args .cb .now)) (view (s .args .vals .now) (s .args .vb .now)) (s .args .k) (c .before .before .index .result) (c .index2 .result)
     (s .pre .1 .formed) (inside s) (c .before .before .index .ensures ∙ c .before .before .before .word .ensures) (upto c)
 
 word-requires : tie.Need-word-requires

@@ -20,10 +20,10 @@ use Rattle.check_shape.proofs.upper.unit_row.Tie as tie
 abbrev start : tie.After-index2 → tie.Start
 start c = c .before .before .before .before .before .before .before .before .before .before .before
 
-from : (c : tie.After-index2) → c .before .before .index .result ≡ getD (view (start c .args .ss .now) (start c .args .sb .now)) (start c .args .k) 0
+from : (c : tie.After-index2) → c .before .before .index .result ≡ getD (view (start c .args .starts .now) (start c .args .sb .now)) (start c .args .k) 0
 from c = c .before .before .index .ensures ∙ c .before .before .before .word .ensures
 
-upto : (c : tie.After-index2) → c .index2 .result ≡ getD (view (start c .args .ss .now) (start c .args .sb .now)) (start c .args .k + 1) 0
+upto : (c : tie.After-index2) → c .index2 .result ≡ getD (view (start c .args .starts .now) (start c .args .sb .now)) (start c .args .k + 1) 0
 upto c = c .index2 .ensures ∙ c .before .word2 .ensures
 
 -- where the row lies
@@ -38,7 +38,7 @@ bounds c =
     (omega (arith, b .0, from c, upto c), omega (arith, b .1, upto c), omega (arith, b .1, upto c, e))
 
 abbrev tidy : tie.After-index2 → Bool
-tidy c = let s = start c in clean (s .args .work .now) (rowOf (view (s .args .ss .now) (s .args .sb .now)) (s .args .k) (view (s .args .cols .now) (s .args .cb .now)))
+tidy c = let s = start c in clean (s .args .work .now) (rowOf (view (s .args .starts .now) (s .args .sb .now)) (s .args .k) (view (s .args .cols .now) (s .args .cb .now)))
 
 cleans : (c : tie.After-index2) → clean (start c .args .work .now) (slice (c .before .before .index .result) (c .index2 .result) (view (start c .args .cols .now) (start c .args .cb .now))) ≡ tidy c
 cleans c = λ i. clean (start c .args .work .now) (slice (from c i) (upto c i) (view (start c .args .cols .now) (start c .args .cb .now)))
@@ -50,7 +50,7 @@ index-requires : tie.Need-index-requires
 index-requires c κs = search needs
 
 add-word : tie.Need-add-word
-add-word c = let s = c .before .before .before .before .before .before .before .before .before in omega (arith, length-view (s .args .ss .now) (s .args .sb .now), s .pre .inside)
+add-word c = let s = c .before .before .before .before .before .before .before .before .before in omega (arith, length-view (s .args .starts .now) (s .args .sb .now), s .pre .inside)
 
 word-requires-2 : tie.Need-word-requires-2
 word-requires-2 c κs = search needs

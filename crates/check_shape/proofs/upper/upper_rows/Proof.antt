@@ -34,7 +34,7 @@ column c =
     rw (place c, l .inv .long) (s .pre .places (l .k) (omega (arith, s .pre .order)))
 
 test : (c : tie.After-unit-row Inv-loop μ-loop)
-    → let s = start (c .before .before .before) in c .unit-row .result ≡ upperRow (vector (view (s .args .co .now) (s .args .cob .now))) ((matrix (compressed (view (s .args .ss .now) (s .args .sb .now)) (view (s .args .cols .now) (s .args .cb .now)) (view (s .args .vals .now) (s .args .vb .now)))) (c .before .before .before .before .loop .k)) (c .before .before .before .before .loop .k)
+    → let s = start (c .before .before .before) in c .unit-row .result ≡ upperRow (vector (view (s .args .co .now) (s .args .cob .now))) ((matrix (compressed (view (s .args .starts .now) (s .args .sb .now)) (view (s .args .cols .now) (s .args .cb .now)) (view (s .args .vals .now) (s .args .vb .now)))) (c .before .before .before .before .loop .k)) (c .before .before .before .before .loop .k)
 test c =
     let s = start (c .before .before .before) in let l = c .before .before .before .before .loop in
     c .unit-row .ensures .0

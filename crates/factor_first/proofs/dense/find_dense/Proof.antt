@@ -22,7 +22,7 @@ abbrev μ-loop : tie.MeasureT-loop
 abbrev start : tie.In-loop Inv-loop μ-loop → tie.Start Inv-loop μ-loop
 start c = c .before .before .before .before .before .before .before .before .before .before .before .before .before .before .before .before
 
-inside : (c : tie.In-loop Inv-loop μ-loop) → c .before .loop .k < length (start c .args .rows .now)
+inside : (c : tie.In-loop Inv-loop μ-loop) → c .before .loop .k < length (start c .args .ro .now)
 inside c = omega (arith, c .loop-test .taken, c .before .loop .inv .same .R-long)
 
 -- the turn, from the test after it

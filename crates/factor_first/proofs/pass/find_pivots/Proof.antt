@@ -25,10 +25,10 @@ abbrev μ-loop : tie.MeasureT-loop
 abbrev start : tie.At-loop Inv-loop μ-loop → tie.Start Inv-loop μ-loop
 start c = c .before .before .before .before .before .before .before .before .before .before .before .before .before .before
 
-stops : (c : tie.At-loop Inv-loop μ-loop) → StopsAt (length (start c .args .rows .now)) (length (start c .args .work .now)) (start c .args .s) (c .before .sparse-end .result)
+stops : (c : tie.At-loop Inv-loop μ-loop) → StopsAt (length (start c .args .ro .now)) (length (start c .args .work .now)) (start c .args .s) (c .before .sparse-end .result)
 stops c = stops-at _ _ _ _ (start c .pre .rows-inside) (omega (arith, start c .pre .columns-inside, start c .pre .lent .columns)) (c .before .sparse-end .ensures)
 
-inside : (c : tie.In-loop Inv-loop μ-loop) → c .before .loop .k < length (start (c .before) .args .rows .now)
+inside : (c : tie.In-loop Inv-loop μ-loop) → c .before .loop .k < length (start (c .before) .args .ro .now)
 inside c = omega (arith, c .loop-test .taken, stops (c .before) .inside)
 
 -- the turn, from the test after it
@@ -36,7 +36,7 @@ abbrev turn : tie.After-slice-known19 Inv-loop μ-loop → tie.In-loop Inv-loop 
 turn c = c .before .before .before .before .before .before .before .before .before .before .before .before .before .before .before .before .before .before .before .before .before .before .before .before .before .before .before .before .before
 
 -- the rows that remain, from the test after the loop
-remain : (c : tie.Then2 Inv-loop μ-loop) → c .before .before .loop .k < length (start (c .before .before) .args .rows .now)
+remain : (c : tie.Then2 Inv-loop μ-loop) → c .before .before .loop .k < length (start (c .before .before) .args .ro .now)
 remain c = omega (arith, c .if2 .taken, c .before .before .loop .inv .0 .same .R-long)
 
 sparse-end-requires : tie.Need-sparse-end-requires Inv-loop μ-loop

@@ -14,7 +14,7 @@ abbrev start : tie.Else1 → tie.Start
 start c = c .before .before .before .before .before .before
 
 abbrev A : tie.Start → Compressed
-A s = compressed (s .args .ss .now) (s .args .cols .now) (s .args .vals .now)
+A s = compressed (s .args .starts .now) (s .args .cols .now) (s .args .vals .now)
 
 some-entry : (c : tie.Else1) → 0 < size (A (start c)) (start c .args .i)
 some-entry c = omega (arith, c .before .entries .ensures, c .if1 .left)
@@ -25,7 +25,7 @@ stored c = let e = c .before .before in let s = start e in
     omega (arith, c .index .ensures, leftmost-stored _ _ (A s) (s .pre .formed) (s .args .i) (s .pre .inside) (some-entry e))
 
 column : (c : tie.After-index2)
-    → c .index2 .result ≡ getD (start (c .before .before .before .before) .args .cols .now) (getD (start (c .before .before .before .before) .args .ss .now) (start (c .before .before .before .before) .args .i) 0) 0
+    → c .index2 .result ≡ getD (start (c .before .before .before .before) .args .cols .now) (getD (start (c .before .before .before .before) .args .starts .now) (start (c .before .before .before .before) .args .i) 0) 0
 column c = let s = start (c .before .before .before .before) in
     c .index2 .ensures ∙ ap (λ k. getD (s .args .cols .now) k 0) (c .before .before .index .ensures)
 

@@ -17,10 +17,10 @@ abbrev selected : tie.After-arrange → tie.After-select
 selected c = c .before .before .before .before .before .before .before .before .before
 
 -- the cells stay as many as the columns
-wide : (c : tie.After-choose) → length (c .choose .last .1 .1 .1 .1 .1 .0) ≡ length (start c .args .columns .now)
-wide c = let s = start c in c .choose .kept .1 .1 .1 .1 .1 .0 ∙ ap length (s .pre .lent .w-clear) ∙ length-zeros (length (s .args .columns .now))
+wide : (c : tie.After-choose) → length (c .choose .last .1 .1 .1 .1 .1 .0) ≡ length (start c .args .co .now)
+wide c = let s = start c in c .choose .kept .1 .1 .1 .1 .1 .0 ∙ ap length (s .pre .lent .w-clear) ∙ length-zeros (length (s .args .co .now))
 
-wide-still : (c : tie.After-select) → length (c .select .last .1 .1 .1 .1 .1 .0) ≡ length (start (chosen c) .args .columns .now)
+wide-still : (c : tie.After-select) → length (c .select .last .1 .1 .1 .1 .1 .0) ≡ length (start (chosen c) .args .co .now)
 wide-still c = c .select .kept .1 .1 .1 .1 .1 .0 ∙ wide (chosen c)
 
 choose-requires : tie.Need-choose-requires

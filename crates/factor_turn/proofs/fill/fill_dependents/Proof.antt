@@ -21,7 +21,7 @@ abbrev μ-loop : tie.MeasureT-loop
 abbrev start : tie.In-loop Inv-loop μ-loop → tie.Start Inv-loop μ-loop
 start c = c .before .before .before .before .before .before .before .before .before .before .before .before .before .before
 
-inside : (c : tie.In-loop Inv-loop μ-loop) → c .before .loop .k < length (start c .args .rows .now)
+inside : (c : tie.In-loop Inv-loop μ-loop) → c .before .loop .k < length (start c .args .ro .now)
 inside c = c .loop-test .taken
 
 loop-holds : tie.Need-loop-holds Inv-loop μ-loop

@@ -4,17 +4,17 @@ use borrow.Author.Needs.{needs}
 use Rattle.factor_turn.proofs.turn.enter.Statement.{statement}
 use Rattle.factor_turn.proofs.turn.enter.Tie as tie
 
-mul-rows : tie.Need-mul-rows
-mul-rows c = search needs
+mul-ro : tie.Need-mul-ro
+mul-ro c = search needs
 
-slice-write-rows : tie.Need-slice-write-rows
-slice-write-rows c = search needs
+slice-write-ro : tie.Need-slice-write-ro
+slice-write-ro c = search needs
 
-mul-columns : tie.Need-mul-columns
-mul-columns c = search needs
+mul-co : tie.Need-mul-co
+mul-co c = search needs
 
-slice-write-columns : tie.Need-slice-write-columns
-slice-write-columns c = search needs
+slice-write-co : tie.Need-slice-write-co
+slice-write-co c = search needs
 
 add-ls : tie.Need-add-ls
 add-ls c = search needs
@@ -53,10 +53,10 @@ pub enter-spec : {M : Type 1} → statement M
 enter-spec =
     tie.close
     (tie.spec
-    mul-rows
-    slice-write-rows
-    mul-columns
-    slice-write-columns
+    mul-ro
+    slice-write-ro
+    mul-co
+    slice-write-co
     add-ls
     mul-ls
     slice-write-ls

@@ -5,11 +5,11 @@ use borrow.Author.Needs.{needs}
 use Rattle.plq.proofs.check.check_held.Statement.{statement}
 use Rattle.plq.proofs.check.check_held.Tie as tie
 
-cast-rows : tie.Need-cast-rows
-cast-rows c = search needs
+cast-ro : tie.Need-cast-ro
+cast-ro c = search needs
 
-add-rows : tie.Need-add-rows
-add-rows c = search needs
+add-ro : tie.Need-add-ro
+add-ro c = search needs
 
 cast-count : tie.Need-cast-count
 cast-count c = search needs
@@ -36,8 +36,8 @@ pub check-held-spec : {M : Type 1} → statement M
 check-held-spec =
     tie.close
     (tie.spec
-    cast-rows
-    add-rows
+    cast-ro
+    add-ro
     cast-count
     slice-aggregate-check-certificate
     slice-aggregate-check-certificate-2

@@ -13,10 +13,10 @@ use Rattle.sparse.proofs.form.form_ok.Tie as tie
 -- what the first test says
 first : (c : tie.After-starts-ok)
     → c .starts-ok .result ≡ starts (length (view (c .before .before .before .before .before .before .before .before .args .cols .now) (c .before .before .before .before .before .before .before .before .args .cb .now)))
-    (view (c .before .before .before .before .before .before .before .before .args .ss .now) (c .before .before .before .before .before .before .before .before .args .sb .now))
+    (view (c .before .before .before .before .before .before .before .before .args .starts .now) (c .before .before .before .before .before .before .before .before .args .sb .now))
 first c =
     let s = c .before .before .before .before .before .before .before .before in
-    c .starts-ok .ensures ∙ ap (λ (n : ℕ). starts n (view (s .args .ss .now) (s .args .sb .now))) (c .before .count .ensures)
+    c .starts-ok .ensures ∙ ap (λ (n : ℕ). starts n (view (s .args .starts .now) (s .args .sb .now))) (c .before .count .ensures)
 
 count-requires : tie.Need-count-requires
 count-requires c κs = search needs

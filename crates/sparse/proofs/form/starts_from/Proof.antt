@@ -23,7 +23,7 @@ word-requires c κs = omega arith
 
 returns : tie.Need-returns Inv-loop μ-loop
 returns c = let h = c .before .before .before in let s = h .before .before .before in
-    sym (starts-falls (s .args .total) (h .loop .from) (view (s .args .ss .now) (s .args .sb .now)) (h .loop .i) (c .before .word .result) (omega arith) (c .before .word .ensures) (c .if1 .taken)) ∙ h .loop .inv .2
+    sym (starts-falls (s .args .total) (h .loop .from) (view (s .args .starts .now) (s .args .sb .now)) (h .loop .i) (c .before .word .result) (omega arith) (c .before .word .ensures) (c .if1 .taken)) ∙ h .loop .inv .2
 
 add-i : tie.Need-add-i Inv-loop μ-loop
 add-i c = omega arith
@@ -33,14 +33,14 @@ loop-less c = omega arith
 
 loop-again : tie.Need-loop-again Inv-loop μ-loop
 loop-again c = let h = c .before .before .before in let s = h .before .before .before in
-    (omega arith, omega arith, sym (starts-on (s .args .total) (h .loop .from) (view (s .args .ss .now) (s .args .sb .now)) (h .loop .i) (c .before .word .result) (omega arith) (c .before .word .ensures) (c .if1 .left)) ∙ h .loop .inv .2)
+    (omega arith, omega arith, sym (starts-on (s .args .total) (h .loop .from) (view (s .args .starts .now) (s .args .sb .now)) (h .loop .i) (c .before .word .result) (omega arith) (c .before .word .ensures) (c .if1 .left)) ∙ h .loop .inv .2)
 
 cast-result : tie.Need-cast-result Inv-loop μ-loop
 cast-result c = omega arith
 
 returns-2 : tie.Need-returns-2 Inv-loop μ-loop
 returns-2 c = let h = c .before in let s = h .before .before .before in
-    sym (starts-end (s .args .total) (h .loop .from) (view (s .args .ss .now) (s .args .sb .now)) (h .loop .i) (omega arith) (omega arith)) ∙ h .loop .inv .2
+    sym (starts-end (s .args .total) (h .loop .from) (view (s .args .starts .now) (s .args .sb .now)) (h .loop .i) (omega arith) (omega arith)) ∙ h .loop .inv .2
 
 pub starts-from-spec : {M : Type 1} → statement M
 starts-from-spec =

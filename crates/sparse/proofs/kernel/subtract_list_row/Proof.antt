@@ -27,14 +27,14 @@ bounds c =
 -- the parts are the row
 columns : (c : tie.After-part2)
     → let s = start (c .before .before) in
-    c .before .part .result .now ≡ rowOf (s .args .ss .now) (s .args .k) (s .args .cols .now)
+    c .before .part .result .now ≡ rowOf (s .args .starts .now) (s .args .k) (s .args .cols .now)
 columns c =
     let d = c .before .before in
     c .before .part .ensures ∙ (λ j. slice (d .before .before .index .ensures j) (d .index2 .ensures j) (start d .args .cols .now))
 
 numbers : (c : tie.After-part2)
     → let s = start (c .before .before) in
-    c .part2 .result .now ≡ rowOf (s .args .ss .now) (s .args .k) (s .args .vals .now)
+    c .part2 .result .now ≡ rowOf (s .args .starts .now) (s .args .k) (s .args .vals .now)
 numbers c =
     let d = c .before .before in
     c .part2 .ensures ∙ (λ j. slice (d .before .before .index .ensures j) (d .index2 .ensures j) (start d .args .vals .now))

@@ -19,10 +19,10 @@ start c = c .before .before .before .before .before .before .before .before .bef
 abbrev start-1 : tie.After-index → tie.Start
 start-1 c = c .before .before .before .before .before .before .before .before .before
 
-from : (c : tie.After-index2) → c .before .before .index .result ≡ getD (view (start c .args .ss .now) (start c .args .sb .now)) (start c .args .k) 0
+from : (c : tie.After-index2) → c .before .before .index .result ≡ getD (view (start c .args .starts .now) (start c .args .sb .now)) (start c .args .k) 0
 from c = c .before .before .index .ensures ∙ c .before .before .before .word .ensures
 
-upto : (c : tie.After-index2) → c .index2 .result ≡ getD (view (start c .args .ss .now) (start c .args .sb .now)) (start c .args .k + 1) 0
+upto : (c : tie.After-index2) → c .index2 .result ≡ getD (view (start c .args .starts .now) (start c .args .sb .now)) (start c .args .k + 1) 0
 upto c = c .index2 .ensures ∙ c .before .word2 .ensures
 
 -- where the row lies
@@ -39,7 +39,7 @@ bounds c =
 -- the parts are the row
 columns : (c : tie.After-bytes-part2)
     → let s = start (c .before .before .before .before) in
-    view (c .before .before .before .list-part .result .now) (c .before .before .bytes-part .result .now) ≡ rowOf (view (s .args .ss .now) (s .args .sb .now)) (s .args .k) (view (s .args .cols .now) (s .args .cb .now))
+    view (c .before .before .before .list-part .result .now) (c .before .before .bytes-part .result .now) ≡ rowOf (view (s .args .starts .now) (s .args .sb .now)) (s .args .k) (view (s .args .cols .now) (s .args .cb .now))
 columns c =
     let d = c .before .before .before .before in let s = start d in
     (λ j. view (c .before .before .before .list-part .ensures j) (c .before .before .bytes-part .ensures j))
@@ -48,7 +48,7 @@ columns c =
 
 numbers : (c : tie.After-bytes-part2)
     → let s = start (c .before .before .before .before) in
-    view (c .before .list-part2 .result .now) (c .bytes-part2 .result .now) ≡ rowOf (view (s .args .ss .now) (s .args .sb .now)) (s .args .k) (view (s .args .vals .now) (s .args .vb .now))
+    view (c .before .list-part2 .result .now) (c .bytes-part2 .result .now) ≡ rowOf (view (s .args .starts .now) (s .args .sb .now)) (s .args .k) (view (s .args .vals .now) (s .args .vb .now))
 numbers c =
     let d = c .before .before .before .before in let s = start d in
     (λ j. view (c .before .list-part2 .ensures j) (c .bytes-part2 .ensures j))
@@ -62,7 +62,7 @@ index-requires : tie.Need-index-requires
 index-requires c κs = search needs
 
 add-word : tie.Need-add-word
-add-word c = omega (arith, length-view (start-1 c .args .ss .now) (start-1 c .args .sb .now), start-1 c .pre .inside)
+add-word c = omega (arith, length-view (start-1 c .args .starts .now) (start-1 c .args .sb .now), start-1 c .pre .inside)
 
 word-requires-2 : tie.Need-word-requires-2
 word-requires-2 c κs = search needs

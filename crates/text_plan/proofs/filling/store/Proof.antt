@@ -10,7 +10,7 @@ use Rattle.text_plan.proofs.filling.store.Statement.{statement}
 use Rattle.text_plan.proofs.filling.store.Tie as tie
 
 -- a value that is stored has a place
-space : (c : tie.After-index) → c .before .before .before .before .before .before .before .before .before .args .count < length (now (c .before .before .before .before .before .before .before .before .before .args .columns))
+space : (c : tie.After-index) → c .before .before .before .before .before .before .before .before .before .args .count < length (now (c .before .before .before .before .before .before .before .before .before .args .cols))
 space c = c .before .before .before .before .before .before .before .before .before .pre .room (c .before .if1 .left)
 
 extend-starts-requires : tie.Need-extend-starts-requires
@@ -34,23 +34,23 @@ mul-starts c = search needs
 slice-write-starts : tie.Need-slice-write-starts
 slice-write-starts c = search needs
 
-sub-columns : tie.Need-sub-columns
-sub-columns c = search needs
+sub-cols : tie.Need-sub-cols
+sub-cols c = search needs
 
-cast-columns : tie.Need-cast-columns
-cast-columns c = search needs
+cast-cols : tie.Need-cast-cols
+cast-cols c = search needs
 
-mul-columns : tie.Need-mul-columns
-mul-columns c = search needs
+mul-cols : tie.Need-mul-cols
+mul-cols c = search needs
 
-slice-write-columns : tie.Need-slice-write-columns
-slice-write-columns c = omega (arith, c .index .ensures, space c)
+slice-write-cols : tie.Need-slice-write-cols
+slice-write-cols c = omega (arith, c .index .ensures, space c)
 
-mul-values : tie.Need-mul-values
-mul-values c = search needs
+mul-vals : tie.Need-mul-vals
+mul-vals c = search needs
 
-slice-write-values : tie.Need-slice-write-values
-slice-write-values c = omega (arith, c .index .ensures, space c, c .before .before .before .before .before .before .before .before .before .pre .lists)
+slice-write-vals : tie.Need-slice-write-vals
+slice-write-vals c = omega (arith, c .index .ensures, space c, c .before .before .before .before .before .before .before .before .before .pre .lists)
 
 add-result : tie.Need-add-result
 add-result c = search needs
@@ -78,12 +78,12 @@ store-spec =
     add-starts
     mul-starts
     slice-write-starts
-    sub-columns
-    cast-columns
-    mul-columns
-    slice-write-columns
-    mul-values
-    slice-write-values
+    sub-cols
+    cast-cols
+    mul-cols
+    slice-write-cols
+    mul-vals
+    slice-write-vals
     add-result
     same-length-2
     same-length-3
