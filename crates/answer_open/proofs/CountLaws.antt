@@ -15,7 +15,7 @@ use Rattle.algebra.specs.Sum.{δ}
 use Rattle.algebra.specs.Matrix.{Vector}
 use Rattle.algebra.proofs.Congruence.{exact, _⊙_, _⊕_, _⊗_, same-refl}
 use Rattle.algebra.proofs.Dot.{δ-same, δ-other}
-use Rattle.sparse.specs.Form.{values}
+use Rattle.sparse.specs.Form.{valuesOk}
 use Rattle.sparse.specs.Row.{weigh, entry}
 use Rattle.answer_open.specs.Counting.{closedAt, closedOthers}
 
@@ -113,11 +113,11 @@ module _ (p d : ℕ) (o : List ℕ) where
     pub below : value < p
     pub share : (z : Vector) → ZeroAtOpen p d o cs z → weigh cs vs z ≈⟨ p ⟩ entry cs vs d * z d + value * z (getD cs at 0)
 
-  pub count-one : (cs vs : List ℕ) → values p vs ≡ true → length cs ≡ length vs → closedOthers d o cs ≡ 1 → One cs vs
-  unfolding closedOthers weigh values
+  pub count-one : (cs vs : List ℕ) → valuesOk p vs ≡ true → length cs ≡ length vs → closedOthers d o cs ≡ 1 → One cs vs
+  unfolding closedOthers weigh valuesOk
   count-one [] vs s l h = absurd (omega arith)
   count-one (c ∷ cs) [] s l h = absurd (omega arith)
-  count-one (c ∷ cs) (x ∷ vs) s l h = go (kind d o c) (λ q. count-one cs vs (and-right (ltb 0 x && ltb x p) (values p vs) s) (omega arith) q)
+  count-one (c ∷ cs) (x ∷ vs) s l h = go (kind d o c) (λ q. count-one cs vs (and-right (ltb 0 x && ltb x p) (valuesOk p vs) s) (omega arith) q)
     where
       later : One cs vs → ((z : Vector) → ZeroAtOpen p d o (c ∷ cs) z → x * z c ≈⟨ p ⟩ x * δ c d * z d) → One (c ∷ cs) (x ∷ vs)
       later r first =
@@ -137,7 +137,7 @@ module _ (p d : ℕ) (o : List ℕ) where
       go (opened e q k) rest =
           later (rest (omega arith)) (λ z v. same-refl x ⊗ v 0 (omega arith) e q ⊙ exact (omega (arith, ap (λ (t : ℕ). x * t * z d) (δ-other c d e))))
       go (shut e q k) rest =
-          let b = and-left (ltb 0 x && ltb x p) (values p vs) s in
+          let b = and-left (ltb 0 x && ltb x p) (valuesOk p vs) s in
           record {
             at = 0;
             inside = omega arith;

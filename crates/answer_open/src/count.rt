@@ -3,8 +3,8 @@ ghost use mathlib.Core.Path.{_≡_};
 ghost use Prim.Native.Nat.{_<_};
 ghost use lib.ListN.{length};
 ghost use Rattle.sparse.specs.Row.{Below};
-ghost use Rattle.sparse.specs.Words.{view};
-ghost use Rattle.sparse.specs.Matrix.{viewed, rowOf};
+ghost use Rattle.sparse.specs.Matrix.{rowOf};
+ghost use Rattle.sparse.specs.Views.{before, viewAt, viewBefore, viewedAt};
 ghost use Rattle.answer_open.specs.Counting.{closedAt, closedOthers, CountReady};
 use lists::index;
 use sparse::words::bytes_part;
@@ -15,7 +15,7 @@ use sparse::words::word;
 // 1 where the column c is another one than d and not open, else 0.
 fn closed_at(marks: &[u32], d: u32, c: u32) -> usize
     requires { ⌜ c < length (now marks) ⌝ }
-    ensures { λ r. ⌜ r ≡ closedAt d (now (marks .entry)) c ⌝ }
+    ensures { λ r. ⌜ r ≡ closedAt d (before marks) c ⌝ }
 {
     if c == d {
         return 0;
@@ -28,8 +28,8 @@ fn closed_at(marks: &[u32], d: u32, c: u32) -> usize
 
 // How many columns of a sparse row are other ones than d and not open.
 fn closed_others(cols: &[u32], cb: &[u8], marks: &[u32], d: u32) -> usize
-    requires { ⌜ Below (length (now marks)) (view (now cols) (now cb)) ⌝ }
-    ensures { λ r. ⌜ r ≡ closedOthers d (now (marks .entry)) (view (now (cols .entry)) (now (cb .entry))) ⌝ }
+    requires { ⌜ Below (length (now marks)) (viewAt cols cb) ⌝ }
+    ensures { λ r. ⌜ r ≡ closedOthers d (before marks) (viewBefore cols cb) ⌝ }
 {
     let n = count(cols, cb);
     let mut found: usize = 0;
@@ -55,8 +55,8 @@ pub fn row_closed(
     k: usize,
     d: u32,
 ) -> usize
-    requires { ⌜ CountReady p k (viewed (now us) (now usb) (now uc) (now ucb) (now uv) (now uvb)) (now marks) ⌝ }
-    ensures { λ r. ⌜ r ≡ closedOthers d (now (marks .entry)) (rowOf (view (now (us .entry)) (now (usb .entry))) k (view (now (uc .entry)) (now (ucb .entry)))) ⌝ }
+    requires { ⌜ CountReady p k (viewedAt us usb uc ucb uv uvb) (now marks) ⌝ }
+    ensures { λ r. ⌜ r ≡ closedOthers d (before marks) (rowOf (viewBefore us usb) k (viewBefore uc ucb)) ⌝ }
 {
     let a = index(word(us, usb, k));
     let e = index(word(us, usb, k + 1));

@@ -2,8 +2,8 @@
 ghost use lib.ListN.{length, getD};
 ghost use Rattle.lists.specs.Tabulate.{tabulate};
 ghost use Rattle.algebra.specs.Matrix.{vector};
-ghost use Rattle.sparse.specs.Words.{view};
-ghost use Rattle.sparse.specs.Matrix.{viewed, matrix};
+ghost use Rattle.sparse.specs.Matrix.{matrix};
+ghost use Rattle.sparse.specs.Views.{before, after, viewAt, viewBefore, viewedAt, viewedBefore};
 ghost use Rattle.answer_open.specs.Opening.{openCell, PivotCellReady, PivotCell, PivotsReady, ColumnsListed, ColumnsReady, AllColumns};
 use crate::count::row_closed;
 use crate::unit::unit_open;
@@ -29,8 +29,8 @@ fn pivot_open(
     r: usize,
     work: &mut [u64],
 ) -> u32
-    requires { ⌜ PivotCellReady (q .p) k r (viewed (now us) (now usb) (now uc) (now ucb) (now uv) (now uvb)) (view (now co) (now cob)) (now marks) (now work) ⌝ }
-    ensures { λ v. ⌜ PivotCell (openCell (q .p) (length (now (work .entry))) (vector (view (now (co .entry)) (now (cob .entry)))) (matrix (viewed (now (us .entry)) (now (usb .entry)) (now (uc .entry)) (now (ucb .entry)) (now (uv .entry)) (now (uvb .entry)))) r (getD (view (now (co .entry)) (now (cob .entry))) k 0)) v (now (work .exit)) ⌝ }
+    requires { ⌜ PivotCellReady (q .p) k r (viewedAt us usb uc ucb uv uvb) (viewAt co cob) (now marks) (now work) ⌝ }
+    ensures { λ v. ⌜ PivotCell (openCell (q .p) (length (before work)) (vector (viewBefore co cob)) (matrix (viewedBefore us usb uc ucb uv uvb)) r (getD (viewBefore co cob) k 0)) v (after work) ⌝ }
 {
     let d = word(co, cob, k);
     let closed = row_closed(us, usb, uc, ucb, uv, uvb, marks, q.p, k, d);
@@ -58,8 +58,8 @@ fn open_pivots(
     marks: &mut [u32],
     work: &mut [u64],
 )
-    requires { ⌜ PivotsReady (q .p) r (viewed (now us) (now usb) (now uc) (now ucb) (now uv) (now uvb)) (view (now co) (now cob)) (now marks) (now work) ⌝ }
-    ensures { λ _. ⌜ ColumnsListed (tabulate (length (now (marks .entry))) (openCell (q .p) (length (now (marks .entry))) (vector (view (now (co .entry)) (now (cob .entry)))) (matrix (viewed (now (us .entry)) (now (usb .entry)) (now (uc .entry)) (now (ucb .entry)) (now (uv .entry)) (now (uvb .entry)))) r)) (now (marks .exit)) (now (work .exit)) ⌝ }
+    requires { ⌜ PivotsReady (q .p) r (viewedAt us usb uc ucb uv uvb) (viewAt co cob) (now marks) (now work) ⌝ }
+    ensures { λ _. ⌜ ColumnsListed (tabulate (length (before marks)) (openCell (q .p) (length (before marks)) (vector (viewBefore co cob)) (matrix (viewedBefore us usb uc ucb uv uvb)) r)) (after marks) (after work) ⌝ }
 {
     clear(marks);
     let mut k = r;
@@ -85,8 +85,8 @@ pub fn open_columns(
     marks: &mut [u32],
     work: &mut [u64],
 )
-    requires { ⌜ ColumnsReady (q .p) r (viewed (now us) (now usb) (now uc) (now ucb) (now uv) (now uvb)) (view (now co) (now cob)) (now marks) (now work) ⌝ }
-    ensures { λ _. ⌜ AllColumns (q .p) r (view (now (co .entry)) (now (cob .entry))) (viewed (now (us .entry)) (now (usb .entry)) (now (uc .entry)) (now (ucb .entry)) (now (uv .entry)) (now (uvb .entry))) (now (marks .exit)) (now (work .exit)) ⌝ }
+    requires { ⌜ ColumnsReady (q .p) r (viewedAt us usb uc ucb uv uvb) (viewAt co cob) (now marks) (now work) ⌝ }
+    ensures { λ _. ⌜ AllColumns (q .p) r (viewBefore co cob) (viewedBefore us usb uc ucb uv uvb) (after marks) (after work) ⌝ }
 {
     let m = marks.len();
     open_pivots(

@@ -1,8 +1,8 @@
 // The unit question of a pivot column, answered by reduction.
 ghost use lib.ListN.{length, getD};
 ghost use Rattle.algebra.specs.Matrix.{Vector, vector};
-ghost use Rattle.sparse.specs.Words.{view};
-ghost use Rattle.sparse.specs.Matrix.{viewed, matrix};
+ghost use Rattle.sparse.specs.Matrix.{matrix};
+ghost use Rattle.sparse.specs.Views.{before, after, viewAt, viewBefore, viewedAt, viewedBefore};
 ghost use Rattle.answer_question.specs.Reducing.{Remains};
 ghost use Rattle.answer_open.specs.Opening.{openCell, ReduceFromReady, UnitReady, PivotCell};
 use answer_question::reduce::lowest_nonzero;
@@ -27,8 +27,8 @@ fn reduce_from(
     r: usize,
     work: &mut [u64],
 )
-    requires { ⌜ ReduceFromReady (q .p) k r (viewed (now us) (now usb) (now uc) (now ucb) (now uv) (now uvb)) (view (now co) (now cob)) (now work) ⌝ }
-    ensures { λ _. ⌜ ((y : Vector) → Remains (q .p) (vector (view (now (co .entry)) (now (cob .entry)))) (matrix (viewed (now (us .entry)) (now (usb .entry)) (now (uc .entry)) (now (ucb .entry)) (now (uv .entry)) (now (uvb .entry)))) k y (now (work .entry)) → Remains (q .p) (vector (view (now (co .entry)) (now (cob .entry)))) (matrix (viewed (now (us .entry)) (now (usb .entry)) (now (uc .entry)) (now (ucb .entry)) (now (uv .entry)) (now (uvb .entry)))) r y (now (work .exit))) ⌝ }
+    requires { ⌜ ReduceFromReady (q .p) k r (viewedAt us usb uc ucb uv uvb) (viewAt co cob) (now work) ⌝ }
+    ensures { λ _. ⌜ ((y : Vector) → Remains (q .p) (vector (viewBefore co cob)) (matrix (viewedBefore us usb uc ucb uv uvb)) k y (before work) → Remains (q .p) (vector (viewBefore co cob)) (matrix (viewedBefore us usb uc ucb uv uvb)) r y (after work)) ⌝ }
 {
     let mut i = k;
     while i < r {
@@ -53,8 +53,8 @@ pub fn unit_open(
     r: usize,
     work: &mut [u64],
 ) -> u32
-    requires { ⌜ UnitReady (q .p) k r (viewed (now us) (now usb) (now uc) (now ucb) (now uv) (now uvb)) (view (now co) (now cob)) (now work) ⌝ }
-    ensures { λ v. ⌜ PivotCell (openCell (q .p) (length (now (work .entry))) (vector (view (now (co .entry)) (now (cob .entry)))) (matrix (viewed (now (us .entry)) (now (usb .entry)) (now (uc .entry)) (now (ucb .entry)) (now (uv .entry)) (now (uvb .entry)))) r (getD (view (now (co .entry)) (now (cob .entry))) k 0)) v (now (work .exit)) ⌝ }
+    requires { ⌜ UnitReady (q .p) k r (viewedAt us usb uc ucb uv uvb) (viewAt co cob) (now work) ⌝ }
+    ensures { λ v. ⌜ PivotCell (openCell (q .p) (length (before work)) (vector (viewBefore co cob)) (matrix (viewedBefore us usb uc ucb uv uvb)) r (getD (viewBefore co cob) k 0)) v (after work) ⌝ }
 {
     let m = work.len();
     let j = index(word(co, cob, k));

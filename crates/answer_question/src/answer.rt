@@ -3,9 +3,8 @@ ghost use lib.ListN.{length};
 ghost use Rattle.lists.specs.Tabulate.{tabulate};
 ghost use Rattle.algebra.specs.Sum.{δ, place};
 ghost use Rattle.algebra.specs.Matrix.{vector};
-ghost use Rattle.sparse.specs.Words.{view};
-ghost use Rattle.sparse.specs.Matrix.{viewed, matrix};
-ghost use Rattle.sparse.specs.Set.{setOf};
+ghost use Rattle.sparse.specs.Matrix.{matrix};
+ghost use Rattle.sparse.specs.Views.{before, after, viewAt, viewBefore, viewedAt, viewedBefore, viewedSetAt, viewedSetBefore};
 ghost use Rattle.row_space.specs.Substitution.{backL, backU};
 ghost use Rattle.row_space.specs.Solve.{solve};
 ghost use Rattle.row_space.specs.Ready.{residues};
@@ -33,8 +32,8 @@ pub fn open_answer(
     z: &mut [u32],
     work: &mut [u64],
 )
-    requires { ⌜ OpenReady (q .p) (viewed (now ls) (now lsb) (now lc) (now lcb) (now lv) (now lvb)) (view (now ro) (now rob)) (now x) (now z) (now work) ⌝ }
-    ensures { λ _. ⌜ Opened (tabulate (length (now (x .entry))) (place (length (now (work .entry))) (vector (view (now (ro .entry)) (now (rob .entry)))) (backL (q .p) (matrix (viewed (now (ls .entry)) (now (lsb .entry)) (now (lc .entry)) (now (lcb .entry)) (now (lv .entry)) (now (lvb .entry)))) (length (now (work .entry))) (residues (q .p) (now (z .entry)))))) (now (x .exit)) (now (z .exit)) (now (work .exit)) ⌝ }
+    requires { ⌜ OpenReady (q .p) (viewedAt ls lsb lc lcb lv lvb) (viewAt ro rob) (now x) (now z) (now work) ⌝ }
+    ensures { λ _. ⌜ Opened (tabulate (length (before x)) (place (length (before work)) (vector (viewBefore ro rob)) (backL (q .p) (matrix (viewedBefore ls lsb lc lcb lv lvb)) (length (before work)) (residues (q .p) (before z))))) (after x) (after z) (after work) ⌝ }
 {
     load(z, work);
     clear(x);
@@ -58,8 +57,8 @@ pub fn closed_answer(
     x: &mut [u32],
     z: &mut [u32],
 )
-    requires { ⌜ ClosedReady (q .p) r j (viewed (now us) (now usb) (now uc) (now ucb) (now uv) (now uvb)) (view (now co) (now cob)) (now z) ⌝ }
-    ensures { λ _. ⌜ ClosedAs (tabulate (length (now (z .entry))) (backU (q .p) (length (now (z .entry))) (vector (view (now (co .entry)) (now (cob .entry)))) (matrix (viewed (now (us .entry)) (now (usb .entry)) (now (uc .entry)) (now (ucb .entry)) (now (uv .entry)) (now (uvb .entry)))) r (δ j))) (now (x .exit)) (now (z .exit)) ⌝ }
+    requires { ⌜ ClosedReady (q .p) r j (viewedAt us usb uc ucb uv uvb) (viewAt co cob) (now z) ⌝ }
+    ensures { λ _. ⌜ ClosedAs (tabulate (length (before z)) (backU (q .p) (length (before z)) (vector (viewBefore co cob)) (matrix (viewedBefore us usb uc ucb uv uvb)) r (δ j))) (after x) (after z) ⌝ }
 {
     clear(x);
     clear(z);
@@ -92,8 +91,8 @@ pub fn answer(
     z: &mut [u32],
     work: &mut [u64],
 ) -> Verdict
-    requires { ⌜ AnswerReady (q .p) (setOf r (view (now ro) (now rob)) (view (now co) (now cob)) (viewed (now ls) (now lsb) (now lc) (now lcb) (now lv) (now lvb)) (viewed (now us) (now usb) (now uc) (now ucb) (now uv) (now uvb))) (now y) (now x) (now z) (now work) ⌝ }
-    ensures { λ v. ⌜ Answered (solve (q .p) (length (now (x .entry))) (length (now (z .entry))) (setOf r (view (now (ro .entry)) (now (rob .entry))) (view (now (co .entry)) (now (cob .entry))) (viewed (now (ls .entry)) (now (lsb .entry)) (now (lc .entry)) (now (lcb .entry)) (now (lv .entry)) (now (lvb .entry))) (viewed (now (us .entry)) (now (usb .entry)) (now (uc .entry)) (now (ucb .entry)) (now (uv .entry)) (now (uvb .entry)))) (vector (now (y .entry)))) v (now (x .exit)) (now (z .exit)) (now (work .exit)) ⌝ }
+    requires { ⌜ AnswerReady (q .p) (viewedSetAt r ro rob co cob ls lsb lc lcb lv lvb us usb uc ucb uv uvb) (now y) (now x) (now z) (now work) ⌝ }
+    ensures { λ v. ⌜ Answered (solve (q .p) (length (before x)) (length (before z)) (viewedSetBefore r ro rob co cob ls lsb lc lcb lv lvb us usb uc ucb uv uvb) (vector (before y))) v (after x) (after z) (after work) ⌝ }
 {
     let m = z.len();
     let j = reduce_question(

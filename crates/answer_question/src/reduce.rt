@@ -3,8 +3,8 @@ ghost use mathlib.Core.Path.{_≡_};
 ghost use Prim.Native.Nat.{_%_, _≤_, _<_};
 ghost use lib.ListN.{length, getD, take};
 ghost use Rattle.algebra.specs.Matrix.{vector};
-ghost use Rattle.sparse.specs.Words.{view};
-ghost use Rattle.sparse.specs.Matrix.{viewed, matrix};
+ghost use Rattle.sparse.specs.Matrix.{matrix};
+ghost use Rattle.sparse.specs.Views.{before, after, viewAt, viewBefore, viewedAt, viewedBefore};
 ghost use Rattle.answer_question.specs.Reducing.{EliminationReady, Eliminated, MultiplesReady, Reduced, lowestOf, QuestionReady, QuestionReduced};
 use lists::clear_row;
 use lists::index;
@@ -16,7 +16,7 @@ use sparse::words::word;
 // Fills the working row with the first numbers of a list.
 pub fn load(list: &[u32], work: &mut [u64])
     requires { ⌜ length (now work) ≤ length (now list) ⌝ }
-    ensures { λ _. ⌜ now (work .exit) ≡ take (length (now (work .entry))) (now (list .entry)) ⌝ }
+    ensures { λ _. ⌜ after work ≡ take (length (before work)) (before list) ⌝ }
 {
     let mut i = 0;
     while i < work.len() {
@@ -38,8 +38,8 @@ pub fn reduce_by_row(
     c: usize,
     work: &mut [u64],
 ) -> u32
-    requires { ⌜ EliminationReady (q .p) k c (viewed (now us) (now usb) (now uc) (now ucb) (now uv) (now uvb)) (now work) ⌝ }
-    ensures { λ v. ⌜ Eliminated (q .p) (viewed (now (us .entry)) (now (usb .entry)) (now (uc .entry)) (now (ucb .entry)) (now (uv .entry)) (now (uvb .entry))) k c (now (work .entry)) (now (work .exit)) v ⌝ }
+    requires { ⌜ EliminationReady (q .p) k c (viewedAt us usb uc ucb uv uvb) (now work) ⌝ }
+    ensures { λ v. ⌜ Eliminated (q .p) (viewedBefore us usb uc ucb uv uvb) k c (before work) (after work) v ⌝ }
 {
     let v = q.reduce_cell(work[c]);
     if v == 0 {
@@ -64,8 +64,8 @@ pub fn reduce(
     multiples: &mut [u32],
     work: &mut [u64],
 )
-    requires { ⌜ MultiplesReady (q .p) r (viewed (now us) (now usb) (now uc) (now ucb) (now uv) (now uvb)) (view (now co) (now cob)) (now multiples) (now work) ⌝ }
-    ensures { λ _. ⌜ Reduced (q .p) (vector (view (now (co .entry)) (now (cob .entry)))) (matrix (viewed (now (us .entry)) (now (usb .entry)) (now (uc .entry)) (now (ucb .entry)) (now (uv .entry)) (now (uvb .entry)))) r (vector (now (work .entry))) (now (multiples .exit)) (now (work .exit)) ⌝ }
+    requires { ⌜ MultiplesReady (q .p) r (viewedAt us usb uc ucb uv uvb) (viewAt co cob) (now multiples) (now work) ⌝ }
+    ensures { λ _. ⌜ Reduced (q .p) (vector (viewBefore co cob)) (matrix (viewedBefore us usb uc ucb uv uvb)) r (vector (before work)) (after multiples) (after work) ⌝ }
 {
     let mut k = 0;
     while k < r {
@@ -78,7 +78,7 @@ pub fn reduce(
 // The lowest place at which the working row does not stand for 0, or its length.
 pub fn lowest_nonzero(q: Modulus, work: &[u64]) -> usize
     requires { ⌜ 0 < q .p ⌝ }
-    ensures { λ j. ⌜ j ≡ lowestOf (length (now (work .entry))) (λ l. getD (now (work .entry)) l 0 % q .p) ⌝ }
+    ensures { λ j. ⌜ j ≡ lowestOf (length (before work)) (λ l. getD (before work) l 0 % q .p) ⌝ }
 {
     first_nonzero(q, work)
 }
@@ -99,8 +99,8 @@ pub fn reduce_question(
     multiples: &mut [u32],
     work: &mut [u64],
 ) -> usize
-    requires { ⌜ QuestionReady (q .p) r (viewed (now us) (now usb) (now uc) (now ucb) (now uv) (now uvb)) (view (now co) (now cob)) (now y) (now multiples) (now work) ⌝ }
-    ensures { λ j. ⌜ QuestionReduced (q .p) (vector (view (now (co .entry)) (now (cob .entry)))) (matrix (viewed (now (us .entry)) (now (usb .entry)) (now (uc .entry)) (now (ucb .entry)) (now (uv .entry)) (now (uvb .entry)))) r (vector (now (y .entry))) (now (multiples .exit)) (now (work .exit)) j ⌝ }
+    requires { ⌜ QuestionReady (q .p) r (viewedAt us usb uc ucb uv uvb) (viewAt co cob) (now y) (now multiples) (now work) ⌝ }
+    ensures { λ j. ⌜ QuestionReduced (q .p) (vector (viewBefore co cob)) (matrix (viewedBefore us usb uc ucb uv uvb)) r (vector (before y)) (after multiples) (after work) j ⌝ }
 {
     load(y, work);
     reduce(q, us, usb, uc, ucb, uv, uvb, co, cob, r, multiples, work);

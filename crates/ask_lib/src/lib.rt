@@ -2,10 +2,10 @@
 ghost use mathlib.Core.Path.{_≡_};
 ghost use lib.ListN.{take};
 ghost use Rattle.byte_buffer.specs.Stored.{Fills};
-ghost use Rattle.sparse.specs.Matrix.{compressed};
 ghost use Rattle.ask_lib.specs.Asking.{AskLists, Asks};
 ghost use Rattle.print_text.specs.Printed.{Prints};
 ghost use Rattle.ask_lib.specs.Held.{answerLineOf, LineReady, heldAnswer, Answerable, AnswerHeld, RowCountable, stagesRefusal, stagedLine, AskStagedReady};
+ghost use Rattle.sparse.specs.Views.{before, after, storedAt, storedBefore};
 use call_answer::Answer;
 use call_answer::from_factors::answer_from_factors;
 use limits::ENTRY_CELLS;
@@ -21,7 +21,7 @@ use stages::factor_text;
 // Writes the line of an answer: of a refusal, whose index counts from 1 in print, or the verdict with the n values of x or the m of z.
 fn write_line(answer: Answer, n: u32, m: u32, xs: &[u32], zs: &[u32], out: &mut [u8]) -> usize
     requires { ⌜ LineReady answer n m (now xs) (now zs) (now out) ⌝ }
-    ensures { λ size. ⌜ Fills (now (out .entry)) (now (out .exit)) size (answerLineOf answer (take n (now (xs .entry))) (take m (now (zs .entry)))) ⌝ }
+    ensures { λ size. ⌜ Fills (before out) (after out) size (answerLineOf answer (take n (before xs)) (take m (before zs))) ⌝ }
 {
     let x = &xs[..n as usize];
     let z = &zs[..m as usize];
@@ -69,8 +69,8 @@ fn answer_held(
     z: &mut [u32],
     work: &mut [u64],
 ) -> Answer
-    requires { ⌜ Answerable s (compressed (now starts) (now cols) (now vals)) (now ro) (now co) (compressed (now ls) (now lc) (now lv)) (compressed (now us) (now uc) (now uv)) (now y) (now x) (now z) (now work) ⌝ }
-    ensures { λ a. ⌜ AnswerHeld (heldAnswer s (compressed (now (starts .entry)) (now (cols .entry)) (now (vals .entry))) (now (ro .entry)) (now (co .entry)) (compressed (now (ls .entry)) (now (lc .entry)) (now (lv .entry))) (compressed (now (us .entry)) (now (uc .entry)) (now (uv .entry))) (now (y .entry))) a (s .reading .n) (s .reading .m) (now (x .exit)) (now (z .exit)) (now (work .entry)) (now (work .exit)) ⌝ }
+    requires { ⌜ Answerable s (storedAt starts cols vals) (now ro) (now co) (storedAt ls lc lv) (storedAt us uc uv) (now y) (now x) (now z) (now work) ⌝ }
+    ensures { λ a. ⌜ AnswerHeld (heldAnswer s (storedBefore starts cols vals) (before ro) (before co) (storedBefore ls lc lv) (storedBefore us uc uv) (before y)) a (s .reading .n) (s .reading .m) (after x) (after z) (before work) (after work) ⌝ }
 {
     let n = s.reading.n as usize;
     let m = s.reading.m as usize;
@@ -119,8 +119,8 @@ fn ask_staged(
     out: &mut [u8],
     work: &mut [u64],
 ) -> usize
-    requires { ⌜ AskStagedReady s (compressed (now starts) (now cols) (now vals)) (now ro) (now co) (compressed (now ls) (now lc) (now lv)) (compressed (now us) (now uc) (now uv)) (now y) (now out) (now work) ⌝ }
-    ensures { λ size. ⌜ Prints (stagedLine s (compressed (now (starts .entry)) (now (cols .entry)) (now (vals .entry))) (now (ro .entry)) (now (co .entry)) (compressed (now (ls .entry)) (now (lc .entry)) (now (lv .entry))) (compressed (now (us .entry)) (now (uc .entry)) (now (uv .entry))) (now (y .entry))) size (now (out .entry)) (now (out .exit)) (now (work .entry)) (now (work .exit)) ⌝ }
+    requires { ⌜ AskStagedReady s (storedAt starts cols vals) (now ro) (now co) (storedAt ls lc lv) (storedAt us uc uv) (now y) (now out) (now work) ⌝ }
+    ensures { λ size. ⌜ Prints (stagedLine s (storedBefore starts cols vals) (before ro) (before co) (storedBefore ls lc lv) (storedBefore us uc uv) (before y)) size (before out) (after out) (before work) (after work) ⌝ }
 {
     let refused = refusal(s);
     if let Outcome::Refused(number, detail) = refused {
@@ -155,7 +155,7 @@ fn ask_staged(
 //   leaves   the buffer zero past the line, and the working row all zero
 pub fn ask(text: &[u8], y: &[u32], out: &mut [u8], work: &mut [u64]) -> usize
     requires { ⌜ AskLists (now y) (now out) (now work) ⌝ }
-    ensures { λ size. ⌜ Asks (now (text .entry)) (now (y .entry)) size (now (out .entry)) (now (out .exit)) (now (work .entry)) (now (work .exit)) ⌝ }
+    ensures { λ size. ⌜ Asks (before text) (before y) size (before out) (after out) (before work) (after work) ⌝ }
 {
     let mut starts = [0u32; START_CELLS];
     let mut cols = [0u32; ENTRY_CELLS];

@@ -4,6 +4,7 @@ ghost use mathlib.Core.Path.{_≡_};
 ghost use lib.ListN.{length};
 ghost use Rattle.byte_buffer.specs.Stored.{Fills};
 ghost use Rattle.bench_calls.specs.Timed.{heldRank, timedRank, timedReport};
+ghost use Rattle.sparse.specs.Views.{before, after};
 use limits::ENTRY_CELLS;
 use limits::PRINT_ROOM;
 use limits::SIZE_CELLS;
@@ -35,7 +36,7 @@ fn rank_staged(s: Stages) -> u64
 //   leaves   nothing: the text is only read
 #[no_mangle]
 pub extern "C" fn plq_time_factoring(text: &[u8]) -> u64
-    ensures { λ z. ⌜ z ≡ timedRank (now (text .entry)) ⌝ }
+    ensures { λ z. ⌜ z ≡ timedRank (before text) ⌝ }
 {
     let mut starts = [0u32; START_CELLS];
     let mut cols = [0u32; ENTRY_CELLS];
@@ -73,7 +74,7 @@ pub extern "C" fn plq_time_factoring(text: &[u8]) -> u64
 //   leaves   the buffer zero past the report; the text is only read
 #[no_mangle]
 pub extern "C" fn plq_time_report(text: &[u8], out: &mut [u8]) -> u64
-    ensures { λ size. ⌜ Fills (now (out .entry)) (now (out .exit)) size (timedReport (now (text .entry)) (length (now (out .entry)))) ⌝ }
+    ensures { λ size. ⌜ Fills (before out) (after out) size (timedReport (before text) (length (before out))) ⌝ }
 {
     if out.len() < PRINT_ROOM {
         clear_bytes(out);

@@ -1,12 +1,12 @@
 // The public call that answers a question from a certificate. Any content of x, z and the working row is accepted.
 ghost use lib.ListN.{length};
 ghost use Rattle.algebra.specs.Matrix.{vector};
-ghost use Rattle.sparse.specs.Matrix.{compressed};
 ghost use Rattle.row_space.specs.Solve.{solve};
 ghost use Rattle.answer_question.specs.Answering.{Answered};
 ghost use Rattle.certificate.specs.Reading.{setOfCertificate};
 ghost use Rattle.call_check.specs.Calls.{checkCertificateOf, Checks};
 ghost use Rattle.call_answer.specs.Calls.{questionAfter, answerCertificateOf, AnswerPartsReady, Answers};
+ghost use Rattle.sparse.specs.Views.{before, after, storedBefore};
 use crate::Answer;
 use crate::answer_of;
 use crate::question::question_lengths;
@@ -36,7 +36,7 @@ fn asked_of_certificate(
     zlen: usize,
     work: &mut [u64],
 ) -> Outcome
-    ensures { λ o. ⌜ Checks (questionAfter (checkCertificateOf (q .p) n m (compressed (now (starts .entry)) (now (cols .entry)) (now (vals .entry))) (now (cert .entry)) (length (now (work .entry)))) (q .p) n m (now (y .entry)) xlen zlen) o (now (work .entry)) (now (work .exit)) ⌝ }
+    ensures { λ o. ⌜ Checks (questionAfter (checkCertificateOf (q .p) n m (storedBefore starts cols vals) (before cert) (length (before work))) (q .p) n m (before y) xlen zlen) o (before work) (after work) ⌝ }
 {
     if !question_lengths(n, m, y, xlen, zlen) {
         clear_row(work);
@@ -61,7 +61,7 @@ fn answer_parts(
     work: &mut [u64],
 ) -> Verdict
     requires { ⌜ AnswerPartsReady (q .p) n m (now cert) (now y) (now x) (now z) (now work) ⌝ }
-    ensures { λ v. ⌜ Answered (solve (q .p) (length (now (x .entry))) (length (now (z .entry))) (setOfCertificate n m (now (cert .entry))) (vector (now (y .entry)))) v (now (x .exit)) (now (z .exit)) (now (work .exit)) ⌝ }
+    ensures { λ v. ⌜ Answered (solve (q .p) (length (before x)) (length (before z)) (setOfCertificate n m (before cert)) (vector (before y))) v (after x) (after z) (after work) ⌝ }
 {
     let places = places_in(cert, n, m);
     let r = number(cert, 3);
@@ -119,7 +119,7 @@ pub fn answer_from_certificate(
     z: &mut [u32],
     work: &mut [u64],
 ) -> Answer
-    ensures { λ a. ⌜ Answers (answerCertificateOf p n m (compressed (now (starts .entry)) (now (cols .entry)) (now (vals .entry))) (now (cert .entry)) (now (y .entry)) (length (now (x .entry))) (length (now (z .entry))) (length (now (work .entry)))) a (now (x .entry)) (now (x .exit)) (now (z .entry)) (now (z .exit)) (now (work .entry)) (now (work .exit)) ⌝ }
+    ensures { λ a. ⌜ Answers (answerCertificateOf p n m (storedBefore starts cols vals) (before cert) (before y) (length (before x)) (length (before z)) (length (before work))) a (before x) (after x) (before z) (after z) (before work) (after work) ⌝ }
 {
     let q = Modulus { p };
     let asked = asked_of_certificate(q, n, m, starts, cols, vals, cert, y, x.len(), z.len(), work);

@@ -1,12 +1,11 @@
 // The public call that answers a question from stored factors. Any content of x, z and the working row is accepted.
 ghost use lib.ListN.{length};
 ghost use Rattle.algebra.specs.Matrix.{vector};
-ghost use Rattle.sparse.specs.Matrix.{compressed};
-ghost use Rattle.sparse.specs.Set.{setOf};
 ghost use Rattle.row_space.specs.Solve.{solve};
 ghost use Rattle.answer_question.specs.Answering.{AnswerReady, Answered};
 ghost use Rattle.call_check.specs.Calls.{checkFactorsOf, Checks};
 ghost use Rattle.call_answer.specs.Calls.{questionAfter, answerFactorsOf, Answers};
+ghost use Rattle.sparse.specs.Views.{before, after, storedBefore, setAt, setBefore};
 use crate::Answer;
 use crate::answer_of;
 use crate::question::question_lengths;
@@ -42,7 +41,7 @@ fn asked_of_factors(
     zlen: usize,
     work: &mut [u64],
 ) -> Outcome
-    ensures { λ o. ⌜ Checks (questionAfter (checkFactorsOf (q .p) n m (compressed (now (starts .entry)) (now (cols .entry)) (now (vals .entry))) (setOf r (now (ro .entry)) (now (co .entry)) (compressed (now (ls .entry)) (now (lc .entry)) (now (lv .entry))) (compressed (now (us .entry)) (now (uc .entry)) (now (uv .entry)))) (length (now (work .entry)))) (q .p) n m (now (y .entry)) xlen zlen) o (now (work .entry)) (now (work .exit)) ⌝ }
+    ensures { λ o. ⌜ Checks (questionAfter (checkFactorsOf (q .p) n m (storedBefore starts cols vals) (setBefore r ro co ls lc lv us uc uv) (length (before work))) (q .p) n m (before y) xlen zlen) o (before work) (after work) ⌝ }
 {
     if !question_lengths(n, m, y, xlen, zlen) {
         clear_row(work);
@@ -89,8 +88,8 @@ fn answer_stored(
     z: &mut [u32],
     work: &mut [u64],
 ) -> Verdict
-    requires { ⌜ AnswerReady (q .p) (setOf r (now ro) (now co) (compressed (now ls) (now lc) (now lv)) (compressed (now us) (now uc) (now uv))) (now y) (now x) (now z) (now work) ⌝ }
-    ensures { λ v. ⌜ Answered (solve (q .p) (length (now (x .entry))) (length (now (z .entry))) (setOf r (now (ro .entry)) (now (co .entry)) (compressed (now (ls .entry)) (now (lc .entry)) (now (lv .entry))) (compressed (now (us .entry)) (now (uc .entry)) (now (uv .entry)))) (vector (now (y .entry)))) v (now (x .exit)) (now (z .exit)) (now (work .exit)) ⌝ }
+    requires { ⌜ AnswerReady (q .p) (setAt r ro co ls lc lv us uc uv) (now y) (now x) (now z) (now work) ⌝ }
+    ensures { λ v. ⌜ Answered (solve (q .p) (length (before x)) (length (before z)) (setBefore r ro co ls lc lv us uc uv) (vector (before y))) v (after x) (after z) (after work) ⌝ }
 {
     let none: &[u8] = b"";
     answer(
@@ -146,7 +145,7 @@ pub fn answer_from_factors(
     z: &mut [u32],
     work: &mut [u64],
 ) -> Answer
-    ensures { λ a. ⌜ Answers (answerFactorsOf p n m (compressed (now (starts .entry)) (now (cols .entry)) (now (vals .entry))) (setOf r (now (ro .entry)) (now (co .entry)) (compressed (now (ls .entry)) (now (lc .entry)) (now (lv .entry))) (compressed (now (us .entry)) (now (uc .entry)) (now (uv .entry)))) (now (y .entry)) (length (now (x .entry))) (length (now (z .entry))) (length (now (work .entry)))) a (now (x .entry)) (now (x .exit)) (now (z .entry)) (now (z .exit)) (now (work .entry)) (now (work .exit)) ⌝ }
+    ensures { λ a. ⌜ Answers (answerFactorsOf p n m (storedBefore starts cols vals) (setBefore r ro co ls lc lv us uc uv) (before y) (length (before x)) (length (before z)) (length (before work))) a (before x) (after x) (before z) (after z) (before work) (after work) ⌝ }
 {
     let q = Modulus { p };
     let asked = asked_of_factors(

@@ -1,8 +1,8 @@
 // The public call that checks a certificate against a stored plan. Any content of the working row is accepted.
 ghost use mathlib.Core.Path.{_≡_};
 ghost use lib.ListN.{length};
-ghost use Rattle.sparse.specs.Matrix.{compressed};
 ghost use Rattle.call_check.specs.Calls.{certificateOutcome, checkCertificateOf, Checks};
+ghost use Rattle.sparse.specs.Views.{before, after, storedBefore};
 use call_plan::plan_lengths;
 use call_plan::plan_outcome;
 use certificate::header::header_ok;
@@ -27,7 +27,7 @@ fn certificate_outcome(
     cert: &[u8],
     width: usize,
 ) -> Outcome
-    ensures { λ o. ⌜ o ≡ certificateOutcome p n m (compressed (now (starts .entry)) (now (cols .entry)) (now (vals .entry))) (now (cert .entry)) width ⌝ }
+    ensures { λ o. ⌜ o ≡ certificateOutcome p n m (storedBefore starts cols vals) (before cert) width ⌝ }
 {
     if !plan_lengths(n, starts, cols, vals) {
         return Outcome::Refused(WRONG_LENGTH, 0);
@@ -56,7 +56,7 @@ pub fn check_bytes(
     cert: &[u8],
     work: &mut [u64],
 ) -> Outcome
-    ensures { λ o. ⌜ Checks (checkCertificateOf (q .p) n m (compressed (now (starts .entry)) (now (cols .entry)) (now (vals .entry))) (now (cert .entry)) (length (now (work .entry)))) o (now (work .entry)) (now (work .exit)) ⌝ }
+    ensures { λ o. ⌜ Checks (checkCertificateOf (q .p) n m (storedBefore starts cols vals) (before cert) (length (before work))) o (before work) (after work) ⌝ }
 {
     clear_row(work);
     let tested = certificate_outcome(q.p, n, m, starts, cols, vals, cert, work.len());
@@ -122,7 +122,7 @@ pub fn check_certificate(
     cert: &[u8],
     work: &mut [u64],
 ) -> Outcome
-    ensures { λ o. ⌜ Checks (checkCertificateOf p n m (compressed (now (starts .entry)) (now (cols .entry)) (now (vals .entry))) (now (cert .entry)) (length (now (work .entry)))) o (now (work .entry)) (now (work .exit)) ⌝ }
+    ensures { λ o. ⌜ Checks (checkCertificateOf p n m (storedBefore starts cols vals) (before cert) (length (before work))) o (before work) (after work) ⌝ }
 {
     let q = Modulus { p };
     check_bytes(q, n, m, starts, cols, vals, cert, work)

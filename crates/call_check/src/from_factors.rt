@@ -1,9 +1,8 @@
 // The public call that checks stored factors against a stored plan. Any content of the working row is accepted.
 ghost use mathlib.Core.Path.{_≡_};
 ghost use lib.ListN.{length};
-ghost use Rattle.sparse.specs.Matrix.{compressed};
-ghost use Rattle.sparse.specs.Set.{setOf};
 ghost use Rattle.call_check.specs.Calls.{factorsOutcome, checkFactorsOf, Checks};
+ghost use Rattle.sparse.specs.Views.{before, after, storedBefore, setBefore};
 use call_plan::plan_lengths;
 use call_plan::plan_outcome;
 use call_plan::set_lengths;
@@ -33,7 +32,7 @@ fn factors_outcome(
     uv: &[u32],
     width: usize,
 ) -> Outcome
-    ensures { λ o. ⌜ o ≡ factorsOutcome p n m (compressed (now (starts .entry)) (now (cols .entry)) (now (vals .entry))) (setOf r (now (ro .entry)) (now (co .entry)) (compressed (now (ls .entry)) (now (lc .entry)) (now (lv .entry))) (compressed (now (us .entry)) (now (uc .entry)) (now (uv .entry)))) width ⌝ }
+    ensures { λ o. ⌜ o ≡ factorsOutcome p n m (storedBefore starts cols vals) (setBefore r ro co ls lc lv us uc uv) width ⌝ }
 {
     if !plan_lengths(n, starts, cols, vals) {
         return Outcome::Refused(WRONG_LENGTH, 0);
@@ -66,7 +65,7 @@ pub fn check_stored(
     uv: &[u32],
     work: &mut [u64],
 ) -> Outcome
-    ensures { λ o. ⌜ Checks (checkFactorsOf (q .p) n m (compressed (now (starts .entry)) (now (cols .entry)) (now (vals .entry))) (setOf r (now (ro .entry)) (now (co .entry)) (compressed (now (ls .entry)) (now (lc .entry)) (now (lv .entry))) (compressed (now (us .entry)) (now (uc .entry)) (now (uv .entry)))) (length (now (work .entry)))) o (now (work .entry)) (now (work .exit)) ⌝ }
+    ensures { λ o. ⌜ Checks (checkFactorsOf (q .p) n m (storedBefore starts cols vals) (setBefore r ro co ls lc lv us uc uv) (length (before work))) o (before work) (after work) ⌝ }
 {
     clear_row(work);
     let tested = factors_outcome(
@@ -145,7 +144,7 @@ pub fn check_factors(
     uv: &[u32],
     work: &mut [u64],
 ) -> Outcome
-    ensures { λ o. ⌜ Checks (checkFactorsOf p n m (compressed (now (starts .entry)) (now (cols .entry)) (now (vals .entry))) (setOf r (now (ro .entry)) (now (co .entry)) (compressed (now (ls .entry)) (now (lc .entry)) (now (lv .entry))) (compressed (now (us .entry)) (now (uc .entry)) (now (uv .entry)))) (length (now (work .entry)))) o (now (work .entry)) (now (work .exit)) ⌝ }
+    ensures { λ o. ⌜ Checks (checkFactorsOf p n m (storedBefore starts cols vals) (setBefore r ro co ls lc lv us uc uv) (length (before work))) o (before work) (after work) ⌝ }
 {
     let q = Modulus { p };
     check_stored(

@@ -1,9 +1,9 @@
 // The public call that factors a stored plan.
 ghost use mathlib.Core.Path.{_≡_};
-ghost use Rattle.sparse.specs.Matrix.{compressed};
 ghost use Rattle.factor_all.specs.Outcome.{Leaves};
 ghost use Rattle.call_factor.specs.Lengths.{lentLengths, lentOutcome, lentOf};
 ghost use Rattle.call_factor.specs.Calls.{factorCallOf};
+ghost use Rattle.sparse.specs.Views.{before, after, storedBefore, storedAfter};
 use call_plan::plan_lengths;
 use call_plan::plan_outcome;
 use factor_all::clearing::clear_all;
@@ -63,7 +63,7 @@ fn lent_outcome(
     vals: &[u32],
     lent: Lent,
 ) -> Outcome
-    ensures { λ o. ⌜ o ≡ lentOutcome p n m (compressed (now (starts .entry)) (now (cols .entry)) (now (vals .entry))) lent ⌝ }
+    ensures { λ o. ⌜ o ≡ lentOutcome p n m (storedBefore starts cols vals) lent ⌝ }
 {
     if !plan_lengths(n, starts, cols, vals) {
         return Outcome::Refused(WRONG_LENGTH, 0);
@@ -97,7 +97,7 @@ pub fn factor(
     uv: &mut [u32],
     work: &mut [u64],
 ) -> Factored
-    ensures { λ o. ⌜ Leaves (factorCallOf p n m (compressed (now (starts .entry)) (now (cols .entry)) (now (vals .entry))) (lentOf (now (ro .entry)) (now (co .entry)) (compressed (now (ls .entry)) (now (lc .entry)) (now (lv .entry))) (compressed (now (us .entry)) (now (uc .entry)) (now (uv .entry))) (now (work .entry)))) (o .number) (o .detail) (o .rank) (o .structural) (now (ro .exit)) (now (co .exit)) (compressed (now (ls .exit)) (now (lc .exit)) (now (lv .exit))) (compressed (now (us .exit)) (now (uc .exit)) (now (uv .exit))) (now (work .exit)) ⌝ }
+    ensures { λ o. ⌜ Leaves (factorCallOf p n m (storedBefore starts cols vals) (lentOf (before ro) (before co) (storedBefore ls lc lv) (storedBefore us uc uv) (before work))) (o .number) (o .detail) (o .rank) (o .structural) (after ro) (after co) (storedAfter ls lc lv) (storedAfter us uc uv) (after work) ⌝ }
 {
     clear_all(ro, co, ls, lc, lv, us, uc, uv, work);
     let lent = Lent {

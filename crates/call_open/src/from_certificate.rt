@@ -1,10 +1,10 @@
 // The public call that lists the open columns from a certificate. Any content of the list and of the working row is accepted.
 ghost use lib.ListN.{length};
-ghost use Rattle.sparse.specs.Matrix.{compressed};
 ghost use Rattle.row_space.specs.Solve.{openColumns};
 ghost use Rattle.answer_open.specs.Opening.{ColumnsListed};
 ghost use Rattle.certificate.specs.Reading.{setOfCertificate};
 ghost use Rattle.call_open.specs.Calls.{openCertificateOf, OpenPartsReady, Lists};
+ghost use Rattle.sparse.specs.Views.{before, after, storedBefore};
 use answer_open::pivots::open_columns;
 use call_check::from_certificate::check_bytes;
 use certificate::parts::number;
@@ -25,7 +25,7 @@ fn open_columns_of_parts(
     work: &mut [u64],
 )
     requires { ⌜ OpenPartsReady (q .p) n m (now cert) (now marks) (now work) ⌝ }
-    ensures { λ _. ⌜ ColumnsListed (openColumns (q .p) (length (now (marks .entry))) (setOfCertificate n m (now (cert .entry)))) (now (marks .exit)) (now (work .exit)) ⌝ }
+    ensures { λ _. ⌜ ColumnsListed (openColumns (q .p) (length (before marks)) (setOfCertificate n m (before cert))) (after marks) (after work) ⌝ }
 {
     let places = places_in(cert, n, m);
     let r = number(cert, 3);
@@ -67,7 +67,7 @@ pub fn open_columns_from_certificate(
     marks: &mut [u32],
     work: &mut [u64],
 ) -> Outcome
-    ensures { λ o. ⌜ Lists (openCertificateOf p n m (compressed (now (starts .entry)) (now (cols .entry)) (now (vals .entry))) (now (cert .entry)) (length (now (marks .entry))) (length (now (work .entry)))) o (now (marks .entry)) (now (marks .exit)) (now (work .entry)) (now (work .exit)) ⌝ }
+    ensures { λ o. ⌜ Lists (openCertificateOf p n m (storedBefore starts cols vals) (before cert) (length (before marks)) (length (before work))) o (before marks) (after marks) (before work) (after work) ⌝ }
 {
     let q = Modulus { p };
     if marks.len() != m as usize {

@@ -1,8 +1,7 @@
 // The public call that lists the open columns from stored factors. Any content of the list and of the working row is accepted.
 ghost use lib.ListN.{length};
-ghost use Rattle.sparse.specs.Matrix.{compressed};
-ghost use Rattle.sparse.specs.Set.{setOf};
 ghost use Rattle.call_open.specs.Calls.{openFactorsOf, Lists};
+ghost use Rattle.sparse.specs.Views.{before, after, storedBefore, setBefore};
 use answer_open::pivots::open_columns;
 use call_check::from_factors::check_stored;
 use lists::clear;
@@ -36,7 +35,7 @@ pub fn open_columns_from_factors(
     marks: &mut [u32],
     work: &mut [u64],
 ) -> Outcome
-    ensures { λ o. ⌜ Lists (openFactorsOf p n m (compressed (now (starts .entry)) (now (cols .entry)) (now (vals .entry))) (setOf r (now (ro .entry)) (now (co .entry)) (compressed (now (ls .entry)) (now (lc .entry)) (now (lv .entry))) (compressed (now (us .entry)) (now (uc .entry)) (now (uv .entry)))) (length (now (marks .entry))) (length (now (work .entry)))) o (now (marks .entry)) (now (marks .exit)) (now (work .entry)) (now (work .exit)) ⌝ }
+    ensures { λ o. ⌜ Lists (openFactorsOf p n m (storedBefore starts cols vals) (setBefore r ro co ls lc lv us uc uv) (length (before marks)) (length (before work))) o (before marks) (after marks) (before work) (after work) ⌝ }
 {
     let q = Modulus { p };
     if marks.len() != m as usize {

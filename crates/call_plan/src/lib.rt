@@ -1,8 +1,7 @@
 // The tests that every call on a stored plan begins with.
 ghost use mathlib.Core.Path.{_≡_};
-ghost use Rattle.sparse.specs.Matrix.{compressed};
-ghost use Rattle.sparse.specs.Set.{setOf};
 ghost use Rattle.call_plan.specs.Tests.{planLengths, setLengths, limitsOk, planOutcome};
+ghost use Rattle.sparse.specs.Views.{storedBefore, setBefore};
 use limits::ENTRY_CELLS;
 use limits::LARGEST_SIZE;
 use lists::index;
@@ -15,7 +14,7 @@ use sparse::form::form_ok;
 
 // Whether the lists of a matrix of n rows have their lengths.
 pub fn plan_lengths(n: u32, starts: &[u32], cols: &[u32], vals: &[u32]) -> bool
-    ensures { λ r. ⌜ r ≡ planLengths n (compressed (now (starts .entry)) (now (cols .entry)) (now (vals .entry))) ⌝ }
+    ensures { λ r. ⌜ r ≡ planLengths n (storedBefore starts cols vals) ⌝ }
 {
     if starts.len() != index(n) + 1 {
         return false;
@@ -37,7 +36,7 @@ pub fn set_lengths(
     uc: &[u32],
     uv: &[u32],
 ) -> bool
-    ensures { λ z. ⌜ z ≡ setLengths n m (setOf r (now (ro .entry)) (now (co .entry)) (compressed (now (ls .entry)) (now (lc .entry)) (now (lv .entry))) (compressed (now (us .entry)) (now (uc .entry)) (now (uv .entry)))) ⌝ }
+    ensures { λ z. ⌜ z ≡ setLengths n m (setBefore r ro co ls lc lv us uc uv) ⌝ }
 {
     if ro.len() != index(n) {
         return false;
@@ -53,7 +52,7 @@ pub fn set_lengths(
 
 // Whether the sizes and the entry count of a plan keep the limits.
 fn limits_ok(n: u32, m: u32, starts: &[u32], cols: &[u32], vals: &[u32]) -> bool
-    ensures { λ r. ⌜ r ≡ limitsOk n m (compressed (now (starts .entry)) (now (cols .entry)) (now (vals .entry))) ⌝ }
+    ensures { λ r. ⌜ r ≡ limitsOk n m (storedBefore starts cols vals) ⌝ }
 {
     if LARGEST_SIZE < n {
         return false;
@@ -66,7 +65,7 @@ fn limits_ok(n: u32, m: u32, starts: &[u32], cols: &[u32], vals: &[u32]) -> bool
 
 // 1, 2 and 8.
 pub fn plan_outcome(p: u32, n: u32, m: u32, starts: &[u32], cols: &[u32], vals: &[u32]) -> Outcome
-    ensures { λ o. ⌜ o ≡ planOutcome p n m (compressed (now (starts .entry)) (now (cols .entry)) (now (vals .entry))) ⌝ }
+    ensures { λ o. ⌜ o ≡ planOutcome p n m (storedBefore starts cols vals) ⌝ }
 {
     if !is_modulus(p) {
         return Outcome::Refused(BAD_MODULUS, 0);

@@ -1,9 +1,8 @@
 // The public call that writes a certificate.
 ghost use lib.ListN.{length};
-ghost use Rattle.sparse.specs.Matrix.{compressed};
-ghost use Rattle.sparse.specs.Set.{setOf};
 ghost use Rattle.certificate.specs.Layout.{certificateOf};
 ghost use Rattle.call_write.specs.Call.{writeOutcome, WritesCertificate};
+ghost use Rattle.sparse.specs.Views.{before, after, storedBefore, setBefore};
 use call_check::check_factors;
 use certificate::writer::write;
 use lists::clear_bytes;
@@ -40,7 +39,7 @@ pub fn write_certificate(
     buffer: &mut [u8],
     work: &mut [u64],
 ) -> Written
-    ensures { λ z. ⌜ WritesCertificate (writeOutcome p n m (compressed (now (starts .entry)) (now (cols .entry)) (now (vals .entry))) (setOf r (now (ro .entry)) (now (co .entry)) (compressed (now (ls .entry)) (now (lc .entry)) (now (lv .entry))) (compressed (now (us .entry)) (now (uc .entry)) (now (uv .entry)))) (length (now (work .entry))) (length (now (buffer .entry)))) (certificateOf p n m (setOf r (now (ro .entry)) (now (co .entry)) (compressed (now (ls .entry)) (now (lc .entry)) (now (lv .entry))) (compressed (now (us .entry)) (now (uc .entry)) (now (uv .entry))))) z (now (buffer .entry)) (now (buffer .exit)) (now (work .entry)) (now (work .exit)) ⌝ }
+    ensures { λ z. ⌜ WritesCertificate (writeOutcome p n m (storedBefore starts cols vals) (setBefore r ro co ls lc lv us uc uv) (length (before work)) (length (before buffer))) (certificateOf p n m (setBefore r ro co ls lc lv us uc uv)) z (before buffer) (after buffer) (before work) (after work) ⌝ }
 {
     let checked = check_factors(
         p,

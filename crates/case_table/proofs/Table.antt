@@ -21,7 +21,7 @@ use Rattle.residue.specs.Range.{isModulus}
 use Rattle.residue.proofs.Primes.{true-prime}
 use Rattle.sparse.specs.Words.{words}
 use Rattle.sparse.specs.Matrix.{matrix}
-use Rattle.sparse.specs.Form.{startsFrom, starts, risesFrom, rowsFrom, values, wellFormed}
+use Rattle.sparse.specs.Form.{startsFrom, startsOk, risesFrom, rowsFrom, valuesOk, wellFormed}
 use Rattle.sparse.specs.Row.{weigh}
 use Rattle.sparse.specs.Dense.{columnsFrom, nonzeros, startsAfter, allColumns, allValues, compress}
 use Rattle.lists.specs.Tests.{among}
@@ -95,7 +95,7 @@ unfolding isPrime dividedBelow
 two = true-prime 2 refl
 
 pub table : Table
-unfolding zeros tabulate all first sum dot δ place reduced invMod inverseBelow startsFrom starts risesFrom rowsFrom values wellFormed weigh columnsFrom nonzeros startsAfter allColumns allValues compress among below distinct permutation lowerRow lower upperRow upper agrees productOutcome judgeFactors judge backL backU lowest solve leads prefer chosen leading chain closes lowerOf without unfit extended extendedTo free lowestOf ordered selected structural columnsOf uppersOf coefficients withPivot withDependent placedRow turn turns isIn rest schedule rowsOf lowersOf factored factorFrom factor words bytes mark version factorNumbers numbersOf certificateOf placesOf field setIn setOfCertificate begins lengthOk sizesOk headerOk isPrime dividedBelow isModulus planLengths setLengths limitsOk planOutcome certificateOutcome checkCertificateOf
+unfolding zeros tabulate all first sum dot δ place reduced invMod inverseBelow startsFrom startsOk risesFrom rowsFrom valuesOk wellFormed weigh columnsFrom nonzeros startsAfter allColumns allValues compress among below distinct permutation lowerRow lower upperRow upper agrees productOutcome judgeFactors judge backL backU lowest solve leads prefer chosen leading chain closes lowerOf without unfit extended extendedTo free lowestOf ordered selected structural columnsOf uppersOf coefficients withPivot withDependent placedRow turn turns isIn rest schedule rowsOf lowersOf factored factorFrom factor words bytes mark version factorNumbers numbersOf certificateOf placesOf field setIn setOfCertificate begins lengthOk sizesOk headerOk isPrime dividedBelow isModulus planLengths setLengths limitsOk planOutcome certificateOutcome checkCertificateOf
 table =
     record {
       empty-rank = factor-rank 7 0 0 silent seven refl refl;

@@ -8,7 +8,7 @@ use lib.Dec.{eqb, leb}
 use lib.ListN.{length}
 use borrow.Author.Tests.{eqb-true}
 use Rattle.lists.proofs.Bools.{and-left, and-right}
-use Rattle.sparse.specs.Form.{startsFrom, starts, wellFormed}
+use Rattle.sparse.specs.Form.{startsFrom, startsOk, wellFormed}
 use Rattle.sparse.specs.Matrix.{Compressed, form}
 use Rattle.sparse.specs.Row.{Below}
 use Rattle.sparse.proofs.Bounds.{below-tail}
@@ -18,8 +18,8 @@ unfolding startsFrom
 last-below b count from [] e h g = subst (λ (x : ℕ). x < b) (eqb-true from count e) h
 last-below b count from (s ∷ ss) e h g = last-below b count s ss (and-right (leb from s) (startsFrom count s ss) e) (g 0 (omega arith)) (below-tail b s ss g)
 
-count-below : (b count : ℕ) (ss : List ℕ) → starts count ss ≡ true → Below b ss → count < b
-unfolding starts
+count-below : (b count : ℕ) (ss : List ℕ) → startsOk count ss ≡ true → Below b ss → count < b
+unfolding startsOk
 count-below b count [] e g = absurd (false≢true e)
 count-below b count (s ∷ ss) e g =
     let h : 0 < b = omega (arith, g 0 (omega arith)) in
@@ -27,4 +27,4 @@ count-below b count (s ∷ ss) e g =
 
 pub entries-below : (b p width : ℕ) (h : Compressed) → form p width h ≡ true → Below b (h .starts) → length (h .cols) < b
 unfolding wellFormed
-entries-below b p width h e g = count-below b (length (h .cols)) (h .starts) (and-left (starts (length (h .cols)) (h .starts)) _ e) g
+entries-below b p width h e g = count-below b (length (h .cols)) (h .starts) (and-left (startsOk (length (h .cols)) (h .starts)) _ e) g

@@ -3,12 +3,13 @@ ghost use mathlib.Core.Path.{_≡_};
 ghost use Prim.Native.Nat.{_≤_};
 ghost use lib.ListN.{length};
 ghost use Rattle.certificate.specs.Reading.{begins, lengthOk, sizesOk, headerOk};
+ghost use Rattle.sparse.specs.Views.{before};
 use crate::parts::number;
 use crate::parts::places_of;
 
 // Whether s begins with the bytes of start.
 fn starts_with(s: &[u8], start: &[u8]) -> bool
-    ensures { λ r. ⌜ r ≡ begins (now (start .entry)) (now (s .entry)) ⌝ }
+    ensures { λ r. ⌜ r ≡ begins (before start) (before s) ⌝ }
 {
     let mut i = 0;
     while i < start.len() {
@@ -26,7 +27,7 @@ fn starts_with(s: &[u8], start: &[u8]) -> bool
 // Whether the length is the one that the header's own numbers give.
 fn length_ok(cert: &[u8]) -> bool
     requires { ⌜ 29 ≤ length (now cert) ⌝ }
-    ensures { λ r. ⌜ r ≡ lengthOk (now (cert .entry)) ⌝ }
+    ensures { λ r. ⌜ r ≡ lengthOk (before cert) ⌝ }
 {
     let n = number(cert, 1);
     let m = number(cert, 2);
@@ -40,7 +41,7 @@ fn length_ok(cert: &[u8]) -> bool
 // Whether p, n and m are those of the matrix.
 fn sizes_ok(cert: &[u8], p: u32, n: u32, m: u32) -> bool
     requires { ⌜ 29 ≤ length (now cert) ⌝ }
-    ensures { λ r. ⌜ r ≡ sizesOk p n m (now (cert .entry)) ⌝ }
+    ensures { λ r. ⌜ r ≡ sizesOk p n m (before cert) ⌝ }
 {
     if number(cert, 0) != p {
         return false;
@@ -53,7 +54,7 @@ fn sizes_ok(cert: &[u8], p: u32, n: u32, m: u32) -> bool
 
 // Whether mark, version, length and sizes are those of a certificate for an n by m matrix modulo p.
 pub fn header_ok(cert: &[u8], p: u32, n: u32, m: u32) -> bool
-    ensures { λ r. ⌜ r ≡ headerOk p n m (now (cert .entry)) ⌝ }
+    ensures { λ r. ⌜ r ≡ headerOk p n m (before cert) ⌝ }
 {
     if !starts_with(cert, b"PLQ") {
         return false;

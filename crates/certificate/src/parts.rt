@@ -3,6 +3,7 @@ ghost use mathlib.Core.Path.{_≡_};
 ghost use Prim.Native.Nat.{_≤_, _<_};
 ghost use lib.ListN.{length};
 ghost use Rattle.certificate.specs.Reading.{field, placesOf, placesIn, Located};
+ghost use Rattle.sparse.specs.Views.{before};
 use lists::index;
 use sparse::words::word;
 
@@ -53,7 +54,7 @@ pub fn places_of(n: u32, m: u32, r: u32, lcount: u32, ucount: u32) -> Places
 // The header's number k: p, n, m, r, the entry counts of L and U.
 pub fn number(cert: &[u8], k: usize) -> u32
     requires { ⌜ (k < 6) × (29 ≤ length (now cert)) ⌝ }
-    ensures { λ r. ⌜ r ≡ field (now (cert .entry)) k ⌝ }
+    ensures { λ r. ⌜ r ≡ field (before cert) k ⌝ }
 {
     word(&[], &cert[5..], k)
 }
@@ -61,7 +62,7 @@ pub fn number(cert: &[u8], k: usize) -> u32
 // The places in a certificate that has the right length for an n by m matrix and the rank and entry counts of its header.
 pub fn places_in(cert: &[u8], n: u32, m: u32) -> Places
     requires { ⌜ length (now cert) ≡ placesIn n m (now cert) .end ⌝ }
-    ensures { λ q. ⌜ Located n m (now (cert .entry)) q ⌝ }
+    ensures { λ q. ⌜ Located n m (before cert) q ⌝ }
 {
     let r = number(cert, 3);
     let lcount = number(cert, 4);

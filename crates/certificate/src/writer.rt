@@ -4,11 +4,10 @@ ghost use mathlib.Core.List.{_∷_, [], _++_};
 ghost use Prim.Native.Nat.{_+_, _*_, _≤_};
 ghost use lib.ListN.{length};
 ghost use lib.Seq.{sets};
-ghost use Rattle.sparse.specs.Matrix.{compressed};
-ghost use Rattle.sparse.specs.Set.{setOf};
 ghost use Rattle.byte_buffer.specs.Stored.{Stored};
 ghost use Rattle.certificate.specs.Layout.{bytes, mark, version, headerNumbers, factorNumbers, certificateOf};
 ghost use Rattle.certificate.specs.Writing.{Writes, Writable, CertificateRoom};
+ghost use Rattle.sparse.specs.Views.{before, after, storedBefore, setAt, setBefore};
 use crate::parts::places_of;
 use byte_buffer::put_bytes;
 use lists::clear_bytes;
@@ -16,7 +15,7 @@ use lists::clear_bytes;
 // Stores a number as four bytes, least significant first.
 fn put_word(x: u32, buffer: &mut [u8], at: usize)
     requires { ⌜ at + 4 ≤ length (now buffer) ⌝ }
-    ensures { λ _. ⌜ now (buffer .exit) ≡ sets (now (buffer .entry)) at (bytes (x ∷ [])) ⌝ }
+    ensures { λ _. ⌜ after buffer ≡ sets (before buffer) at (bytes (x ∷ [])) ⌝ }
 {
     buffer[at] = (x % 256) as u8;
     buffer[at + 1] = (x / 256 % 256) as u8;
@@ -27,7 +26,7 @@ fn put_word(x: u32, buffer: &mut [u8], at: usize)
 // Stores the numbers of a list from a place on; the place after them.
 fn put_words(list: &[u32], buffer: &mut [u8], at: usize) -> usize
     requires { ⌜ at + 4 * length (now list) ≤ length (now buffer) ⌝ }
-    ensures { λ r. ⌜ Stored (now (buffer .entry)) (now (buffer .exit)) at r (bytes (now (list .entry))) ⌝ }
+    ensures { λ r. ⌜ Stored (before buffer) (after buffer) at r (bytes (before list)) ⌝ }
 {
     let mut next = at;
     let mut i = 0;
@@ -42,7 +41,7 @@ fn put_words(list: &[u32], buffer: &mut [u8], at: usize) -> usize
 // Stores mark, version and the header's numbers at the front; the place after them.
 fn put_header(p: u32, n: u32, m: u32, r: u32, lcount: u32, ucount: u32, buffer: &mut [u8]) -> usize
     requires { ⌜ 29 ≤ length (now buffer) ⌝ }
-    ensures { λ z. ⌜ Stored (now (buffer .entry)) (now (buffer .exit)) 0 z (mark ++ (version ++ bytes (headerNumbers p n m r lcount ucount))) ⌝ }
+    ensures { λ z. ⌜ Stored (before buffer) (after buffer) 0 z (mark ++ (version ++ bytes (headerNumbers p n m r lcount ucount))) ⌝ }
 {
     let numbers = [p, n, m, r, lcount, ucount];
     let after_mark = put_bytes(b"PLQ", buffer, 0);
@@ -53,7 +52,7 @@ fn put_header(p: u32, n: u32, m: u32, r: u32, lcount: u32, ucount: u32, buffer: 
 // Stores the three lists of a factor from a place on; the place after them.
 fn put_factor(starts: &[u32], cols: &[u32], vals: &[u32], buffer: &mut [u8], at: usize) -> usize
     requires { ⌜ at + 4 * (length (now starts) + (length (now cols) + length (now vals))) ≤ length (now buffer) ⌝ }
-    ensures { λ r. ⌜ Stored (now (buffer .entry)) (now (buffer .exit)) at r (bytes (factorNumbers (compressed (now (starts .entry)) (now (cols .entry)) (now (vals .entry))))) ⌝ }
+    ensures { λ r. ⌜ Stored (before buffer) (after buffer) at r (bytes (factorNumbers (storedBefore starts cols vals))) ⌝ }
 {
     let after_starts = put_words(starts, buffer, at);
     let after_cols = put_words(cols, buffer, after_starts);
@@ -76,8 +75,8 @@ fn put_certificate(
     uv: &[u32],
     buffer: &mut [u8],
 ) -> usize
-    requires { ⌜ CertificateRoom p n m (setOf r (now ro) (now co) (compressed (now ls) (now lc) (now lv)) (compressed (now us) (now uc) (now uv))) (now buffer) ⌝ }
-    ensures { λ z. ⌜ Stored (now (buffer .entry)) (now (buffer .exit)) 0 z (certificateOf p n m (setOf r (now (ro .entry)) (now (co .entry)) (compressed (now (ls .entry)) (now (lc .entry)) (now (lv .entry))) (compressed (now (us .entry)) (now (uc .entry)) (now (uv .entry))))) ⌝ }
+    requires { ⌜ CertificateRoom p n m (setAt r ro co ls lc lv us uc uv) (now buffer) ⌝ }
+    ensures { λ z. ⌜ Stored (before buffer) (after buffer) 0 z (certificateOf p n m (setBefore r ro co ls lc lv us uc uv)) ⌝ }
 {
     let after_header = put_header(p, n, m, r, lc.len() as u32, uc.len() as u32, buffer);
     let after_rows = put_words(ro, buffer, after_header);
@@ -103,8 +102,8 @@ pub fn write(
     uv: &[u32],
     buffer: &mut [u8],
 ) -> usize
-    requires { ⌜ Writable n m (setOf r (now ro) (now co) (compressed (now ls) (now lc) (now lv)) (compressed (now us) (now uc) (now uv))) ⌝ }
-    ensures { λ z. ⌜ Writes (certificateOf p n m (setOf r (now (ro .entry)) (now (co .entry)) (compressed (now (ls .entry)) (now (lc .entry)) (now (lv .entry))) (compressed (now (us .entry)) (now (uc .entry)) (now (uv .entry))))) (now (buffer .entry)) (now (buffer .exit)) z ⌝ }
+    requires { ⌜ Writable n m (setAt r ro co ls lc lv us uc uv) ⌝ }
+    ensures { λ z. ⌜ Writes (certificateOf p n m (setBefore r ro co ls lc lv us uc uv)) (before buffer) (after buffer) z ⌝ }
 {
     clear_bytes(buffer);
     let places = places_of(n, m, r, lc.len() as u32, uc.len() as u32);

@@ -5,10 +5,10 @@ ghost use lib.ListN.{length, getD};
 ghost use Rattle.lists.specs.Filled.{zeros};
 ghost use Rattle.lists.specs.Tests.{first};
 ghost use Rattle.algebra.specs.Matrix.{vector};
-ghost use Rattle.sparse.specs.Words.{view};
 ghost use Rattle.sparse.specs.Row.{weigh};
-ghost use Rattle.sparse.specs.Matrix.{viewed, matrix};
+ghost use Rattle.sparse.specs.Matrix.{matrix};
 ghost use Rattle.sparse.specs.WorkingRow.{Subtracted};
+ghost use Rattle.sparse.specs.Views.{before, after, viewAt, viewBefore, viewedAt, viewedBefore};
 ghost use Rattle.pluq.specs.Judge.{agrees};
 ghost use Rattle.check_product.specs.Combination.{isCombination};
 ghost use Rattle.check_product.specs.Needs.{CombinesRows, ComparesRow, Comparable};
@@ -26,8 +26,8 @@ use sparse::words::word;
 
 // The number at place t of a list, as an index.
 fn index_at(list: &[u32], bytes: &[u8], t: usize) -> usize
-    requires { ⌜ t < length (view (now list) (now bytes)) ⌝ }
-    ensures { λ r. ⌜ r ≡ getD (view (now (list .entry)) (now (bytes .entry))) t 0 ⌝ }
+    requires { ⌜ t < length (viewAt list bytes) ⌝ }
+    ensures { λ r. ⌜ r ≡ getD (viewBefore list bytes) t 0 ⌝ }
 {
     index(word(list, bytes, t))
 }
@@ -48,8 +48,8 @@ fn subtract_rows(
     r: usize,
     work: &mut [u64],
 )
-    requires { ⌜ CombinesRows (q .p) r (view (now ks) (now kb)) (view (now vs) (now vb)) (viewed (now us) (now usb) (now uc) (now ucb) (now uv) (now uvb)) (now work) ⌝ }
-    ensures { λ _. ⌜ Subtracted (q .p) (λ j. weigh (view (now (ks .entry)) (now (kb .entry))) (view (now (vs .entry)) (now (vb .entry))) (λ k. matrix (viewed (now (us .entry)) (now (usb .entry)) (now (uc .entry)) (now (ucb .entry)) (now (uv .entry)) (now (uvb .entry))) k j)) (now (work .entry)) (now (work .exit)) ⌝ }
+    requires { ⌜ CombinesRows (q .p) r (viewAt ks kb) (viewAt vs vb) (viewedAt us usb uc ucb uv uvb) (now work) ⌝ }
+    ensures { λ _. ⌜ Subtracted (q .p) (λ j. weigh (viewBefore ks kb) (viewBefore vs vb) (λ k. matrix (viewedBefore us usb uc ucb uv uvb) k j)) (before work) (after work) ⌝ }
 {
     let n = count(ks, kb);
     let mut t = 0;
@@ -80,8 +80,8 @@ fn is_combination(
     r: usize,
     work: &mut [u64],
 ) -> bool
-    requires { ⌜ ComparesRow (q .p) r (view (now cols) (now cb)) (view (now ks) (now kb)) (view (now vs) (now vb)) (viewed (now us) (now usb) (now uc) (now ucb) (now uv) (now uvb)) (now work) ⌝ }
-    ensures { λ z. ⌜ (z ≡ isCombination (q .p) (now (work .entry)) (view (now (ks .entry)) (now (kb .entry))) (view (now (vs .entry)) (now (vb .entry))) (matrix (viewed (now (us .entry)) (now (usb .entry)) (now (uc .entry)) (now (ucb .entry)) (now (uv .entry)) (now (uvb .entry))))) × (now (work .exit) ≡ zeros (length (now (work .entry)))) ⌝ }
+    requires { ⌜ ComparesRow (q .p) r (viewAt cols cb) (viewAt ks kb) (viewAt vs vb) (viewedAt us usb uc ucb uv uvb) (now work) ⌝ }
+    ensures { λ z. ⌜ (z ≡ isCombination (q .p) (before work) (viewBefore ks kb) (viewBefore vs vb) (matrix (viewedBefore us usb uc ucb uv uvb))) × (after work ≡ zeros (length (before work))) ⌝ }
 {
     subtract_rows(q, ks, kb, vs, vb, us, usb, uc, ucb, uv, uvb, r, work);
     clear_touched(q, cols, cb, ks, kb, us, usb, uc, ucb, work)
@@ -116,8 +116,8 @@ fn row_agrees(
     i: usize,
     work: &mut [u64],
 ) -> bool
-    requires { ⌜ (i < n) × Comparable (q .p) n r (viewed (now starts) (now sb) (now cols) (now cb) (now vals) (now vb)) (view (now ro) (now rob)) (viewed (now ls) (now lsb) (now lc) (now lcb) (now lv) (now lvb)) (viewed (now us) (now usb) (now uc) (now ucb) (now uv) (now uvb)) (now work) ⌝ }
-    ensures { λ z. ⌜ (z ≡ agrees (q .p) (length (now (work .entry))) r (matrix (viewed (now (starts .entry)) (now (sb .entry)) (now (cols .entry)) (now (cb .entry)) (now (vals .entry)) (now (vb .entry)))) (vector (view (now (ro .entry)) (now (rob .entry)))) (matrix (viewed (now (ls .entry)) (now (lsb .entry)) (now (lc .entry)) (now (lcb .entry)) (now (lv .entry)) (now (lvb .entry)))) (matrix (viewed (now (us .entry)) (now (usb .entry)) (now (uc .entry)) (now (ucb .entry)) (now (uv .entry)) (now (uvb .entry)))) i) × (now (work .exit) ≡ now (work .entry)) ⌝ }
+    requires { ⌜ (i < n) × Comparable (q .p) n r (viewedAt starts sb cols cb vals vb) (viewAt ro rob) (viewedAt ls lsb lc lcb lv lvb) (viewedAt us usb uc ucb uv uvb) (now work) ⌝ }
+    ensures { λ z. ⌜ (z ≡ agrees (q .p) (length (before work)) r (matrix (viewedBefore starts sb cols cb vals vb)) (vector (viewBefore ro rob)) (matrix (viewedBefore ls lsb lc lcb lv lvb)) (matrix (viewedBefore us usb uc ucb uv uvb)) i) × (after work ≡ before work) ⌝ }
 {
     let k = index_at(ro, rob, i);
     subtract_row(q, starts, sb, cols, cb, vals, vb, k, q.p - 1, work);
@@ -171,8 +171,8 @@ pub fn first_differing(
     n: usize,
     work: &mut [u64],
 ) -> usize
-    requires { ⌜ Comparable (q .p) n r (viewed (now starts) (now sb) (now cols) (now cb) (now vals) (now vb)) (view (now ro) (now rob)) (viewed (now ls) (now lsb) (now lc) (now lcb) (now lv) (now lvb)) (viewed (now us) (now usb) (now uc) (now ucb) (now uv) (now uvb)) (now work) ⌝ }
-    ensures { λ z. ⌜ (z ≡ first n (agrees (q .p) (length (now (work .entry))) r (matrix (viewed (now (starts .entry)) (now (sb .entry)) (now (cols .entry)) (now (cb .entry)) (now (vals .entry)) (now (vb .entry)))) (vector (view (now (ro .entry)) (now (rob .entry)))) (matrix (viewed (now (ls .entry)) (now (lsb .entry)) (now (lc .entry)) (now (lcb .entry)) (now (lv .entry)) (now (lvb .entry)))) (matrix (viewed (now (us .entry)) (now (usb .entry)) (now (uc .entry)) (now (ucb .entry)) (now (uv .entry)) (now (uvb .entry)))))) × (now (work .exit) ≡ now (work .entry)) ⌝ }
+    requires { ⌜ Comparable (q .p) n r (viewedAt starts sb cols cb vals vb) (viewAt ro rob) (viewedAt ls lsb lc lcb lv lvb) (viewedAt us usb uc ucb uv uvb) (now work) ⌝ }
+    ensures { λ z. ⌜ (z ≡ first n (agrees (q .p) (length (before work)) r (matrix (viewedBefore starts sb cols cb vals vb)) (vector (viewBefore ro rob)) (matrix (viewedBefore ls lsb lc lcb lv lvb)) (matrix (viewedBefore us usb uc ucb uv uvb)))) × (after work ≡ before work) ⌝ }
 {
     let mut i = 0;
     while i < n {

@@ -4,9 +4,9 @@ ghost use mathlib.Core.Bool.{_&&_, true};
 ghost use Prim.Native.Nat.{_+_, _-_, _%_, _<_};
 ghost use lib.Dec.{eqb};
 ghost use lib.ListN.{length, getD};
-ghost use Rattle.sparse.specs.Words.{view};
 ghost use Rattle.check_product.specs.Sweep.{Among, AmongRows, Swept, TestedAndCleared};
 ghost use Rattle.check_product.specs.Needs.{StartsRise, CountsRows, SweepsRow, SweepsRows, ClearsTouched};
+ghost use Rattle.sparse.specs.Views.{before, after, viewAt, viewBefore};
 use crate::index_at;
 use residue::Modulus;
 use sparse::words::bytes_part;
@@ -27,7 +27,7 @@ fn still_zero(q: Modulus, zero: bool, x: u64) -> bool
 // Whether every cell stands for 0; all cells are set to 0.
 fn zero_and_clear(q: Modulus, work: &mut [u64]) -> bool
     requires { ⌜ 0 < q .p ⌝ }
-    ensures { λ z. ⌜ TestedAndCleared (q .p) (now (work .entry)) (now (work .exit)) z ⌝ }
+    ensures { λ z. ⌜ TestedAndCleared (q .p) (before work) (after work) z ⌝ }
 {
     let mut zero = true;
     let mut j = 0;
@@ -41,8 +41,8 @@ fn zero_and_clear(q: Modulus, work: &mut [u64]) -> bool
 
 // Whether all cells so far stood for 0, and those at the columns of a row do; these are set to 0.
 fn sweep_row(q: Modulus, cols: &[u32], cb: &[u8], zero: bool, work: &mut [u64]) -> bool
-    requires { ⌜ SweepsRow (q .p) (view (now cols) (now cb)) (now work) ⌝ }
-    ensures { λ z. ⌜ Swept (q .p) (Among (view (now (cols .entry)) (now (cb .entry)))) zero (now (work .entry)) (now (work .exit)) z ⌝ }
+    requires { ⌜ SweepsRow (q .p) (viewAt cols cb) (now work) ⌝ }
+    ensures { λ z. ⌜ Swept (q .p) (Among (viewBefore cols cb)) zero (before work) (after work) z ⌝ }
 {
     let n = count(cols, cb);
     let mut so_far = zero;
@@ -68,8 +68,8 @@ fn sweep_rows(
     ucb: &[u8],
     work: &mut [u64],
 ) -> bool
-    requires { ⌜ SweepsRows (q .p) (view (now ks) (now kb)) (view (now us) (now usb)) (view (now uc) (now ucb)) (now work) ⌝ }
-    ensures { λ z. ⌜ Swept (q .p) (AmongRows (view (now (ks .entry)) (now (kb .entry))) (view (now (us .entry)) (now (usb .entry))) (view (now (uc .entry)) (now (ucb .entry)))) true (now (work .entry)) (now (work .exit)) z ⌝ }
+    requires { ⌜ SweepsRows (q .p) (viewAt ks kb) (viewAt us usb) (viewAt uc ucb) (now work) ⌝ }
+    ensures { λ z. ⌜ Swept (q .p) (AmongRows (viewBefore ks kb) (viewBefore us usb) (viewBefore uc ucb)) true (before work) (after work) z ⌝ }
 {
     let n = count(ks, kb);
     let mut zero = true;
@@ -92,8 +92,8 @@ fn sweep_rows(
 
 // How many entries row k has.
 fn row_length(starts: &[u32], sb: &[u8], k: usize) -> usize
-    requires { ⌜ (k + 1 < length (view (now starts) (now sb))) × StartsRise (view (now starts) (now sb)) ⌝ }
-    ensures { λ r. ⌜ r ≡ getD (view (now (starts .entry)) (now (sb .entry))) (k + 1) 0 - getD (view (now (starts .entry)) (now (sb .entry))) k 0 ⌝ }
+    requires { ⌜ (k + 1 < length (viewAt starts sb)) × StartsRise (viewAt starts sb) ⌝ }
+    ensures { λ r. ⌜ r ≡ getD (viewBefore starts sb) (k + 1) 0 - getD (viewBefore starts sb) k 0 ⌝ }
 {
     index_at(starts, sb, k + 1) - index_at(starts, sb, k)
 }
@@ -102,7 +102,7 @@ fn row_length(starts: &[u32], sb: &[u8], k: usize) -> usize
 // It counts down, and ends where nothing is left. The answer only chooses the shorter of two ways to one result: the
 // contract says nothing of it.
 fn touches_few(ks: &[u32], kb: &[u8], us: &[u32], usb: &[u8], own: usize, cells: usize) -> bool
-    requires { ⌜ CountsRows (view (now ks) (now kb)) (view (now us) (now usb)) ⌝ }
+    requires { ⌜ CountsRows (viewAt ks kb) (viewAt us usb) ⌝ }
 {
     let n = count(ks, kb);
     let mut left = cells;
@@ -133,8 +133,8 @@ pub fn clear_touched(
     ucb: &[u8],
     work: &mut [u64],
 ) -> bool
-    requires { ⌜ ClearsTouched (q .p) (view (now cols) (now cb)) (view (now ks) (now kb)) (view (now us) (now usb)) (view (now uc) (now ucb)) (now work) ⌝ }
-    ensures { λ z. ⌜ TestedAndCleared (q .p) (now (work .entry)) (now (work .exit)) z ⌝ }
+    requires { ⌜ ClearsTouched (q .p) (viewAt cols cb) (viewAt ks kb) (viewAt us usb) (viewAt uc ucb) (now work) ⌝ }
+    ensures { λ z. ⌜ TestedAndCleared (q .p) (before work) (after work) z ⌝ }
 {
     let own = count(cols, cb);
     if !touches_few(ks, kb, us, usb, own, work.len()) {

@@ -1,11 +1,9 @@
 // The check of a set against a stored matrix: refusals 11 to 14, in order. The names of the lists of a set: `ro` and `co` are the
 // row and column order, `ls`, `lc`, `lv` the starts, columns and values of L, `us`, `uc`, `uv` those of U, each with its bytes.
 ghost use mathlib.Core.Path.{_≡_};
-ghost use Rattle.sparse.specs.Words.{view};
-ghost use Rattle.sparse.specs.Matrix.{viewed};
-ghost use Rattle.sparse.specs.Set.{setOf};
 ghost use Rattle.pluq.specs.Judge.{judgeFactors, judge};
 ghost use Rattle.check_set.specs.Needs.{Judgeable, Checkable};
+ghost use Rattle.sparse.specs.Views.{before, after, viewedAt, viewedBefore, viewedSetAt, viewedSetBefore};
 use check_product::first_differing;
 use check_shape::lower::lower_ok;
 use check_shape::order::is_permutation;
@@ -48,8 +46,8 @@ pub fn judge_factors(
     r: u32,
     work: &mut [u64],
 ) -> Outcome
-    requires { ⌜ Judgeable (q .p) n m (viewed (now starts) (now sb) (now cols) (now cb) (now vals) (now vb)) (setOf r (view (now ro) (now rob)) (view (now co) (now cob)) (viewed (now ls) (now lsb) (now lc) (now lcb) (now lv) (now lvb)) (viewed (now us) (now usb) (now uc) (now ucb) (now uv) (now uvb))) (now work) ⌝ }
-    ensures { λ o. ⌜ (o ≡ judgeFactors (q .p) n m (viewed (now (starts .entry)) (now (sb .entry)) (now (cols .entry)) (now (cb .entry)) (now (vals .entry)) (now (vb .entry))) (setOf r (view (now (ro .entry)) (now (rob .entry))) (view (now (co .entry)) (now (cob .entry))) (viewed (now (ls .entry)) (now (lsb .entry)) (now (lc .entry)) (now (lcb .entry)) (now (lv .entry)) (now (lvb .entry))) (viewed (now (us .entry)) (now (usb .entry)) (now (uc .entry)) (now (ucb .entry)) (now (uv .entry)) (now (uvb .entry))))) × (now (work .exit) ≡ now (work .entry)) ⌝ }
+    requires { ⌜ Judgeable (q .p) n m (viewedAt starts sb cols cb vals vb) (viewedSetAt r ro rob co cob ls lsb lc lcb lv lvb us usb uc ucb uv uvb) (now work) ⌝ }
+    ensures { λ o. ⌜ (o ≡ judgeFactors (q .p) n m (viewedBefore starts sb cols cb vals vb) (viewedSetBefore r ro rob co cob ls lsb lc lcb lv lvb us usb uc ucb uv uvb)) × (after work ≡ before work) ⌝ }
 {
     if !form_ok(ls, lsb, lc, lcb, lv, lvb, r, q.p) {
         return Outcome::Refused(BAD_FACTORS, 0);
@@ -125,8 +123,8 @@ pub fn check(
     r: u32,
     work: &mut [u64],
 ) -> Outcome
-    requires { ⌜ Checkable (q .p) n m (viewed (now starts) (now sb) (now cols) (now cb) (now vals) (now vb)) (setOf r (view (now ro) (now rob)) (view (now co) (now cob)) (viewed (now ls) (now lsb) (now lc) (now lcb) (now lv) (now lvb)) (viewed (now us) (now usb) (now uc) (now ucb) (now uv) (now uvb))) (now work) ⌝ }
-    ensures { λ o. ⌜ (o ≡ judge (q .p) n m (viewed (now (starts .entry)) (now (sb .entry)) (now (cols .entry)) (now (cb .entry)) (now (vals .entry)) (now (vb .entry))) (setOf r (view (now (ro .entry)) (now (rob .entry))) (view (now (co .entry)) (now (cob .entry))) (viewed (now (ls .entry)) (now (lsb .entry)) (now (lc .entry)) (now (lcb .entry)) (now (lv .entry)) (now (lvb .entry))) (viewed (now (us .entry)) (now (usb .entry)) (now (uc .entry)) (now (ucb .entry)) (now (uv .entry)) (now (uvb .entry))))) × (now (work .exit) ≡ now (work .entry)) ⌝ }
+    requires { ⌜ Checkable (q .p) n m (viewedAt starts sb cols cb vals vb) (viewedSetAt r ro rob co cob ls lsb lc lcb lv lvb us usb uc ucb uv uvb) (now work) ⌝ }
+    ensures { λ o. ⌜ (o ≡ judge (q .p) n m (viewedBefore starts sb cols cb vals vb) (viewedSetBefore r ro rob co cob ls lsb lc lcb lv lvb us usb uc ucb uv uvb)) × (after work ≡ before work) ⌝ }
 {
     if !is_permutation(ro, rob, work) {
         return Outcome::Refused(NO_PERMUTATION, 0);

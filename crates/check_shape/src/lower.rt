@@ -1,7 +1,8 @@
 // The shape of L: by the last column of each row.
 ghost use mathlib.Core.Path.{_≡_};
 ghost use Prim.Native.Nat.{_<_};
-ghost use Rattle.sparse.specs.Matrix.{viewed, matrix};
+ghost use Rattle.sparse.specs.Matrix.{matrix};
+ghost use Rattle.sparse.specs.Views.{viewedAt, viewedBefore};
 ghost use Rattle.pluq.specs.Shape.{lowerRow, lower};
 ghost use Rattle.check_shape.specs.Needs.{Rows};
 use lists::index;
@@ -19,8 +20,8 @@ fn lower_row(
     r: usize,
     k: usize,
 ) -> bool
-    requires { ⌜ (k < r) × Rows p r r (viewed (now starts) (now sb) (now cols) (now cb) (now vals) (now vb)) ⌝ }
-    ensures { λ z. ⌜ z ≡ lowerRow r (matrix (viewed (now (starts .entry)) (now (sb .entry)) (now (cols .entry)) (now (cb .entry)) (now (vals .entry)) (now (vb .entry))) k) k ⌝ }
+    requires { ⌜ (k < r) × Rows p r r (viewedAt starts sb cols cb vals vb) ⌝ }
+    ensures { λ z. ⌜ z ≡ lowerRow r (matrix (viewedBefore starts sb cols cb vals vb) k) k ⌝ }
 {
     let a = index(word(starts, sb, k));
     let e = index(word(starts, sb, k + 1));
@@ -41,8 +42,8 @@ pub fn lower_ok(
     p: u32,
     r: usize,
 ) -> bool
-    requires { ⌜ Rows p r r (viewed (now starts) (now sb) (now cols) (now cb) (now vals) (now vb)) ⌝ }
-    ensures { λ z. ⌜ z ≡ lower r (matrix (viewed (now (starts .entry)) (now (sb .entry)) (now (cols .entry)) (now (cb .entry)) (now (vals .entry)) (now (vb .entry)))) ⌝ }
+    requires { ⌜ Rows p r r (viewedAt starts sb cols cb vals vb) ⌝ }
+    ensures { λ z. ⌜ z ≡ lower r (matrix (viewedBefore starts sb cols cb vals vb)) ⌝ }
 {
     let mut k = 0;
     while k < r {

@@ -6,9 +6,9 @@ ghost use lib.Dec.{eqb};
 ghost use lib.ListN.{length, getD};
 ghost use lib.Seq.{slice};
 ghost use Rattle.algebra.specs.Matrix.{vector};
-ghost use Rattle.sparse.specs.Words.{view};
 ghost use Rattle.sparse.specs.Row.{entry, Row};
-ghost use Rattle.sparse.specs.Matrix.{viewed, matrix, rowOf};
+ghost use Rattle.sparse.specs.Matrix.{matrix, rowOf};
+ghost use Rattle.sparse.specs.Views.{before, after, viewAt, viewBefore, viewedAt, viewedBefore};
 ghost use Rattle.pluq.specs.Shape.{upper};
 ghost use Rattle.check_shape.specs.Needs.{clean, AtRow, ColumnsTestable};
 use lists::clear_row;
@@ -17,8 +17,8 @@ use sparse::words::word;
 
 // Whether the cells of the columns from place a up to place e are all 0.
 fn unmarked(cols: &[u32], cb: &[u8], a: usize, e: usize, work: &mut [u64]) -> bool
-    requires { ⌜ (a ≤ e) × (e ≤ length (view (now cols) (now cb))) × ((t : ℕ) → a ≤ t → t < e → getD (view (now cols) (now cb)) t 0 < length (now work)) ⌝ }
-    ensures { λ z. ⌜ (z ≡ clean (now (work .entry)) (slice a e (view (now (cols .entry)) (now (cb .entry))))) × (now (work .exit) ≡ now (work .entry)) ⌝ }
+    requires { ⌜ (a ≤ e) × (e ≤ length (viewAt cols cb)) × ((t : ℕ) → a ≤ t → t < e → getD (viewAt cols cb) t 0 < length (now work)) ⌝ }
+    ensures { λ z. ⌜ (z ≡ clean (before work) (slice a e (viewBefore cols cb))) × (after work ≡ before work) ⌝ }
 {
     let mut i = a;
     while i < e {
@@ -43,8 +43,8 @@ fn value_at(
     e: usize,
     j: u32,
 ) -> u32
-    requires { ⌜ (a ≤ e) × (e ≤ length (view (now cols) (now cb))) × (e ≤ length (view (now vals) (now vb))) × Row p width (slice a e (view (now cols) (now cb))) (slice a e (view (now vals) (now vb))) ⌝ }
-    ensures { λ z. ⌜ z ≡ entry (slice a e (view (now (cols .entry)) (now (cb .entry)))) (slice a e (view (now (vals .entry)) (now (vb .entry)))) j ⌝ }
+    requires { ⌜ (a ≤ e) × (e ≤ length (viewAt cols cb)) × (e ≤ length (viewAt vals vb)) × Row p width (slice a e (viewAt cols cb)) (slice a e (viewAt vals vb)) ⌝ }
+    ensures { λ z. ⌜ z ≡ entry (slice a e (viewBefore cols cb)) (slice a e (viewBefore vals vb)) j ⌝ }
 {
     let mut i = a;
     while i < e {
@@ -69,8 +69,8 @@ fn unit_row(
     j: u32,
     work: &mut [u64],
 ) -> bool
-    requires { ⌜ AtRow p k (viewed (now starts) (now sb) (now cols) (now cb) (now vals) (now vb)) (now work) ⌝ }
-    ensures { λ z. ⌜ (z ≡ (clean (now (work .entry)) (rowOf (view (now (starts .entry)) (now (sb .entry))) k (view (now (cols .entry)) (now (cb .entry)))) && eqb (matrix (viewed (now (starts .entry)) (now (sb .entry)) (now (cols .entry)) (now (cb .entry)) (now (vals .entry)) (now (vb .entry))) k j) 1)) × (now (work .exit) ≡ now (work .entry)) ⌝ }
+    requires { ⌜ AtRow p k (viewedAt starts sb cols cb vals vb) (now work) ⌝ }
+    ensures { λ z. ⌜ (z ≡ (clean (before work) (rowOf (viewBefore starts sb) k (viewBefore cols cb)) && eqb (matrix (viewedBefore starts sb cols cb vals vb) k j) 1)) × (after work ≡ before work) ⌝ }
 {
     let a = index(word(starts, sb, k));
     let e = index(word(starts, sb, k + 1));
@@ -95,8 +95,8 @@ fn upper_rows(
     r: usize,
     work: &mut [u64],
 ) -> bool
-    requires { ⌜ ColumnsTestable p r (viewed (now starts) (now sb) (now cols) (now cb) (now vals) (now vb)) (view (now co) (now cob)) (now work) ⌝ }
-    ensures { λ z. ⌜ (z ≡ upper r (vector (view (now (co .entry)) (now (cob .entry)))) (matrix (viewed (now (starts .entry)) (now (sb .entry)) (now (cols .entry)) (now (cb .entry)) (now (vals .entry)) (now (vb .entry))))) × (length (now (work .exit)) ≡ length (now (work .entry))) ⌝ }
+    requires { ⌜ ColumnsTestable p r (viewedAt starts sb cols cb vals vb) (viewAt co cob) (now work) ⌝ }
+    ensures { λ z. ⌜ (z ≡ upper r (vector (viewBefore co cob)) (matrix (viewedBefore starts sb cols cb vals vb))) × (length (after work) ≡ length (before work)) ⌝ }
 {
     let mut k = 0;
     while k < r {
@@ -125,8 +125,8 @@ pub fn upper_ok(
     r: usize,
     work: &mut [u64],
 ) -> bool
-    requires { ⌜ ColumnsTestable p r (viewed (now starts) (now sb) (now cols) (now cb) (now vals) (now vb)) (view (now co) (now cob)) (now work) ⌝ }
-    ensures { λ z. ⌜ (z ≡ upper r (vector (view (now (co .entry)) (now (cob .entry)))) (matrix (viewed (now (starts .entry)) (now (sb .entry)) (now (cols .entry)) (now (cb .entry)) (now (vals .entry)) (now (vb .entry))))) × (now (work .exit) ≡ now (work .entry)) ⌝ }
+    requires { ⌜ ColumnsTestable p r (viewedAt starts sb cols cb vals vb) (viewAt co cob) (now work) ⌝ }
+    ensures { λ z. ⌜ (z ≡ upper r (vector (viewBefore co cob)) (matrix (viewedBefore starts sb cols cb vals vb))) × (after work ≡ before work) ⌝ }
 {
     let ok = upper_rows(starts, sb, cols, cb, vals, vb, co, cob, p, r, work);
     clear_row(work);

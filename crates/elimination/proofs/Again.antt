@@ -22,8 +22,8 @@ use Rattle.elimination.specs.Structural.{Pair}
 use Rattle.elimination.specs.Pairs.{Pairs}
 use Rattle.elimination.specs.Pivots.{Found, columnsOf, uppersOf, upperOf, rankOf, reducedBy, coefficients, turns}
 use Rattle.elimination.specs.Factoring.{schedule, nothing, rowsOf, lowersOf, factored, factorFrom}
-use Rattle.elimination.proofs.Echelon.{cells, Echelon}
-use Rattle.elimination.proofs.Invariant.{uppers-many, Lower, Invariant, Remainder}
+use Rattle.elimination.specs.Invariant.{cells, Echelon, Lower, Invariant}
+use Rattle.elimination.proofs.Invariant.{uppers-many, Remainder}
 use Rattle.elimination.proofs.Turns.{coefficient-residue, reduced-remainder}
 use Rattle.elimination.proofs.Schedule.{schedule-holds}
 use Rattle.elimination.proofs.Theorem.{lowers-many, row-combines}

@@ -20,7 +20,7 @@ use Rattle.elimination.specs.Pairs.{pairRows, pairColumns}
 use Rattle.elimination.specs.Pivots.{Pivot, Found, rankOf, reducedBy, coefficients, withPivot, withDependent, Turn, pair, other, turn, turns}
 use Rattle.elimination.specs.Factoring.{rest, schedule, nothing, lowersOf, factored, factorFrom}
 use Rattle.elimination.proofs.Listed.{snoc-length}
-use Rattle.elimination.proofs.Invariant.{noPivot}
+use Rattle.elimination.specs.Invariant.{noPivot}
 use Rattle.elimination.proofs.Turns.{other-either}
 use Rattle.elimination.proofs.Schedule.{turns-append}
 use Rattle.elimination.proofs.Pairs.{noPair}

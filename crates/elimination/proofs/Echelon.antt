@@ -17,25 +17,10 @@ use Rattle.algebra.proofs.Congruence.{exact, _⊙_, _⊗_, same-refl, same-mod}
 use Rattle.algebra.proofs.Dot.{dot-suc, dot-eq}
 use Rattle.residue.specs.Inverse.{invMod}
 use Rattle.residue.proofs.Inverse.{Inverse, invMod-inverse}
+use Rattle.elimination.specs.Invariant.{cells, UpperRow, Echelon}
 use Rattle.elimination.proofs.Listed.{snoc-length, snoc-each}
 
--- the rows of a list as a matrix
-abbrev pub cells : List (List ℕ) → Matrix
-cells us = λ k j. getD (getD us k []) j 0
-
 -- ---- the rows of U
-
--- u is row k of U, where cs are the pivot columns
-pub record UpperRow (p m : ℕ) (cs : List ℕ) (k : ℕ) (u : List ℕ) : Type 0 where
-  pub wide : length u ≡ m
-  pub residues : (j : ℕ) → getD u j 0 < p
-  pub inside : getD cs k 0 < m
-  pub left : (j : ℕ) → j < k → getD u (getD cs j 0) 0 ≡ 0
-  pub unit : getD u (getD cs k 0) 0 ≡ 1
-
-pub record Echelon (p m : ℕ) (cs : List ℕ) (us : List (List ℕ)) : Type 0 where
-  pub as-many : length us ≡ length cs
-  pub rows : (k : ℕ) → k < length us → UpperRow p m cs k (getD us k [])
 
 module _ (p m : ℕ) where
   upper-more : (cs : List ℕ) (c k : ℕ) (u : List ℕ) → k < length cs → UpperRow p m cs k u → UpperRow p m (cs ++ (c ∷ [])) k u

@@ -1,4 +1,4 @@
--- What holds of the pivots and the dependent rows found so far, and that each turn keeps it.
+-- Each turn keeps what holds of the pivots and the dependent rows found so far.
 use mathlib.Core.Path.{_≡_, refl, sym, ap, _∙_, subst, subst₂}
 use mathlib.Core.List.{List, [], _∷_, _++_}
 use Prim.Native.Nat.{ℕ, suc, _+_, _*_, _%_, _≤_, _<_}
@@ -13,17 +13,11 @@ use Rattle.algebra.specs.Prime.{Prime}
 use Rattle.algebra.specs.Matrix.{Vector, Matrix, vector}
 use Rattle.algebra.proofs.Congruence.{exact, turn, _⊙_, _⊕_, same-refl}
 use Rattle.residue.specs.Inverse.{invMod}
-use Rattle.elimination.specs.Pivots.{Pivot, Dependent, Found, columnsOf, uppersOf, upperOf, rankOf, withPivot, withDependent}
+use Rattle.elimination.specs.Pivots.{Pivot, Found, columnsOf, uppersOf, upperOf, rankOf, withPivot, withDependent}
 use Rattle.elimination.specs.Factoring.{nothing}
+use Rattle.elimination.specs.Invariant.{noPivot, noDependent, cells, Echelon, Lower, PivotRow, Invariant}
 use Rattle.elimination.proofs.Listed.{snoc-length, snoc-each, map-append}
-use Rattle.elimination.proofs.Echelon.{cells, Echelon, echelon-more, scaled-row, scaled-back, combination-more, combination-last}
-
--- read past the end of a list
-abbrev pub noPivot : Pivot
-noPivot = record { row = 0; column = 0; lower = []; upper = [] }
-
-abbrev pub noDependent : Dependent
-noDependent = record { row = 0; lower = [] }
+use Rattle.elimination.proofs.Echelon.{echelon-more, scaled-row, scaled-back, combination-more, combination-last}
 
 -- ---- what was found, as lists
 
@@ -36,26 +30,7 @@ unfolding uppersOf
 uppers-many f = length-map (f .pivots) (λ q. q .upper)
 
 module _ (p n m : ℕ) (A : Matrix) where
-  -- row i of A is the combination of the rows of U that its row of L states
-  pub record Lower (us : List (List ℕ)) (i : ℕ) (ls : List ℕ) : Type 0 where
-    pub row : i < n
-    pub narrow : length ls ≤ length us
-    pub residues : (k : ℕ) → getD ls k 0 < p
-    pub product : (j : ℕ) → j < m → A i j ≈⟨ p ⟩ dot (length us) (vector ls) (λ k. cells us k j)
-
-  -- row k of L, up to the diagonal, is that of the pivot q
-  pub record PivotRow (us : List (List ℕ)) (k : ℕ) (q : Pivot) : Type 0 where
-    pub long : length (q .lower) ≡ suc k
-    pub diagonal : ¬ (getD (q .lower) k 0 ≡ 0)
-    pub combines : Lower us (q .row) (q .lower)
-
-  -- the rows of U have their shape, and those of L combine them to the rows of A
-  pub record Invariant (f : Found) : Type 0 where
-    pub echelon : Echelon p m (columnsOf f) (uppersOf f)
-    pub pivot-rows : (k : ℕ) → k < rankOf f → PivotRow (uppersOf f) k (getD (f .pivots) k noPivot)
-    pub dependent-rows : (k : ℕ) → k < length (f .dependents) → Lower (uppersOf f) (getD (f .dependents) k noDependent .row) (getD (f .dependents) k noDependent .lower)
-
-  pub nothing-holds : Invariant nothing
+  pub nothing-holds : Invariant p n m A nothing
   unfolding columnsOf uppersOf
   nothing-holds =
       record {
@@ -65,7 +40,7 @@ module _ (p n m : ℕ) (A : Matrix) where
       }
 
   -- one row of U more
-  lower-more : (us : List (List ℕ)) (u : List ℕ) (i : ℕ) (ls : List ℕ) → Lower us i ls → Lower (us ++ (u ∷ [])) i ls
+  lower-more : (us : List (List ℕ)) (u : List ℕ) (i : ℕ) (ls : List ℕ) → Lower p n m A us i ls → Lower p n m A (us ++ (u ∷ [])) i ls
   lower-more us u i ls h =
       record {
         row = h .row;
@@ -74,7 +49,7 @@ module _ (p n m : ℕ) (A : Matrix) where
         product = λ j l. h .product j l ⊙ exact (omega (arith, combination-more ls us u j, ap (λ (x : ℕ). x * getD u j 0) (List·getD-eq-default ls 0 (h .narrow))));
       }
 
-  row-more : (us : List (List ℕ)) (u : List ℕ) (k : ℕ) (q : Pivot) → PivotRow us k q → PivotRow (us ++ (u ∷ [])) k q
+  row-more : (us : List (List ℕ)) (u : List ℕ) (k : ℕ) (q : Pivot) → PivotRow p n m A us k q → PivotRow p n m A (us ++ (u ∷ [])) k q
   row-more us u k q h = record { long = h .long; diagonal = h .diagonal; combines = lower-more us u (q .row) (q .lower) (h .combines) }
 
   -- w is what remains of row i when multiples ls of the rows of U are taken away
@@ -87,16 +62,16 @@ module _ (p n m : ℕ) (A : Matrix) where
     pub split : (j : ℕ) → j < m → A i j ≈⟨ p ⟩ w j + dot (length (uppersOf f)) (vector ls) (λ k. upperOf f k j)
 
   -- nothing remains: the row is dependent
-  pub dependent-holds : (f : Found) (i : ℕ) (ls : List ℕ) (w : Vector) → Invariant f → Remainder f i ls w → ((j : ℕ) → j < m → w j ≡ 0) → Invariant (withDependent f i ls)
+  pub dependent-holds : (f : Found) (i : ℕ) (ls : List ℕ) (w : Vector) → Invariant p n m A f → Remainder f i ls w → ((j : ℕ) → j < m → w j ≡ 0) → Invariant p n m A (withDependent f i ls)
   unfolding withDependent columnsOf uppersOf
   dependent-holds f i ls w v h z =
       record {
         echelon = v .echelon;
         pivot-rows = v .pivot-rows;
-        dependent-rows = snoc-each noDependent (f .dependents) (record { row = i; lower = ls }) (λ k d. Lower (uppersOf f) (d .row) (d .lower)) (v .dependent-rows) last;
+        dependent-rows = snoc-each noDependent (f .dependents) (record { row = i; lower = ls }) (λ k d. Lower p n m A (uppersOf f) (d .row) (d .lower)) (v .dependent-rows) last;
       }
     where
-      last : Lower (uppersOf f) i ls
+      last : Lower p n m A (uppersOf f) i ls
       last =
           record {
             row = h .row;
@@ -105,7 +80,7 @@ module _ (p n m : ℕ) (A : Matrix) where
             product = λ j l. h .split j l ⊙ exact (omega (arith, z j l));
           }
 
-  module _ (prime : Prime p) (f : Found) (i c : ℕ) (ls : List ℕ) (w : Vector) (v : Invariant f) (h : Remainder f i ls w) (inside : c < m) (here : ¬ (w c ≡ 0)) where
+  module _ (prime : Prime p) (f : Found) (i c : ℕ) (ls : List ℕ) (w : Vector) (v : Invariant p n m A f) (h : Remainder f i ls w) (inside : c < m) (here : ¬ (w c ≡ 0)) where
     -- the row of U, and the pivot
     abbrev u : List ℕ
     u = tabulate m (λ j. invMod p (w c) * w j % p)
@@ -126,7 +101,7 @@ module _ (p n m : ℕ) (A : Matrix) where
         echelon-more p m (columnsOf f) (uppersOf f) c u (v .echelon)
         (scaled-row prime m w (h .small) c inside here (columnsOf f) (length (uppersOf f)) (sym (v .echelon .as-many)) (λ j l. v .echelon .rows j l .inside) (h .clear))
 
-    lower-after : Lower (uppersOf f ++ (u ∷ [])) i (ls ++ (w c ∷ []))
+    lower-after : Lower p n m A (uppersOf f ++ (u ∷ [])) i (ls ++ (w c ∷ []))
     lower-after =
         record {
           row = h .row;
@@ -142,7 +117,7 @@ module _ (p n m : ℕ) (A : Matrix) where
         small-more k (yes b) = snoc-each 0 ls (w c) (λ k x. x < p) (λ k b. h .residues k) (h .small c inside) k b
         small-more k (no b) = omega (arith, List·getD-eq-default (ls ++ (w c ∷ [])) 0 {n = k} (omega arith), prime .two)
 
-    pivot-after : PivotRow (uppersOf f ++ (u ∷ [])) (rankOf f) q
+    pivot-after : PivotRow p n m A (uppersOf f ++ (u ∷ [])) (rankOf f) q
     pivot-after =
         record {
           long = omega (arith, snoc-length ls (w c), h .long, uppers-many f);
@@ -151,13 +126,13 @@ module _ (p n m : ℕ) (A : Matrix) where
         }
 
     -- something remains at column c: the row is a pivot row
-    pub pivot-holds : Invariant (withPivot p m f i c ls w)
+    pub pivot-holds : Invariant p n m A (withPivot p m f i c ls w)
     unfolding withPivot
     pivot-holds =
         record {
           echelon = subst₂ (Echelon p m) (sym columns-more) (sym uppers-more) echelon-after;
-          pivot-rows = subst (λ (us : List (List ℕ)). (k : ℕ) → k < rankOf (withPivot p m f i c ls w) → PivotRow us k (getD (withPivot p m f i c ls w .pivots) k noPivot)) (sym uppers-more)
-              (snoc-each noPivot (f .pivots) q (PivotRow (uppersOf f ++ (u ∷ []))) (λ k b. row-more (uppersOf f) u k (getD (f .pivots) k noPivot) (v .pivot-rows k b)) pivot-after);
-          dependent-rows = λ k b. subst (λ (us : List (List ℕ)). Lower us (getD (f .dependents) k noDependent .row) (getD (f .dependents) k noDependent .lower)) (sym uppers-more)
+          pivot-rows = subst (λ (us : List (List ℕ)). (k : ℕ) → k < rankOf (withPivot p m f i c ls w) → PivotRow p n m A us k (getD (withPivot p m f i c ls w .pivots) k noPivot)) (sym uppers-more)
+              (snoc-each noPivot (f .pivots) q (PivotRow p n m A (uppersOf f ++ (u ∷ []))) (λ k b. row-more (uppersOf f) u k (getD (f .pivots) k noPivot) (v .pivot-rows k b)) pivot-after);
+          dependent-rows = λ k b. subst (λ (us : List (List ℕ)). Lower p n m A us (getD (f .dependents) k noDependent .row) (getD (f .dependents) k noDependent .lower)) (sym uppers-more)
               (lower-more (uppersOf f) u (getD (f .dependents) k noDependent .row) (getD (f .dependents) k noDependent .lower) (v .dependent-rows k b));
         }

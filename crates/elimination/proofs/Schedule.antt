@@ -13,7 +13,8 @@ use Rattle.elimination.specs.Pivots.{Found, columnsOf, rankOf, withPivot
 use Rattle.elimination.specs.Factoring.{rest, schedule, nothing}
 use Rattle.elimination.proofs.Listed.{map-append}
 use Rattle.elimination.proofs.Completion.{rest-each}
-use Rattle.elimination.proofs.Invariant.{columns-many, Invariant, nothing-holds}
+use Rattle.elimination.specs.Invariant.{Invariant}
+use Rattle.elimination.proofs.Invariant.{columns-many, nothing-holds}
 use Rattle.elimination.proofs.Turns.{other-holds, pair-holds}
 use Rattle.elimination.proofs.Pairs.{noPair}
 

@@ -27,8 +27,9 @@ use Rattle.elimination.specs.Pivots.{Found, columnsOf, uppersOf, rankOf,
 use Rattle.elimination.specs.Factoring.{rest, schedule, nothing, rowsOf, lowersOf, factored, factorFrom, factor}
 use Rattle.elimination.proofs.Listed.{append-both}
 use Rattle.elimination.proofs.Completion.{completed, completed-length}
-use Rattle.elimination.proofs.Echelon.{cells, echelon-distinct}
-use Rattle.elimination.proofs.Invariant.{noPivot, noDependent, columns-many, uppers-many, Lower, Invariant}
+use Rattle.elimination.specs.Invariant.{cells, noPivot, noDependent, Lower, Invariant}
+use Rattle.elimination.proofs.Echelon.{echelon-distinct}
+use Rattle.elimination.proofs.Invariant.{columns-many, uppers-many}
 use Rattle.elimination.proofs.Selected.{structural-pairs}
 use Rattle.elimination.proofs.RowsFound.{rows-length, rows-permutation}
 use Rattle.elimination.proofs.Schedule.{schedule-holds}

@@ -20,7 +20,8 @@ use Rattle.algebra.proofs.Dot.{dot-vanish, dot-eq}
 use Rattle.algebra.proofs.Reduction.{taken, reduced-small, reduced-split, reduced-pivot}
 use Rattle.elimination.specs.Structural.{Pair}
 use Rattle.elimination.specs.Pivots.{Found, columnsOf, uppersOf, upperOf, rankOf, reducedBy, coefficients, withPivot, withDependent, placedRow, pair, other, turn}
-use Rattle.elimination.proofs.Invariant.{uppers-many, Invariant, Remainder, dependent-holds, pivot-holds}
+use Rattle.elimination.specs.Invariant.{Invariant}
+use Rattle.elimination.proofs.Invariant.{uppers-many, Remainder, dependent-holds, pivot-holds}
 
 -- another row becomes a dependent row or a pivot row
 pub other-either : (p m : ℕ) (A : Matrix) (f : Found) (i : ℕ) (P : Found → Type 0) → P (withDependent f i (coefficients p f (A i)))

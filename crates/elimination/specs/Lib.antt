@@ -4,6 +4,7 @@ pub mod Pairs
 pub mod Chains
 pub mod Selection
 pub mod Pivots
+pub mod Invariant
 pub mod Factoring
 pub mod Overflow
 pub mod Rules

@@ -1,13 +1,13 @@
 // Lent lists are cleared where factoring is refused.
-ghost use Rattle.sparse.specs.Matrix.{compressed};
 ghost use Rattle.factor_turn.specs.Passing.{Cleared};
 ghost use Rattle.factor_all.specs.Needs.{AllClear};
+ghost use Rattle.sparse.specs.Views.{after, storedAfter};
 use lists::clear;
 use lists::clear_row;
 
 // Clears the starts, columns and values of a factor.
 fn clear_factor(starts: &mut [u32], cs: &mut [u32], vs: &mut [u32])
-    ensures { λ _. ⌜ Cleared (compressed (now (starts .exit)) (now (cs .exit)) (now (vs .exit))) ⌝ }
+    ensures { λ _. ⌜ Cleared (storedAfter starts cs vs) ⌝ }
 {
     clear(starts);
     clear(cs);
@@ -26,7 +26,7 @@ pub fn clear_all(
     uv: &mut [u32],
     work: &mut [u64],
 )
-    ensures { λ _. ⌜ AllClear (now (ro .exit)) (now (co .exit)) (compressed (now (ls .exit)) (now (lc .exit)) (now (lv .exit))) (compressed (now (us .exit)) (now (uc .exit)) (now (uv .exit))) (now (work .exit)) ⌝ }
+    ensures { λ _. ⌜ AllClear (after ro) (after co) (storedAfter ls lc lv) (storedAfter us uc uv) (after work) ⌝ }
 {
     clear(ro);
     clear(co);

@@ -1,7 +1,8 @@
 // Factoring of a stored matrix into lent lists. The names of the lists: `ls`, `lc`, `lv` are the starts, columns and values of L,
 // `us`, `uc`, `uv` those of U.
 ghost use lib.ListN.{length};
-ghost use Rattle.sparse.specs.Matrix.{compressed, matrix};
+ghost use Rattle.sparse.specs.Matrix.{matrix};
+ghost use Rattle.sparse.specs.Views.{before, after, storedAt, storedBefore, storedAfter};
 ghost use Rattle.factor_turn.specs.Passing.{pairsOf};
 ghost use Rattle.factor_all.specs.Outcome.{factoringFrom, factoring, Leaves};
 ghost use Rattle.factor_passes.specs.Needs.{FromReady};
@@ -38,8 +39,8 @@ pub fn factor_from(
     uv: &mut [u32],
     work: &mut [u64],
 ) -> Factored
-    requires { ⌜ FromReady (q .p) s (compressed (now starts) (now cols) (now vals)) (now ro) (now co) (compressed (now ls) (now lc) (now lv)) (compressed (now us) (now uc) (now uv)) (now work) ⌝ }
-    ensures { λ o. ⌜ Leaves (factoringFrom (q .p) (length (now (ro .entry))) (length (now (co .entry))) (matrix (compressed (now (starts .entry)) (now (cols .entry)) (now (vals .entry)))) (length (now (lc .entry))) (length (now (uc .entry))) (pairsOf s (now (ro .entry)) (now (co .entry)))) (o .number) (o .detail) (o .rank) (o .structural) (now (ro .exit)) (now (co .exit)) (compressed (now (ls .exit)) (now (lc .exit)) (now (lv .exit))) (compressed (now (us .exit)) (now (uc .exit)) (now (uv .exit))) (now (work .exit)) ⌝ }
+    requires { ⌜ FromReady (q .p) s (storedAt starts cols vals) (now ro) (now co) (storedAt ls lc lv) (storedAt us uc uv) (now work) ⌝ }
+    ensures { λ o. ⌜ Leaves (factoringFrom (q .p) (length (before ro)) (length (before co)) (matrix (storedBefore starts cols vals)) (length (before lc)) (length (before uc)) (pairsOf s (before ro) (before co))) (o .number) (o .detail) (o .rank) (o .structural) (after ro) (after co) (storedAfter ls lc lv) (storedAfter us uc uv) (after work) ⌝ }
 {
     let pass = pass_one(
         q,
@@ -123,8 +124,8 @@ pub fn factor(
     uv: &mut [u32],
     work: &mut [u64],
 ) -> Factored
-    requires { ⌜ FactorReady (q .p) n m (compressed (now starts) (now cols) (now vals)) (now ro) (now co) (compressed (now ls) (now lc) (now lv)) (compressed (now us) (now uc) (now uv)) (now work) ⌝ }
-    ensures { λ o. ⌜ Leaves (factoring (q .p) n m (compressed (now (starts .entry)) (now (cols .entry)) (now (vals .entry))) (length (now (lc .entry))) (length (now (uc .entry)))) (o .number) (o .detail) (o .rank) (o .structural) (now (ro .exit)) (now (co .exit)) (compressed (now (ls .exit)) (now (lc .exit)) (now (lv .exit))) (compressed (now (us .exit)) (now (uc .exit)) (now (uv .exit))) (now (work .exit)) ⌝ }
+    requires { ⌜ FactorReady (q .p) n m (storedAt starts cols vals) (now ro) (now co) (storedAt ls lc lv) (storedAt us uc uv) (now work) ⌝ }
+    ensures { λ o. ⌜ Leaves (factoring (q .p) n m (storedBefore starts cols vals) (length (before lc)) (length (before uc))) (o .number) (o .detail) (o .rank) (o .structural) (after ro) (after co) (storedAfter ls lc lv) (storedAfter us uc uv) (after work) ⌝ }
 {
     let s = structural_pairs(
         starts,

@@ -1,8 +1,8 @@
 // The order of the structural pivots (document 02, slip 9): always the lowest-numbered row to which no row still waiting leads.
 // One pivot leads to another when its row has an entry in the other's column. The modulus and the values are named in contracts only.
 ghost use lib.ListN.{length};
-ghost use Rattle.sparse.specs.Matrix.{compressed};
 ghost use Rattle.factor_arrange.specs.Needs.{ArrangeReady, Arranged, ListReady, OrderReady};
+ghost use Rattle.sparse.specs.Views.{before, after, storedAt, storedBefore};
 use limits::SIZE_CELLS;
 
 pub mod degrees;
@@ -22,8 +22,8 @@ fn list_pairs(
     ro: &mut [u32],
     co: &mut [u32],
 ) -> usize
-    requires { ⌜ ListReady p (length (now ready)) (compressed (now starts) (now cols) (now vals)) (now work) (now chosen) (now waits) (now degrees) (now ready) (now ro) (now co) ⌝ }
-    ensures { λ s. ⌜ Arranged (length (now (ready .entry))) (length (now (work .entry))) (compressed (now (starts .entry)) (now (cols .entry)) (now (vals .entry))) s (now (ro .exit)) (now (co .exit)) ⌝ }
+    requires { ⌜ ListReady p (length (now ready)) (storedAt starts cols vals) (now work) (now chosen) (now waits) (now degrees) (now ready) (now ro) (now co) ⌝ }
+    ensures { λ s. ⌜ Arranged (length (before ready)) (length (before work)) (storedBefore starts cols vals) s (after ro) (after co) ⌝ }
 {
     let mut at = 0;
     let mut k = sparse::scan::next_nonzero(ready, 0);
@@ -63,8 +63,8 @@ fn order_pairs(
     ro: &mut [u32],
     co: &mut [u32],
 ) -> usize
-    requires { ⌜ OrderReady p n (compressed (now starts) (now cols) (now vals)) (now work) (now chosen) (now waits) (now counts) (now ready) (now ro) (now co) ⌝ }
-    ensures { λ s. ⌜ Arranged n (length (now (work .entry))) (compressed (now (starts .entry)) (now (cols .entry)) (now (vals .entry))) s (now (ro .exit)) (now (co .exit)) ⌝ }
+    requires { ⌜ OrderReady p n (storedAt starts cols vals) (now work) (now chosen) (now waits) (now counts) (now ready) (now ro) (now co) ⌝ }
+    ensures { λ s. ⌜ Arranged n (length (before work)) (storedBefore starts cols vals) s (after ro) (after co) ⌝ }
 {
     degrees::copy(chosen, waits);
     degrees::count(starts, cols, vals, p, n, work, chosen, counts);
@@ -96,8 +96,8 @@ pub fn arrange(
     ro: &mut [u32],
     co: &mut [u32],
 ) -> usize
-    requires { ⌜ ArrangeReady p n (compressed (now starts) (now cols) (now vals)) (now work) (now chosen) (now ro) (now co) ⌝ }
-    ensures { λ s. ⌜ Arranged n (length (now (work .entry))) (compressed (now (starts .entry)) (now (cols .entry)) (now (vals .entry))) s (now (ro .exit)) (now (co .exit)) ⌝ }
+    requires { ⌜ ArrangeReady p n (storedAt starts cols vals) (now work) (now chosen) (now ro) (now co) ⌝ }
+    ensures { λ s. ⌜ Arranged n (length (before work)) (storedBefore starts cols vals) s (after ro) (after co) ⌝ }
 {
     let mut waits = [0u32; SIZE_CELLS];
     let mut counts = [0u32; SIZE_CELLS];

@@ -1,15 +1,15 @@
 // A row that waits no more.
 ghost use mathlib.Core.Path.{_≡_};
 ghost use lib.ListN.{length, set};
-ghost use Rattle.sparse.specs.Matrix.{compressed};
 ghost use Rattle.factor_arrange.specs.Needs.{DegreeFallsReady, Lowered, ReleaseReady, Released};
+ghost use Rattle.sparse.specs.Views.{before, after, storedAt, storedBefore};
 use factor_names::columns_of;
 use lists::index;
 
 // Row q has one row less that leads to it; where none leads to it any more it becomes ready. Gives the lower of `low` and the row that became ready.
 fn lower(q: usize, low: usize, degrees: &mut [u32], ready: &mut [u64]) -> usize
     requires { ⌜ DegreeFallsReady q (now degrees) (now ready) ⌝ }
-    ensures { λ r. ⌜ Lowered q low (now (degrees .entry)) (now (ready .entry)) (now (degrees .exit)) (now (ready .exit)) r ⌝ }
+    ensures { λ r. ⌜ Lowered q low (before degrees) (before ready) (after degrees) (after ready) r ⌝ }
 {
     let left = degrees[q] - 1;
     degrees[q] = left;
@@ -37,8 +37,8 @@ pub fn release(
     degrees: &mut [u32],
     ready: &mut [u64],
 ) -> usize
-    requires { ⌜ ReleaseReady p (length (now ready)) k (compressed (now starts) (now cols) (now vals)) (now work) (now chosen) (now waits) (now degrees) (now ready) ⌝ }
-    ensures { λ r. ⌜ (now (waits .exit) ≡ set (now (waits .entry)) k 0) × Released p (length (now (ready .entry))) k (compressed (now (starts .entry)) (now (cols .entry)) (now (vals .entry))) (now (work .entry)) (now (chosen .entry)) (now (waits .entry)) (now (ready .entry)) (now (degrees .exit)) (now (ready .exit)) r ⌝ }
+    requires { ⌜ ReleaseReady p (length (now ready)) k (storedAt starts cols vals) (now work) (now chosen) (now waits) (now degrees) (now ready) ⌝ }
+    ensures { λ r. ⌜ (after waits ≡ set (before waits) k 0) × Released p (length (before ready)) k (storedBefore starts cols vals) (before work) (before chosen) (before waits) (before ready) (after degrees) (after ready) r ⌝ }
 {
     waits[k] = 0;
     ready[k] = 0;

@@ -1,6 +1,7 @@
 // A row of 32 cells less multiples of the rows of a block.
 ghost use Prim.Native.Nat.{_*_};
 ghost use Rattle.sparse.specs.WorkingRow.{Subtracted};
+ghost use Rattle.sparse.specs.Views.{before};
 ghost use Rattle.factor_dense.specs.Block.{cellsOf};
 ghost use Rattle.factor_dense.specs.Taking.{CellsReady, LeftCells, TakeReady, BlockReduceReady, BlockReduced};
 use lists::index;
@@ -10,7 +11,7 @@ use sparse::kernel::minus;
 // The cells of the working row at the columns that are no structural pivots.
 pub fn left_cells(js: [u32; 32], width: usize, work: &[u64]) -> [u64; 32]
     requires { ⌜ CellsReady width js (now work) ⌝ }
-    ensures { λ r. ⌜ LeftCells width js (now (work .entry)) r ⌝ }
+    ensures { λ r. ⌜ LeftCells width js (before work) r ⌝ }
 {
     let mut out = [0u64; 32];
     let mut l = 0;
@@ -31,7 +32,7 @@ pub fn take_block_row(
     row: [u64; 32],
 ) -> [u64; 32]
     requires { ⌜ TakeReady (q .p) t c (now block) row ⌝ }
-    ensures { λ r. ⌜ Subtracted (q .p) (λ l. c * cellsOf (now (block .entry)) t l) row r ⌝ }
+    ensures { λ r. ⌜ Subtracted (q .p) (λ l. c * cellsOf (before block) t l) row r ⌝ }
 {
     let mut out = row;
     let mut l = 0;
@@ -57,7 +58,7 @@ pub fn reduce_in_block(
     row: [u64; 32],
 ) -> InBlock
     requires { ⌜ BlockReduceReady (q .p) b (now ks) (now block) row ⌝ }
-    ensures { λ r. ⌜ BlockReduced (q .p) b (now (ks .entry)) (now (block .entry)) row (r .row) (r .multiples) ⌝ }
+    ensures { λ r. ⌜ BlockReduced (q .p) b (before ks) (before block) row (r .row) (r .multiples) ⌝ }
 {
     let mut rest = row;
     let mut xs = [0u32; 32];

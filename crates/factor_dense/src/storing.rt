@@ -5,6 +5,7 @@ ghost use lib.Dec.{eqb};
 ghost use lib.ListN.{getD, take};
 ghost use Rattle.lists.specs.Tests.{first};
 ghost use Rattle.factor_dense.specs.Storing.{PlaceReady, EntryStored, StoreMultiplesReady, MultiplesStored, LeftReady, LeftStored, RowScaled};
+ghost use Rattle.sparse.specs.Views.{before, after};
 use factor_reduce::gather::Gathered;
 use lists::index;
 use residue::Modulus;
@@ -20,7 +21,7 @@ pub fn store_entry(
     lv: &mut [u32],
 ) -> Gathered
     requires { ⌜ PlaceReady k at limit (now lc) (now lv) ⌝ }
-    ensures { λ g. ⌜ EntryStored k x at limit (now (lc .entry)) (now (lv .entry)) (now (lc .exit)) (now (lv .exit)) (g .over) (g .next) ⌝ }
+    ensures { λ g. ⌜ EntryStored k x at limit (before lc) (before lv) (after lc) (after lv) (g .over) (g .next) ⌝ }
 {
     if x == 0 {
         return Gathered {
@@ -53,7 +54,7 @@ pub fn store_multiples(
     lv: &mut [u32],
 ) -> Gathered
     requires { ⌜ StoreMultiplesReady s b l limit (now lc) (now lv) ⌝ }
-    ensures { λ g. ⌜ MultiplesStored s l limit (take b xs) (now (lc .entry)) (now (lv .entry)) (now (lc .exit)) (now (lv .exit)) (g .over) (g .next) ⌝ }
+    ensures { λ g. ⌜ MultiplesStored s l limit (take b xs) (before lc) (before lv) (after lc) (after lv) (g .over) (g .next) ⌝ }
 {
     let mut next = l;
     let mut t = 0;
@@ -86,7 +87,7 @@ pub fn store_left(
     uv: &mut [u32],
 ) -> Gathered
     requires { ⌜ LeftReady width l limit js (now uc) (now uv) ⌝ }
-    ensures { λ g. ⌜ LeftStored l limit (take width js) (take width row) (now (uc .entry)) (now (uv .entry)) (now (uc .exit)) (now (uv .exit)) (g .over) (g .next) ⌝ }
+    ensures { λ g. ⌜ LeftStored l limit (take width js) (take width row) (before uc) (before uv) (after uc) (after uv) (g .over) (g .next) ⌝ }
 {
     let mut next = l;
     let mut t = 0;

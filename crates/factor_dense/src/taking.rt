@@ -1,7 +1,8 @@
 // One row that has no structural pivot, taken in the block: what is done in the working row is its reduction by the rows of U
 // that the block does not hold.
 ghost use lib.ListN.{length};
-ghost use Rattle.sparse.specs.Matrix.{compressed, matrix};
+ghost use Rattle.sparse.specs.Matrix.{matrix};
+ghost use Rattle.sparse.specs.Views.{before, after, storedAt, storedBefore};
 ghost use Rattle.factor_row.specs.Gathering.{cut, multiplesBy, remainderBy};
 ghost use Rattle.factor_dense.specs.Turn.{LeftRowReady, LeftRowFound, DenseLowerReady, LowerFound, DenseUpperReady, UpperFound, DenseReady, DenseTaken};
 use crate::block::left_cells;
@@ -60,8 +61,8 @@ fn reduce_left(
     lv: &mut [u32],
     work: &mut [u64],
 ) -> LeftRow
-    requires { ⌜ LeftRowReady (q .p) i s first l total (compressed (now starts) (now cols) (now vals)) (now co) (now us) (now uc) (now uv) js width (now work) (now lc) (now lv) ⌝ }
-    ensures { λ d. ⌜ LeftRowFound (q .p) (length (now (work .entry))) l total (multiplesBy (q .p) s (now (co .entry)) (cut s first (now (us .entry)) (now (uc .entry)) (now (uv .entry))) (matrix (compressed (now (starts .entry)) (now (cols .entry)) (now (vals .entry))) i)) (remainderBy (q .p) s (now (co .entry)) (cut s first (now (us .entry)) (now (uc .entry)) (now (uv .entry))) (matrix (compressed (now (starts .entry)) (now (cols .entry)) (now (vals .entry))) i)) width js (now (lc .entry)) (now (lv .entry)) (now (lc .exit)) (now (lv .exit)) (now (work .exit)) (d .over) (d .next) (d .row) ⌝ }
+    requires { ⌜ LeftRowReady (q .p) i s first l total (storedAt starts cols vals) (now co) (now us) (now uc) (now uv) js width (now work) (now lc) (now lv) ⌝ }
+    ensures { λ d. ⌜ LeftRowFound (q .p) (length (before work)) l total (multiplesBy (q .p) s (before co) (cut s first (before us) (before uc) (before uv)) (matrix (storedBefore starts cols vals) i)) (remainderBy (q .p) s (before co) (cut s first (before us) (before uc) (before uv)) (matrix (storedBefore starts cols vals) i)) width js (before lc) (before lv) (after lc) (after lv) (after work) (d .over) (d .next) (d .row) ⌝ }
 {
     let g = gather_row(
         q,
@@ -104,7 +105,7 @@ fn lower_left(
     lv: &mut [u32],
 ) -> LeftRow
     requires { ⌜ DenseLowerReady (q .p) s b next limit (now ks) (now block) row (now lc) (now lv) ⌝ }
-    ensures { λ d. ⌜ LowerFound (q .p) s b next limit (now (ks .entry)) (now (block .entry)) row (now (lc .entry)) (now (lv .entry)) (now (lc .exit)) (now (lv .exit)) (d .over) (d .next) (d .row) ⌝ }
+    ensures { λ d. ⌜ LowerFound (q .p) s b next limit (before ks) (before block) row (before lc) (before lv) (after lc) (after lv) (d .over) (d .next) (d .row) ⌝ }
 {
     let done = reduce_in_block(q, block, ks, b, row);
     let xs = done.multiples;
@@ -134,7 +135,7 @@ fn upper_left(
     uv: &mut [u32],
 ) -> PivotStored
     requires { ⌜ DenseUpperReady (q .p) r k at next limit width js row (now lc) (now lv) (now uc) (now uv) ⌝ }
-    ensures { λ d. ⌜ UpperFound (q .p) r k at next limit width js row (now (lc .entry)) (now (lv .entry)) (now (uc .entry)) (now (uv .entry)) (now (lc .exit)) (now (lv .exit)) (now (uc .exit)) (now (uv .exit)) (d .over) (d .at) (d .l) (d .row) ⌝ }
+    ensures { λ d. ⌜ UpperFound (q .p) r k at next limit width js row (before lc) (before lv) (before uc) (before uv) (after lc) (after lv) (after uc) (after uv) (d .over) (d .at) (d .l) (d .row) ⌝ }
 {
     let v = q.reduce_cell(row[k]);
     let new = scale_row(q, q.invert(v), row);
@@ -183,8 +184,8 @@ pub fn take_dense(
     uv: &mut [u32],
     work: &mut [u64],
 ) -> DenseStep
-    requires { ⌜ DenseReady (q .p) i s first r at l total (compressed (now starts) (now cols) (now vals)) (now co) (now us) js width (now ks) (now block) (now work) (now lc) (now lv) (now uc) (now uv) ⌝ }
-    ensures { λ d. ⌜ DenseTaken (q .p) i r at l total (compressed (now (starts .entry)) (now (cols .entry)) (now (vals .entry))) (now (co .entry)) (now (us .entry)) js width (length (now (work .entry))) (now (lc .entry)) (now (lv .entry)) (now (uc .entry)) (now (uv .entry)) (now (lc .exit)) (now (lv .exit)) (now (uc .exit)) (now (uv .exit)) (now (work .exit)) (d .step .over) (d .step .column) (d .step .at) (d .step .l) (d .step .total) (d .place) (d .row) ⌝ }
+    requires { ⌜ DenseReady (q .p) i s first r at l total (storedAt starts cols vals) (now co) (now us) js width (now ks) (now block) (now work) (now lc) (now lv) (now uc) (now uv) ⌝ }
+    ensures { λ d. ⌜ DenseTaken (q .p) i r at l total (storedBefore starts cols vals) (before co) (before us) js width (length (before work)) (before lc) (before lv) (before uc) (before uv) (after lc) (after lv) (after uc) (after uv) (after work) (d .step .over) (d .step .column) (d .step .at) (d .step .l) (d .step .total) (d .place) (d .row) ⌝ }
 {
     let left = reduce_left(
         q,

@@ -12,8 +12,8 @@ use Rattle.sparse.proofs.DenseLaws.{compress-matrix}
 use Rattle.elimination.specs.Pivots.{Found, columnsOf, uppersOf, upperOf, rankOf}
 use Rattle.elimination.specs.Factoring.{entries}
 use Rattle.elimination.proofs.Room.{entries-append}
+use Rattle.elimination.specs.Invariant.{Echelon}
 use Rattle.elimination.proofs.Invariant.{uppers-many}
-use Rattle.elimination.proofs.Echelon.{Echelon}
 use Rattle.factor_row.specs.Gathering.{cut, GatherReadyFrom}
 use Rattle.factor_dense.specs.Block.{LeftColumns, BlockHolds, Upper}
 use Rattle.factor_dense.specs.Turn.{DenseReady}
@@ -114,7 +114,7 @@ module _ (p i s first width : ℕ) (js ks : List ℕ) (block : List (List ℕ)) 
         row = row-ready;
         lists = lists-ready p i _ A R C L U w r at l total (h .turn);
         same = same-rows;
-        upperOf = upper-rows;
+        upper = upper-rows;
         left = left-columns;
         holds = block-holds;
       }

@@ -14,7 +14,8 @@ use Rattle.algebra.specs.Matrix.{Vector, vector}
 use Rattle.sparse.specs.Matrix.{Compressed, matrix}
 use Rattle.elimination.specs.Pivots.{Found, Turn, columnsOf, uppersOf, upperOf, rankOf, other, turn}
 use Rattle.elimination.specs.Factoring.{rest, entries, lowersOf, firstOver}
-use Rattle.elimination.proofs.Invariant.{Invariant, uppers-many}
+use Rattle.elimination.specs.Invariant.{Invariant}
+use Rattle.elimination.proofs.Invariant.{uppers-many}
 use Rattle.factor_dense.specs.Block.{LeftColumns}
 use Rattle.factor_dense.proofs.Growing.{holds-none}
 use Rattle.factor_dense.proofs.Rest.{rest-left}

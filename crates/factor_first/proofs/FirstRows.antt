@@ -9,7 +9,7 @@ use Rattle.sparse.specs.Matrix.{Compressed, compressed}
 use Rattle.sparse.specs.Dense.{compress}
 use Rattle.sparse.proofs.DenseLaws.{compress-append, compress-lengths}
 use Rattle.elimination.specs.Factoring.{entries}
-use Rattle.elimination.proofs.Echelon.{Echelon}
+use Rattle.elimination.specs.Invariant.{Echelon}
 use Rattle.factor_row.specs.Gathering.{cut}
 use Rattle.factor_row.specs.Storage.{Holds}
 use Rattle.factor_turn.proofs.Steps.{entries-values}

@@ -18,7 +18,7 @@ use Rattle.algebra.specs.Matrix.{Matrix, vector}
 use Rattle.sparse.specs.Matrix.{Compressed, matrix}
 use Rattle.elimination.specs.Pivots.{Found, Turn, columnsOf, uppersOf, upperOf, rankOf, other, turn, turns}
 use Rattle.elimination.specs.Factoring.{rest, entries, firstOver}
-use Rattle.elimination.proofs.Invariant.{Invariant}
+use Rattle.elimination.specs.Invariant.{Invariant}
 use Rattle.factor_dense.specs.Block.{LeftColumns, BlockHolds}
 use Rattle.factor_turn.specs.State.{State}
 use Rattle.factor_turn.specs.Turning.{Lent, TurnReady, TurnLeaves}

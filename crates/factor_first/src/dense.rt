@@ -5,7 +5,8 @@ ghost use mathlib.Core.List.{map};
 ghost use Prim.Native.Nat.{_≤_, _+_};
 ghost use lib.ListN.{length, drop, getD};
 ghost use Rattle.lists.specs.Filled.{zeros};
-ghost use Rattle.sparse.specs.Matrix.{compressed, matrix};
+ghost use Rattle.sparse.specs.Matrix.{matrix};
+ghost use Rattle.sparse.specs.Views.{before, after, storedAt, storedBefore, storedAfter};
 ghost use Rattle.elimination.specs.Pivots.{Found, other};
 ghost use Rattle.factor_first.specs.Dense.{DenseTurnReady, DenseTurned, DenseFrom, RowsReady, TurnsLeave, TailCopied};
 use factor_dense::taking::take_dense;
@@ -29,7 +30,7 @@ pub struct DenseTurn {
 // The numbers of the list from place s on, at most 32.
 fn tail(s: usize, list: &[u32]) -> [u32; 32]
     requires { ⌜ (s ≤ length (now list)) × (length (now list) ≤ s + 32) ⌝ }
-    ensures { λ r. ⌜ TailCopied s (now (list .entry)) r ⌝ }
+    ensures { λ r. ⌜ TailCopied s (before list) r ⌝ }
 {
     let mut out = [0u32; 32];
     let mut k = s;
@@ -64,8 +65,8 @@ fn take_dense_row(
     uv: &mut [u32],
     work: &mut [u64],
 ) -> DenseTurn
-    requires { ⌜ DenseTurnReady (q .p) i s first width js (now ks) (now block) (compressed (now starts) (now cols) (now vals)) (now ro) (now co) (compressed (now ls) (now lc) (now lv)) (compressed (now us) (now uc) (now uv)) (now work) (so .r) (so .at) (so .l) (so .total) ⌝ }
-    ensures { λ to. ⌜ DenseTurned (q .p) i s first width js (now (ks .entry)) (now (block .entry)) (compressed (now (starts .entry)) (now (cols .entry)) (now (vals .entry))) (now (ro .entry)) (now (co .entry)) (compressed (now (ls .entry)) (now (lc .entry)) (now (lv .entry))) (compressed (now (us .entry)) (now (uc .entry)) (now (uv .entry))) (now (work .entry)) (so .r) (so .at) (so .l) (so .total) (now (ro .exit)) (now (co .exit)) (compressed (now (ls .exit)) (now (lc .exit)) (now (lv .exit))) (compressed (now (us .exit)) (now (uc .exit)) (now (uv .exit))) (now (work .exit)) (to .so .over) (to .so .r) (to .so .at) (to .so .l) (to .so .total) (to .place) (to .row) ⌝ }
+    requires { ⌜ DenseTurnReady (q .p) i s first width js (now ks) (now block) (storedAt starts cols vals) (now ro) (now co) (storedAt ls lc lv) (storedAt us uc uv) (now work) (so .r) (so .at) (so .l) (so .total) ⌝ }
+    ensures { λ to. ⌜ DenseTurned (q .p) i s first width js (before ks) (before block) (storedBefore starts cols vals) (before ro) (before co) (storedBefore ls lc lv) (storedBefore us uc uv) (before work) (so .r) (so .at) (so .l) (so .total) (after ro) (after co) (storedAfter ls lc lv) (storedAfter us uc uv) (after work) (to .so .over) (to .so .r) (to .so .at) (to .so .l) (to .so .total) (to .place) (to .row) ⌝ }
 {
     let r = so.r;
     let d = take_dense(
@@ -122,9 +123,9 @@ pub fn find_dense(
     uv: &mut [u32],
     work: &mut [u64],
 ) -> Pass
-    requires { ⌜ RowsReady (q .p) s (compressed (now starts) (now cols) (now vals)) (now ro) (now co) (compressed (now ls) (now lc) (now lv)) (compressed (now us) (now uc) (now uv)) (now work) (from .over) (from .r) (from .at) (from .l) (from .total) ⌝ }
-    ensures found { λ to. ⌜ ((f : Found) → DenseFrom (q .p) s (compressed (now (starts .entry)) (now (cols .entry)) (now (vals .entry))) (now (ro .entry)) (now (co .entry)) (compressed (now (ls .entry)) (now (lc .entry)) (now (lv .entry))) (compressed (now (us .entry)) (now (uc .entry)) (now (uv .entry))) (length (now (work .entry))) (from .r) (from .at) (from .l) (from .total) f → TurnsLeave (q .p) (length (now (work .entry))) (matrix (compressed (now (starts .entry)) (now (cols .entry)) (now (vals .entry)))) (length (now (lc .entry))) (length (now (uc .entry))) f (map other (drop s (now (ro .entry)))) (now (ro .exit)) (now (co .exit)) (compressed (now (ls .exit)) (now (lc .exit)) (now (lv .exit))) (compressed (now (us .exit)) (now (uc .exit)) (now (uv .exit))) (to .so .over) (to .stop) (to .so .r) (to .so .at) (to .so .l) (to .so .total)) ⌝ }
-    ensures clear { λ to. ⌜ (to .so .over ≡ false → now (work .exit) ≡ zeros (length (now (work .entry)))) ⌝ }
+    requires { ⌜ RowsReady (q .p) s (storedAt starts cols vals) (now ro) (now co) (storedAt ls lc lv) (storedAt us uc uv) (now work) (from .over) (from .r) (from .at) (from .l) (from .total) ⌝ }
+    ensures found { λ to. ⌜ ((f : Found) → DenseFrom (q .p) s (storedBefore starts cols vals) (before ro) (before co) (storedBefore ls lc lv) (storedBefore us uc uv) (length (before work)) (from .r) (from .at) (from .l) (from .total) f → TurnsLeave (q .p) (length (before work)) (matrix (storedBefore starts cols vals)) (length (before lc)) (length (before uc)) f (map other (drop s (before ro))) (after ro) (after co) (storedAfter ls lc lv) (storedAfter us uc uv) (to .so .over) (to .stop) (to .so .r) (to .so .at) (to .so .l) (to .so .total)) ⌝ }
+    ensures clear { λ to. ⌜ (to .so .over ≡ false → after work ≡ zeros (length (before work))) ⌝ }
 {
     let js = tail(s, co);
     let width = co.len() - s;

@@ -4,9 +4,9 @@ ghost use mathlib.Core.Bool.{false};
 ghost use Prim.Native.Nat.{_≤_};
 ghost use lib.ListN.{length};
 ghost use Rattle.lists.specs.Filled.{zeros};
-ghost use Rattle.sparse.specs.Matrix.{compressed};
 ghost use Rattle.factor_turn.specs.Passing.{PassReady, PassLeaves};
 ghost use Rattle.factor_first.specs.Dense.{sparseEnd};
+ghost use Rattle.sparse.specs.Views.{before, after, storedAt, storedBefore, storedAfter};
 use crate::dense::Pass;
 use crate::dense::find_dense;
 use factor_turn::turn::Progress;
@@ -45,8 +45,8 @@ pub fn find_pivots(
     uv: &mut [u32],
     work: &mut [u64],
 ) -> Pass
-    requires { ⌜ PassReady (q .p) s (compressed (now starts) (now cols) (now vals)) (now ro) (now co) (compressed (now ls) (now lc) (now lv)) (compressed (now us) (now uc) (now uv)) (now work) ⌝ }
-    ensures { λ to. ⌜ PassLeaves (q .p) s (compressed (now (starts .entry)) (now (cols .entry)) (now (vals .entry))) (now (ro .entry)) (now (co .entry)) (length (now (work .entry))) (length (now (lc .entry))) (length (now (uc .entry))) (now (ro .exit)) (now (co .exit)) (compressed (now (ls .exit)) (now (lc .exit)) (now (lv .exit))) (compressed (now (us .exit)) (now (uc .exit)) (now (uv .exit))) (to .so .over) (to .stop) (to .so .r) (to .so .at) (to .so .l) (to .so .total) × (to .so .over ≡ false → now (work .exit) ≡ zeros (length (now (work .entry)))) ⌝ }
+    requires { ⌜ PassReady (q .p) s (storedAt starts cols vals) (now ro) (now co) (storedAt ls lc lv) (storedAt us uc uv) (now work) ⌝ }
+    ensures { λ to. ⌜ PassLeaves (q .p) s (storedBefore starts cols vals) (before ro) (before co) (length (before work)) (length (before lc)) (length (before uc)) (after ro) (after co) (storedAfter ls lc lv) (storedAfter us uc uv) (to .so .over) (to .stop) (to .so .r) (to .so .at) (to .so .l) (to .so .total) × (to .so .over ≡ false → after work ≡ zeros (length (before work))) ⌝ }
 {
     let mut so = Progress {
         over: false,

@@ -6,12 +6,13 @@ ghost use Rattle.lists.specs.Tabulate.{tabulate};
 ghost use Rattle.factor_order.specs.Needs.{Completable};
 ghost use Rattle.factor_order.specs.Written.{Written};
 ghost use Rattle.factor_order.specs.Completion.{marked, unmarked, AppendReady, Completed};
+ghost use Rattle.sparse.specs.Views.{before, after};
 use lists::index;
 
 // Marks the first k numbers of the list.
 fn mark(k: usize, list: &[u32], marks: &mut [u64])
     requires { ⌜ Completable k (now list) (now marks) ⌝ }
-    ensures { λ _. ⌜ now (marks .exit) ≡ tabulate (length (now (list .entry))) (marked (take k (now (list .entry)))) ⌝ }
+    ensures { λ _. ⌜ after marks ≡ tabulate (length (before list)) (marked (take k (before list))) ⌝ }
 {
     let mut i = 0;
     while i < k {
@@ -24,7 +25,7 @@ fn mark(k: usize, list: &[u32], marks: &mut [u64])
 // Writes x at place `at` unless it is marked; gives the next place.
 fn append(x: u32, v: u64, at: usize, list: &mut [u32]) -> usize
     requires { ⌜ at + length (unmarked v x) ≤ length (now list) ⌝ }
-    ensures { λ next. ⌜ Written (unmarked v x) at (now (list .entry)) (now (list .exit)) next ⌝ }
+    ensures { λ next. ⌜ Written (unmarked v x) at (before list) (after list) next ⌝ }
 {
     if v != 0 {
         return at;
@@ -36,7 +37,7 @@ fn append(x: u32, v: u64, at: usize, list: &mut [u32]) -> usize
 // Writes the numbers that are not marked after the first k, and clears the marks.
 fn append_unmarked(k: usize, list: &mut [u32], marks: &mut [u64])
     requires { ⌜ AppendReady k (now list) (now marks) ⌝ }
-    ensures { λ _. ⌜ Completed k (now (list .entry)) (now (list .exit)) (now (marks .exit)) ⌝ }
+    ensures { λ _. ⌜ Completed k (before list) (after list) (after marks) ⌝ }
 {
     let mut at = k;
     let mut x = 0;
@@ -50,7 +51,7 @@ fn append_unmarked(k: usize, list: &mut [u32], marks: &mut [u64])
 // Completes an order of which the first k numbers are given.
 pub fn complete(k: usize, list: &mut [u32], marks: &mut [u64])
     requires { ⌜ Completable k (now list) (now marks) ⌝ }
-    ensures { λ _. ⌜ Completed k (now (list .entry)) (now (list .exit)) (now (marks .exit)) ⌝ }
+    ensures { λ _. ⌜ Completed k (before list) (after list) (after marks) ⌝ }
 {
     mark(k, list, marks);
     append_unmarked(k, list, marks);

@@ -4,16 +4,16 @@
 ghost use mathlib.Core.Path.{_≡_};
 ghost use Prim.Native.Nat.{_+_, _-_};
 ghost use lib.ListN.{length, getD};
-ghost use Rattle.sparse.specs.Matrix.{compressed};
 ghost use Rattle.factor_order.specs.Needs.{Searchable, Findable};
 ghost use Rattle.factor_order.specs.Search.{RowWithin, PreferReady, Preferred, Chosen, ChooseReady, ConsiderReady, PairsFound};
+ghost use Rattle.sparse.specs.Views.{before, after, storedAt, storedBefore};
 use limits::SIZE_CELLS;
 use lists::index;
 
 // How many entries row i has.
 fn entries(starts: &[u32], i: usize) -> u32
     requires { ⌜ RowWithin (now starts) i ⌝ }
-    ensures { λ r. ⌜ r ≡ getD (now (starts .entry)) (i + 1) 0 - getD (now (starts .entry)) i 0 ⌝ }
+    ensures { λ r. ⌜ r ≡ getD (before starts) (i + 1) 0 - getD (before starts) i 0 ⌝ }
 {
     starts[i + 1] - starts[i]
 }
@@ -21,7 +21,7 @@ fn entries(starts: &[u32], i: usize) -> u32
 // The cell of the column at which row i leads, where `cell` was it before.
 fn preferred(starts: &[u32], i: usize, cell: u64) -> u64
     requires { ⌜ PreferReady (now starts) i cell ⌝ }
-    ensures { λ r. ⌜ Preferred (now (starts .entry)) i cell r ⌝ }
+    ensures { λ r. ⌜ Preferred (before starts) i cell r ⌝ }
 {
     if cell == 0 {
         return i as u64 + 1;
@@ -34,8 +34,8 @@ fn preferred(starts: &[u32], i: usize, cell: u64) -> u64
 
 // Considers row i for its leftmost column.
 fn consider(starts: &[u32], cols: &[u32], vals: &[u32], p: u32, i: usize, work: &mut [u64])
-    requires { ⌜ ConsiderReady p i (compressed (now starts) (now cols) (now vals)) (now work) ⌝ }
-    ensures { λ _. ⌜ Chosen (compressed (now (starts .entry)) (now (cols .entry)) (now (vals .entry))) (i + 1) (now (work .exit)) ⌝ }
+    requires { ⌜ ConsiderReady p i (storedAt starts cols vals) (now work) ⌝ }
+    ensures { λ _. ⌜ Chosen (storedBefore starts cols vals) (i + 1) (after work) ⌝ }
 {
     if entries(starts, i) == 0 {
         return;
@@ -47,8 +47,8 @@ fn consider(starts: &[u32], cols: &[u32], vals: &[u32], p: u32, i: usize, work: 
 
 // Chooses among the n rows: the cell of each column names its row.
 fn choose(starts: &[u32], cols: &[u32], vals: &[u32], p: u32, n: usize, work: &mut [u64])
-    requires { ⌜ ChooseReady p n (compressed (now starts) (now cols) (now vals)) (now work) ⌝ }
-    ensures { λ _. ⌜ Chosen (compressed (now (starts .entry)) (now (cols .entry)) (now (vals .entry))) n (now (work .exit)) ⌝ }
+    requires { ⌜ ChooseReady p n (storedAt starts cols vals) (now work) ⌝ }
+    ensures { λ _. ⌜ Chosen (storedBefore starts cols vals) n (after work) ⌝ }
 {
     let mut i = 0;
     while i < n {
@@ -69,8 +69,8 @@ fn find_pairs(
     co: &mut [u32],
     work: &mut [u64],
 ) -> usize
-    requires { ⌜ Findable p n (length (now co)) (compressed (now starts) (now cols) (now vals)) (now named) (now ro) (now co) (now work) ⌝ }
-    ensures { λ s. ⌜ PairsFound n (length (now (co .entry))) (compressed (now (starts .entry)) (now (cols .entry)) (now (vals .entry))) s (now (ro .exit)) (now (co .exit)) (now (work .exit)) ⌝ }
+    requires { ⌜ Findable p n (length (now co)) (storedAt starts cols vals) (now named) (now ro) (now co) (now work) ⌝ }
+    ensures { λ s. ⌜ PairsFound n (length (before co)) (storedBefore starts cols vals) s (after ro) (after co) (after work) ⌝ }
 {
     choose(starts, cols, vals, p, n, work);
     factor_select::select(starts, cols, vals, p, n, work, named);
@@ -90,8 +90,8 @@ pub fn structural_pairs(
     co: &mut [u32],
     work: &mut [u64],
 ) -> usize
-    requires { ⌜ Searchable p n (length (now co)) (compressed (now starts) (now cols) (now vals)) (now ro) (now co) (now work) ⌝ }
-    ensures { λ s. ⌜ PairsFound n (length (now (co .entry))) (compressed (now (starts .entry)) (now (cols .entry)) (now (vals .entry))) s (now (ro .exit)) (now (co .exit)) (now (work .exit)) ⌝ }
+    requires { ⌜ Searchable p n (length (now co)) (storedAt starts cols vals) (now ro) (now co) (now work) ⌝ }
+    ensures { λ s. ⌜ PairsFound n (length (before co)) (storedBefore starts cols vals) s (after ro) (after co) (after work) ⌝ }
 {
     let mut named = [0u32; SIZE_CELLS];
     find_pairs(starts, cols, vals, p, n, &mut named[..n], ro, co, work)

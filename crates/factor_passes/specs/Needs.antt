@@ -18,7 +18,7 @@ use Rattle.sparse.specs.Matrix.{Compressed, form, matrix}
 use Rattle.elimination.specs.Pairs.{Pairs}
 use Rattle.elimination.specs.Pivots.{Found, columnsOf}
 use Rattle.elimination.specs.Factoring.{rest, rowsOf}
-use Rattle.elimination.proofs.Invariant.{Invariant}
+use Rattle.elimination.specs.Invariant.{Invariant}
 use Rattle.factor_turn.specs.State.{pivotRows, State}
 use Rattle.factor_turn.specs.Passing.{pairsOf, Cleared}
 use Rattle.factor_turn.specs.Filling.{FillDone}

@@ -6,11 +6,11 @@ ghost use mathlib.Core.Bool.{false};
 ghost use Prim.Native.Nat.{ℕ, _≤_};
 ghost use lib.ListN.{length};
 ghost use Rattle.lists.specs.Filled.{zeros};
-ghost use Rattle.sparse.specs.Matrix.{compressed};
 ghost use Rattle.elimination.specs.Pivots.{Found};
 ghost use Rattle.factor_turn.specs.Passing.{PassLeaves};
 ghost use Rattle.factor_order.specs.Needs.{Completable};
 ghost use Rattle.factor_passes.specs.Needs.{FromReady, ColumnsCompleted, FoundFrom, CompleteReady, CompletedFor};
+ghost use Rattle.sparse.specs.Views.{before, after, storedAt, storedBefore, storedAfter};
 use factor_first::dense::Pass;
 use factor_first::pass::find_pivots;
 use factor_order::complete::complete;
@@ -20,7 +20,7 @@ use residue::Modulus;
 // Completes `columns` where what is left of n rows after the first s fits the block: its columns are then those after the first s.
 fn complete_columns(n: usize, s: usize, co: &mut [u32], marks: &mut [u64])
     requires { ⌜ (s ≤ n) × Completable s (now co) (now marks) ⌝ }
-    ensures { λ _. ⌜ ColumnsCompleted n s (now (co .entry)) (now (co .exit)) (now (marks .exit)) ⌝ }
+    ensures { λ _. ⌜ ColumnsCompleted n s (before co) (after co) (after marks) ⌝ }
 {
     if 32 < n - s {
         return;
@@ -48,8 +48,8 @@ pub fn pass_one(
     uv: &mut [u32],
     work: &mut [u64],
 ) -> Pass
-    requires { ⌜ FromReady (q .p) s (compressed (now starts) (now cols) (now vals)) (now ro) (now co) (compressed (now ls) (now lc) (now lv)) (compressed (now us) (now uc) (now uv)) (now work) ⌝ }
-    ensures { λ to. ⌜ PassLeaves (q .p) s (compressed (now (starts .entry)) (now (cols .entry)) (now (vals .entry))) (now (ro .entry)) (now (co .entry)) (length (now (co .entry))) (length (now (lc .entry))) (length (now (uc .entry))) (now (ro .exit)) (now (co .exit)) (compressed (now (ls .exit)) (now (lc .exit)) (now (lv .exit))) (compressed (now (us .exit)) (now (uc .exit)) (now (uv .exit))) (to .so .over) (to .stop) (to .so .r) (to .so .at) (to .so .l) (to .so .total) × (to .so .over ≡ false → now (work .exit) ≡ zeros (length (now (work .entry)))) ⌝ }
+    requires { ⌜ FromReady (q .p) s (storedAt starts cols vals) (now ro) (now co) (storedAt ls lc lv) (storedAt us uc uv) (now work) ⌝ }
+    ensures { λ to. ⌜ PassLeaves (q .p) s (storedBefore starts cols vals) (before ro) (before co) (length (before co)) (length (before lc)) (length (before uc)) (after ro) (after co) (storedAfter ls lc lv) (storedAfter us uc uv) (to .so .over) (to .stop) (to .so .r) (to .so .at) (to .so .l) (to .so .total) × (to .so .over ≡ false → after work ≡ zeros (length (before work))) ⌝ }
 {
     let n = ro.len();
     let m = co.len();
@@ -92,9 +92,9 @@ pub fn pass_two(
     lv: &mut [u32],
     work: &mut [u64],
 )
-    requires { ⌜ CompleteReady (q .p) (compressed (now starts) (now cols) (now vals)) (now ro) (now co) (compressed (now ls) (now lc) (now lv)) (compressed (now us) (now uc) (now uv)) (now work) r at l ⌝ }
-    ensures completed { λ _. ⌜ ((f : Found) (total : ℕ) → FoundFrom (q .p) (compressed (now (starts .entry)) (now (cols .entry)) (now (vals .entry))) (now (ro .entry)) (now (co .entry)) (compressed (now (ls .entry)) (now (lc .entry)) (now (lv .entry))) (compressed (now (us .entry)) (now (uc .entry)) (now (uv .entry))) r at l total f → CompletedFor f (length (now (co .entry))) (now (ro .exit)) (now (co .exit)) (compressed (now (ls .exit)) (now (lc .exit)) (now (lv .exit)))) ⌝ }
-    ensures clear { λ _. ⌜ now (work .exit) ≡ zeros (length (now (work .entry))) ⌝ }
+    requires { ⌜ CompleteReady (q .p) (storedAt starts cols vals) (now ro) (now co) (storedAt ls lc lv) (storedAt us uc uv) (now work) r at l ⌝ }
+    ensures completed { λ _. ⌜ ((f : Found) (total : ℕ) → FoundFrom (q .p) (storedBefore starts cols vals) (before ro) (before co) (storedBefore ls lc lv) (storedBefore us uc uv) r at l total f → CompletedFor f (length (before co)) (after ro) (after co) (storedAfter ls lc lv)) ⌝ }
+    ensures clear { λ _. ⌜ after work ≡ zeros (length (before work)) ⌝ }
 {
     let n = ro.len();
     let m = co.len();

@@ -2,7 +2,8 @@
 // stored as they are found, so that the pivot columns are gone through once.
 ghost use Prim.Native.Nat.{_%_};
 ghost use lib.ListN.{length, getD};
-ghost use Rattle.sparse.specs.Matrix.{compressed, matrix};
+ghost use Rattle.sparse.specs.Matrix.{matrix};
+ghost use Rattle.sparse.specs.Views.{before, after, storedAt, storedBefore};
 ghost use Rattle.factor_reduce.specs.InPlace.{StepReady, MultipleTaken};
 ghost use Rattle.factor_reduce.specs.Gathering.{EntryReady, EntryGathered, GatherReady, MultiplesGathered};
 use lists::index;
@@ -26,8 +27,8 @@ fn take_multiple(
     c: usize,
     work: &mut [u64],
 ) -> u32
-    requires { ⌜ StepReady (q .p) k c (compressed (now us) (now uc) (now uv)) (now work) ⌝ }
-    ensures { λ x. ⌜ MultipleTaken (q .p) c (matrix (compressed (now (us .entry)) (now (uc .entry)) (now (uv .entry))) k) (now (work .entry)) (now (work .exit)) x ⌝ }
+    requires { ⌜ StepReady (q .p) k c (storedAt us uc uv) (now work) ⌝ }
+    ensures { λ x. ⌜ MultipleTaken (q .p) c (matrix (storedBefore us uc uv) k) (before work) (after work) x ⌝ }
 {
     let x = q.reduce(work[c]);
     if x != 0 {
@@ -51,8 +52,8 @@ fn gather_step(
     lc: &mut [u32],
     lv: &mut [u32],
 ) -> Gathered
-    requires { ⌜ EntryReady (q .p) k c (compressed (now us) (now uc) (now uv)) at limit (now work) (now lc) (now lv) ⌝ }
-    ensures { λ g. ⌜ EntryGathered (q .p) k c (matrix (compressed (now (us .entry)) (now (uc .entry)) (now (uv .entry))) k) (getD (now (work .entry)) c 0 % q .p) at limit (now (work .entry)) (now (lc .entry)) (now (lv .entry)) (now (work .exit)) (now (lc .exit)) (now (lv .exit)) (g .over) (g .next) ⌝ }
+    requires { ⌜ EntryReady (q .p) k c (storedAt us uc uv) at limit (now work) (now lc) (now lv) ⌝ }
+    ensures { λ g. ⌜ EntryGathered (q .p) k c (matrix (storedBefore us uc uv) k) (getD (before work) c 0 % q .p) at limit (before work) (before lc) (before lv) (after work) (after lc) (after lv) (g .over) (g .next) ⌝ }
 {
     let x = take_multiple(q, us, uc, uv, k, c, work);
     if x == 0 {
@@ -89,8 +90,8 @@ pub fn gather_multiples(
     lc: &mut [u32],
     lv: &mut [u32],
 ) -> Gathered
-    requires { ⌜ GatherReady (q .p) (now co) (compressed (now us) (now uc) (now uv)) l limit (now work) (now lc) (now lv) ⌝ }
-    ensures { λ g. ⌜ MultiplesGathered (q .p) (length (now (work .entry))) (now (co .entry)) (compressed (now (us .entry)) (now (uc .entry)) (now (uv .entry))) (λ j. getD (now (work .entry)) j 0 % q .p) l limit (now (lc .entry)) (now (lv .entry)) (now (lc .exit)) (now (lv .exit)) (now (work .exit)) (g .over) (g .next) ⌝ }
+    requires { ⌜ GatherReady (q .p) (now co) (storedAt us uc uv) l limit (now work) (now lc) (now lv) ⌝ }
+    ensures { λ g. ⌜ MultiplesGathered (q .p) (length (before work)) (before co) (storedBefore us uc uv) (λ j. getD (before work) j 0 % q .p) l limit (before lc) (before lv) (after lc) (after lv) (after work) (g .over) (g .next) ⌝ }
 {
     let mut next = l;
     let mut k = 0;

@@ -2,7 +2,8 @@
 ghost use lib.ListN.{length};
 ghost use Rattle.algebra.specs.Matrix.{vector};
 ghost use Rattle.algebra.specs.Reduction.{reduced};
-ghost use Rattle.sparse.specs.Matrix.{compressed, matrix};
+ghost use Rattle.sparse.specs.Matrix.{matrix};
+ghost use Rattle.sparse.specs.Views.{before, after, storedAt, storedBefore};
 ghost use Rattle.factor_row.specs.Loading.{multiples};
 ghost use Rattle.factor_row.specs.Gathering.{cut, multiplesBy, remainderBy, GatherRowReady, RowGathered, GatherReadyFrom};
 use crate::loading::load_row;
@@ -29,8 +30,8 @@ fn gather_cut(
     lv: &mut [u32],
     work: &mut [u64],
 ) -> Gathered
-    requires { ⌜ GatherRowReady (q .p) i l total (compressed (now starts) (now cols) (now vals)) (now co) (compressed (now us) (now uc) (now uv)) (now work) (now lc) (now lv) ⌝ }
-    ensures { λ g. ⌜ RowGathered (q .p) (length (now (work .entry))) l total (multiples (q .p) (length (now (co .entry))) (vector (now (co .entry))) (matrix (compressed (now (us .entry)) (now (uc .entry)) (now (uv .entry)))) (matrix (compressed (now (starts .entry)) (now (cols .entry)) (now (vals .entry))) i)) (reduced (q .p) (vector (now (co .entry))) (matrix (compressed (now (us .entry)) (now (uc .entry)) (now (uv .entry)))) (length (now (co .entry))) (matrix (compressed (now (starts .entry)) (now (cols .entry)) (now (vals .entry))) i)) (now (lc .entry)) (now (lv .entry)) (now (lc .exit)) (now (lv .exit)) (now (work .exit)) (g .over) (g .next) ⌝ }
+    requires { ⌜ GatherRowReady (q .p) i l total (storedAt starts cols vals) (now co) (storedAt us uc uv) (now work) (now lc) (now lv) ⌝ }
+    ensures { λ g. ⌜ RowGathered (q .p) (length (before work)) l total (multiples (q .p) (length (before co)) (vector (before co)) (matrix (storedBefore us uc uv)) (matrix (storedBefore starts cols vals) i)) (reduced (q .p) (vector (before co)) (matrix (storedBefore us uc uv)) (length (before co)) (matrix (storedBefore starts cols vals) i)) (before lc) (before lv) (after lc) (after lv) (after work) (g .over) (g .next) ⌝ }
 {
     load_row(starts, cols, vals, i, q.p, work);
     // `total` counts the entries of dependent rows too, which are stored later: their places are not free.
@@ -57,8 +58,8 @@ pub fn gather_row(
     lv: &mut [u32],
     work: &mut [u64],
 ) -> Gathered
-    requires { ⌜ GatherReadyFrom (q .p) i r at l total (compressed (now starts) (now cols) (now vals)) (now co) (now us) (now uc) (now uv) (now work) (now lc) (now lv) ⌝ }
-    ensures { λ g. ⌜ RowGathered (q .p) (length (now (work .entry))) l total (multiplesBy (q .p) r (now (co .entry)) (cut r at (now (us .entry)) (now (uc .entry)) (now (uv .entry))) (matrix (compressed (now (starts .entry)) (now (cols .entry)) (now (vals .entry))) i)) (remainderBy (q .p) r (now (co .entry)) (cut r at (now (us .entry)) (now (uc .entry)) (now (uv .entry))) (matrix (compressed (now (starts .entry)) (now (cols .entry)) (now (vals .entry))) i)) (now (lc .entry)) (now (lv .entry)) (now (lc .exit)) (now (lv .exit)) (now (work .exit)) (g .over) (g .next) ⌝ }
+    requires { ⌜ GatherReadyFrom (q .p) i r at l total (storedAt starts cols vals) (now co) (now us) (now uc) (now uv) (now work) (now lc) (now lv) ⌝ }
+    ensures { λ g. ⌜ RowGathered (q .p) (length (before work)) l total (multiplesBy (q .p) r (before co) (cut r at (before us) (before uc) (before uv)) (matrix (storedBefore starts cols vals) i)) (remainderBy (q .p) r (before co) (cut r at (before us) (before uc) (before uv)) (matrix (storedBefore starts cols vals) i)) (before lc) (before lv) (after lc) (after lv) (after work) (g .over) (g .next) ⌝ }
 {
     gather_cut(
         q,

@@ -2,7 +2,8 @@
 ghost use mathlib.Core.Path.{_≡_};
 ghost use lib.ListN.{length};
 ghost use Rattle.lists.specs.Tabulate.{tabulate};
-ghost use Rattle.sparse.specs.Matrix.{compressed, matrix};
+ghost use Rattle.sparse.specs.Matrix.{matrix};
+ghost use Rattle.sparse.specs.Views.{before, after, storedAt, storedBefore};
 ghost use Rattle.factor_row.specs.Loading.{RowLoadable};
 use lists::index;
 use lists::part;
@@ -10,8 +11,8 @@ use sparse::dense::load;
 
 // Puts row i of the matrix into the working row, which is all zero.
 pub fn load_row(starts: &[u32], cols: &[u32], vals: &[u32], i: usize, p: u32, work: &mut [u64])
-    requires { ⌜ RowLoadable p i (compressed (now starts) (now cols) (now vals)) (now work) ⌝ }
-    ensures { λ _. ⌜ now (work .exit) ≡ tabulate (length (now (work .entry))) (matrix (compressed (now (starts .entry)) (now (cols .entry)) (now (vals .entry))) i) ⌝ }
+    requires { ⌜ RowLoadable p i (storedAt starts cols vals) (now work) ⌝ }
+    ensures { λ _. ⌜ after work ≡ tabulate (length (before work)) (matrix (storedBefore starts cols vals) i) ⌝ }
 {
     let a = index(starts[i]);
     let e = index(starts[i + 1]);

@@ -2,6 +2,7 @@
 ghost use mathlib.Core.Path.{_≡_};
 ghost use Rattle.lists.specs.Filled.{zeros};
 ghost use Rattle.sparse.specs.Row.{entry};
+ghost use Rattle.sparse.specs.Views.{before, after};
 ghost use Rattle.factor_row.specs.PivotCopy.{PivotCopyReady};
 ghost use Rattle.factor_row.specs.Taking.{PivotFound};
 use crate::pivot_row::Step;
@@ -28,7 +29,7 @@ pub fn copy_pivot(
     uv: &mut [u32],
 ) -> Step
     requires { ⌜ PivotCopyReady (q .p) m c r at l total (now cols) (now vals) (now lc) (now lv) (now uc) (now uv) ⌝ }
-    ensures { λ s. ⌜ (s .column ≡ c) × PivotFound (q .p) m at l total (zeros r) (entry (now (cols .entry)) (now (vals .entry))) c (now (lc .entry)) (now (lv .entry)) (now (uc .entry)) (now (uv .entry)) (now (lc .exit)) (now (lv .exit)) (now (uc .exit)) (now (uv .exit)) (s .over) (s .at) (s .l) (s .total) ⌝ }
+    ensures { λ s. ⌜ (s .column ≡ c) × PivotFound (q .p) m at l total (zeros r) (entry (before cols) (before vals)) c (before lc) (before lv) (before uc) (before uv) (after lc) (after lv) (after uc) (after uv) (s .over) (s .at) (s .l) (s .total) ⌝ }
 {
     if !fits(lc.len(), total, uc.len(), at, cols.len()) {
         return Step {

@@ -4,6 +4,7 @@ ghost use mathlib.Core.Bool.{_&&_};
 ghost use Prim.Native.Nat.{_+_, _≤_};
 ghost use lib.Dec.{leb};
 ghost use Rattle.factor_row.specs.PivotRow.{PivotReady, PivotOutcome};
+ghost use Rattle.sparse.specs.Views.{before, after};
 use residue::Modulus;
 use sparse::dense::count_nonzero;
 use sparse::dense::store;
@@ -44,7 +45,7 @@ pub fn store_pivot(
     work: &mut [u64],
 ) -> Step
     requires { ⌜ PivotReady (q .p) c r at l total (now work) (now lc) (now lv) (now uc) (now uv) ⌝ }
-    ensures { λ s. ⌜ (s .column ≡ c) × PivotOutcome (q .p) c r at l total (now (work .entry)) (now (lc .entry)) (now (lv .entry)) (now (uc .entry)) (now (uv .entry)) (now (work .exit)) (now (lc .exit)) (now (lv .exit)) (now (uc .exit)) (now (uv .exit)) (s .over) (s .at) (s .l) (s .total) ⌝ }
+    ensures { λ s. ⌜ (s .column ≡ c) × PivotOutcome (q .p) c r at l total (before work) (before lc) (before lv) (before uc) (before uv) (after work) (after lc) (after lv) (after uc) (after uv) (s .over) (s .at) (s .l) (s .total) ⌝ }
 {
     let k = count_nonzero(q, work);
     if !fits(lc.len(), total, uc.len(), at, k) {

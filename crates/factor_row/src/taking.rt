@@ -3,7 +3,8 @@ ghost use lib.Dec.{eqb};
 ghost use lib.ListN.{length};
 ghost use Rattle.lists.specs.Filled.{zeros};
 ghost use Rattle.lists.specs.Tests.{first};
-ghost use Rattle.sparse.specs.Matrix.{compressed, matrix};
+ghost use Rattle.sparse.specs.Matrix.{matrix};
+ghost use Rattle.sparse.specs.Views.{before, after, storedAt, storedBefore};
 ghost use Rattle.factor_row.specs.Gathering.{cut, multiplesBy, remainderBy};
 ghost use Rattle.factor_row.specs.Taking.{PairReady, OtherReady, RowFound};
 use crate::gathering::gather_row;
@@ -34,8 +35,8 @@ pub fn take_pair(
     uv: &mut [u32],
     work: &mut [u64],
 ) -> Step
-    requires { ⌜ PairReady (q .p) i c r at l total (compressed (now starts) (now cols) (now vals)) (now work) (now lc) (now lv) (now uc) (now uv) ⌝ }
-    ensures { λ s. ⌜ RowFound (q .p) (length (now (work .entry))) at l total (zeros r) (matrix (compressed (now (starts .entry)) (now (cols .entry)) (now (vals .entry))) i) c (now (lc .entry)) (now (lv .entry)) (now (uc .entry)) (now (uv .entry)) (now (lc .exit)) (now (lv .exit)) (now (uc .exit)) (now (uv .exit)) (now (work .exit)) (s .over) (s .column) (s .at) (s .l) (s .total) ⌝ }
+    requires { ⌜ PairReady (q .p) i c r at l total (storedAt starts cols vals) (now work) (now lc) (now lv) (now uc) (now uv) ⌝ }
+    ensures { λ s. ⌜ RowFound (q .p) (length (before work)) at l total (zeros r) (matrix (storedBefore starts cols vals) i) c (before lc) (before lv) (before uc) (before uv) (after lc) (after lv) (after uc) (after uv) (after work) (s .over) (s .column) (s .at) (s .l) (s .total) ⌝ }
 {
     let a = index(starts[i]);
     let e = index(starts[i + 1]);
@@ -76,8 +77,8 @@ pub fn take_other(
     uv: &mut [u32],
     work: &mut [u64],
 ) -> Step
-    requires { ⌜ OtherReady (q .p) i r at l total (compressed (now starts) (now cols) (now vals)) (now co) (now us) (now work) (now lc) (now lv) (now uc) (now uv) ⌝ }
-    ensures { λ s. ⌜ RowFound (q .p) (length (now (work .entry))) at l total (multiplesBy (q .p) r (now (co .entry)) (cut r at (now (us .entry)) (now (uc .entry)) (now (uv .entry))) (matrix (compressed (now (starts .entry)) (now (cols .entry)) (now (vals .entry))) i)) (remainderBy (q .p) r (now (co .entry)) (cut r at (now (us .entry)) (now (uc .entry)) (now (uv .entry))) (matrix (compressed (now (starts .entry)) (now (cols .entry)) (now (vals .entry))) i)) (first (length (now (work .entry))) (λ j. eqb (remainderBy (q .p) r (now (co .entry)) (cut r at (now (us .entry)) (now (uc .entry)) (now (uv .entry))) (matrix (compressed (now (starts .entry)) (now (cols .entry)) (now (vals .entry))) i) j) 0)) (now (lc .entry)) (now (lv .entry)) (now (uc .entry)) (now (uv .entry)) (now (lc .exit)) (now (lv .exit)) (now (uc .exit)) (now (uv .exit)) (now (work .exit)) (s .over) (s .column) (s .at) (s .l) (s .total) ⌝ }
+    requires { ⌜ OtherReady (q .p) i r at l total (storedAt starts cols vals) (now co) (now us) (now work) (now lc) (now lv) (now uc) (now uv) ⌝ }
+    ensures { λ s. ⌜ RowFound (q .p) (length (before work)) at l total (multiplesBy (q .p) r (before co) (cut r at (before us) (before uc) (before uv)) (matrix (storedBefore starts cols vals) i)) (remainderBy (q .p) r (before co) (cut r at (before us) (before uc) (before uv)) (matrix (storedBefore starts cols vals) i)) (first (length (before work)) (λ j. eqb (remainderBy (q .p) r (before co) (cut r at (before us) (before uc) (before uv)) (matrix (storedBefore starts cols vals) i) j) 0)) (before lc) (before lv) (before uc) (before uv) (after lc) (after lv) (after uc) (after uv) (after work) (s .over) (s .column) (s .at) (s .l) (s .total) ⌝ }
 {
     let g = gather_row(
         q,

@@ -4,10 +4,10 @@
 ghost use mathlib.Core.Path.{_≡_};
 ghost use Prim.Native.Nat.{_+_};
 ghost use lib.ListN.{length};
-ghost use Rattle.sparse.specs.Matrix.{compressed};
 ghost use Rattle.elimination.specs.Structural.{leading};
 ghost use Rattle.factor_names.specs.Named.{ByRow, Named};
 ghost use Rattle.factor_select.specs.Needs.{NameReady, Extended, ExtendReady, SelectReady};
+ghost use Rattle.sparse.specs.Views.{before, after, storedAt, storedBefore};
 use limits::SIZE_CELLS;
 
 pub mod fit;
@@ -23,8 +23,8 @@ fn name_rows(
     work: &[u64],
     chosen: &mut [u32],
 )
-    requires { ⌜ NameReady p n (compressed (now starts) (now cols) (now vals)) (now work) (now chosen) ⌝ }
-    ensures { λ _. ⌜ ByRow (now (chosen .exit)) (leading (compressed (now (starts .entry)) (now (cols .entry)) (now (vals .entry))) n (length (now (work .entry)))) ⌝ }
+    requires { ⌜ NameReady p n (storedAt starts cols vals) (now work) (now chosen) ⌝ }
+    ensures { λ _. ⌜ ByRow (after chosen) (leading (storedBefore starts cols vals) n (length (before work))) ⌝ }
 {
     let mut c = 0;
     while c < work.len() {
@@ -48,8 +48,8 @@ fn extend_row(
     stamps: &mut [u32],
     queue: &mut [u32],
 )
-    requires { ⌜ ExtendReady p n i (compressed (now starts) (now cols) (now vals)) (now work) (now chosen) (now stamps) (now queue) ⌝ }
-    ensures { λ _. ⌜ Extended (compressed (now (starts .entry)) (now (cols .entry)) (now (vals .entry))) n (length (now (work .entry))) (i + 1) (now (work .exit)) (now (chosen .exit)) (now (stamps .exit)) (now (queue .exit)) ⌝ }
+    requires { ⌜ ExtendReady p n i (storedAt starts cols vals) (now work) (now chosen) (now stamps) (now queue) ⌝ }
+    ensures { λ _. ⌜ Extended (storedBefore starts cols vals) n (length (before work)) (i + 1) (after work) (after chosen) (after stamps) (after queue) ⌝ }
 {
     if chosen[i] != 0 {
         return;
@@ -86,8 +86,8 @@ fn extend_all(
     stamps: &mut [u32],
     queue: &mut [u32],
 )
-    requires { ⌜ SelectReady p n (compressed (now starts) (now cols) (now vals)) (now work) (now chosen) (now stamps) (now queue) ⌝ }
-    ensures { λ _. ⌜ Extended (compressed (now (starts .entry)) (now (cols .entry)) (now (vals .entry))) n (length (now (work .entry))) n (now (work .exit)) (now (chosen .exit)) (now (stamps .exit)) (now (queue .exit)) ⌝ }
+    requires { ⌜ SelectReady p n (storedAt starts cols vals) (now work) (now chosen) (now stamps) (now queue) ⌝ }
+    ensures { λ _. ⌜ Extended (storedBefore starts cols vals) n (length (before work)) n (after work) (after chosen) (after stamps) (after queue) ⌝ }
 {
     let mut i = 0;
     while i < n {
@@ -106,8 +106,8 @@ pub fn select(
     work: &mut [u64],
     chosen: &mut [u32],
 )
-    requires { ⌜ NameReady p n (compressed (now starts) (now cols) (now vals)) (now work) (now chosen) ⌝ }
-    ensures { λ _. ⌜ Named (compressed (now (starts .entry)) (now (cols .entry)) (now (vals .entry))) n (length (now (work .entry))) n (now (work .exit)) (now (chosen .exit)) ⌝ }
+    requires { ⌜ NameReady p n (storedAt starts cols vals) (now work) (now chosen) ⌝ }
+    ensures { λ _. ⌜ Named (storedBefore starts cols vals) n (length (before work)) n (after work) (after chosen) ⌝ }
 {
     let m = work.len();
     let mut stamps = [0u32; SIZE_CELLS];

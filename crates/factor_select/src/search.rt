@@ -3,9 +3,9 @@ ghost use mathlib.Core.Bool.{true, false};
 ghost use lib.ListN.{length};
 ghost use mathlib.Core.List.{List, [], _∷_};
 ghost use Prim.Native.Nat.{ℕ};
-ghost use Rattle.sparse.specs.Matrix.{compressed};
 ghost use Rattle.factor_select.specs.Search.{TouchReady, VisitReady, Visited, Survivor};
 ghost use Rattle.factor_select.specs.Needs.{SearchReady};
+ghost use Rattle.sparse.specs.Views.{before, after, storedAt, storedBefore};
 use crate::fit::next_fit;
 use lists::index;
 
@@ -22,7 +22,7 @@ fn touch(
     tail: usize,
 ) -> usize
     requires { ⌜ TouchReady (now work) (now stamps) (now queue) mark tail j cell ⌝ }
-    ensures { λ r. ⌜ Visited own (j ∷ []) (now (work .entry)) (now (stamps .entry)) (now (queue .entry)) mark tail (now (stamps .exit)) (now (queue .exit)) r ⌝ }
+    ensures { λ r. ⌜ Visited own (j ∷ []) (before work) (before stamps) (before queue) mark tail (after stamps) (after queue) r ⌝ }
 {
     let at = index(j);
     if cell == 0 {
@@ -50,7 +50,7 @@ fn visit(
     from: usize,
 ) -> usize
     requires { ⌜ VisitReady (now row) (now work) (now stamps) (now queue) mark from ⌝ }
-    ensures { λ r. ⌜ Visited own (now (row .entry)) (now (work .entry)) (now (stamps .entry)) (now (queue .entry)) mark from (now (stamps .exit)) (now (queue .exit)) r ⌝ }
+    ensures { λ r. ⌜ Visited own (before row) (before work) (before stamps) (before queue) mark from (after stamps) (after queue) r ⌝ }
 {
     let mut tail = from;
     let mut t = 0;
@@ -77,8 +77,8 @@ pub fn search(
     stamps: &mut [u32],
     queue: &mut [u32],
 ) -> usize
-    requires { ⌜ SearchReady p n i (compressed (now starts) (now cols) (now vals)) (now work) (now chosen) (now stamps) (now queue) mark ⌝ }
-    ensures { λ r. ⌜ Survivor (compressed (now (starts .entry)) (now (cols .entry)) (now (vals .entry))) n (length (now (work .entry))) i mark (now (stamps .entry)) (now (stamps .exit)) r ⌝ }
+    requires { ⌜ SearchReady p n i (storedAt starts cols vals) (now work) (now chosen) (now stamps) (now queue) mark ⌝ }
+    ensures { λ r. ⌜ Survivor (storedBefore starts cols vals) n (length (before work)) i mark (before stamps) (after stamps) r ⌝ }
 {
     let own = factor_names::columns_of(starts, cols, i);
     let mut tail = visit(true, own, work, mark, stamps, queue, 0);

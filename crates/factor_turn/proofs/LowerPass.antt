@@ -18,7 +18,8 @@ use Rattle.sparse.proofs.DenseLaws.{compress-lengths}
 use Rattle.sparse.proofs.Nonzeros.{stored-columns, stored-values}
 use Rattle.elimination.specs.Pivots.{Found, uppersOf, coefficients}
 use Rattle.elimination.specs.Factoring.{lowersOf, entries}
-use Rattle.elimination.proofs.Invariant.{uppers-many, Lower}
+use Rattle.elimination.specs.Invariant.{Lower}
+use Rattle.elimination.proofs.Invariant.{uppers-many}
 use Rattle.elimination.proofs.Theorem.{lowers-many, rank-rows, row-combines}
 use Rattle.elimination.proofs.Again.{columns-again, values-again}
 use Rattle.factor_row.specs.Storage.{Holds}

@@ -18,7 +18,8 @@ use Rattle.elimination.specs.Pairs.{pairRows, pairColumns}
 use Rattle.elimination.specs.Pivots.{Found, Turn, columnsOf, uppersOf, rankOf, withDependent, pair, other, turn, reducedBy, coefficients}
 use Rattle.elimination.specs.Factoring.{schedule, nothing, rowOfTurn, entries, lowersOf, fits, firstOver}
 use Rattle.elimination.proofs.Completion.{completed}
-use Rattle.elimination.proofs.Invariant.{Invariant, nothing-holds}
+use Rattle.elimination.specs.Invariant.{Invariant}
+use Rattle.elimination.proofs.Invariant.{nothing-holds}
 use Rattle.elimination.proofs.Turns.{other-either}
 use Rattle.factor_row.proofs.Storage.{holds-none}
 use Rattle.factor_turn.specs.State.{pivotRows, pivotLowers, State, turnOf, AfterTurn}

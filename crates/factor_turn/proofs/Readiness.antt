@@ -17,8 +17,9 @@ use Rattle.sparse.proofs.Rows.{form-below}
 use Rattle.factor_reduce.specs.InPlace.{EchelonReady}
 use Rattle.elimination.specs.Pivots.{Found, columnsOf, uppersOf, rankOf, turn}
 use Rattle.elimination.specs.Factoring.{entries}
-use Rattle.elimination.proofs.Invariant.{uppers-many, Invariant}
-use Rattle.elimination.proofs.Echelon.{Echelon, echelon-distinct}
+use Rattle.elimination.specs.Invariant.{Invariant, Echelon}
+use Rattle.elimination.proofs.Invariant.{uppers-many}
+use Rattle.elimination.proofs.Echelon.{echelon-distinct}
 use Rattle.elimination.proofs.Turns.{other-holds, pair-holds}
 use Rattle.factor_row.specs.Gathering.{cut, GatherReadyFrom}
 use Rattle.factor_row.specs.PivotRow.{ListsReady}

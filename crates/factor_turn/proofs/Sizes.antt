@@ -9,8 +9,9 @@ use Rattle.sparse.specs.Dense.{nonzeros}
 use Rattle.elimination.specs.Pivots.{Found, columnsOf, uppersOf, rankOf}
 use Rattle.elimination.specs.Factoring.{rest, entries}
 use Rattle.elimination.proofs.Completion.{completed-length}
+use Rattle.elimination.specs.Invariant.{noPivot, Invariant}
 use Rattle.elimination.proofs.Echelon.{echelon-distinct}
-use Rattle.elimination.proofs.Invariant.{noPivot, columns-many, uppers-many, Invariant}
+use Rattle.elimination.proofs.Invariant.{columns-many, uppers-many}
 use Rattle.factor_turn.specs.State.{pivotLowers}
 
 nonzeros-most : (row : List ℕ) → length (nonzeros row) ≤ length row

@@ -10,7 +10,7 @@ use lib.ListN.{length, getD, set}
 use lib.Seq.{drop-set-lt, set-getD}
 use Rattle.sparse.specs.Matrix.{Compressed, compressed, matrix}
 use Rattle.elimination.specs.Pivots.{Found, rankOf, turn}
-use Rattle.elimination.proofs.Invariant.{Invariant}
+use Rattle.elimination.specs.Invariant.{Invariant}
 use Rattle.factor_row.specs.Gathering.{cut}
 use Rattle.factor_row.specs.Taking.{RowFound}
 use Rattle.factor_turn.specs.State.{turnOf}

@@ -14,7 +14,7 @@ use Rattle.sparse.specs.Dense.{nonzeros, compress}
 use Rattle.sparse.specs.Storing.{DenseStored}
 use Rattle.elimination.specs.Pivots.{Found}
 use Rattle.elimination.specs.Factoring.{rowsOf, lowersOf}
-use Rattle.elimination.proofs.Invariant.{Invariant}
+use Rattle.elimination.specs.Invariant.{Invariant}
 use Rattle.factor_row.specs.Gathering.{cut, multiplesBy, GatherReadyFrom}
 use Rattle.factor_turn.specs.State.{State}
 use Rattle.factor_turn.specs.Turning.{Lent}

@@ -21,7 +21,7 @@ use Rattle.algebra.specs.Prime.{Prime}
 use Rattle.algebra.specs.Matrix.{Vector, Matrix}
 use Rattle.sparse.specs.Matrix.{Compressed, form, matrix}
 use Rattle.elimination.specs.Pivots.{Found, turn}
-use Rattle.elimination.proofs.Invariant.{Invariant}
+use Rattle.elimination.specs.Invariant.{Invariant}
 use Rattle.factor_row.specs.Gathering.{multiplesBy, remainderBy}
 use Rattle.factor_row.specs.Taking.{PairReady, OtherReady}
 use Rattle.factor_turn.specs.State.{State, turnOf, AfterTurn}

@@ -3,9 +3,9 @@ ghost use mathlib.Core.Path.{_≡_};
 ghost use Prim.Native.Nat.{ℕ};
 ghost use lib.ListN.{length};
 ghost use Rattle.lists.specs.Filled.{zeros};
-ghost use Rattle.sparse.specs.Matrix.{compressed};
 ghost use Rattle.elimination.specs.Pivots.{Found};
 ghost use Rattle.factor_turn.specs.Filling.{FillRowReady, LowerStored, FillFrom, FillReady, FillDone};
+ghost use Rattle.sparse.specs.Views.{before, after, storedAt, storedBefore, storedAfter};
 use factor_row::gathering::gather_row;
 use lists::clear_row;
 use residue::Modulus;
@@ -28,8 +28,8 @@ fn lower_row(
     lv: &mut [u32],
     work: &mut [u64],
 ) -> usize
-    requires { ⌜ FillRowReady (q .p) i r at l (compressed (now starts) (now cols) (now vals)) (now co) (now us) (now uc) (now uv) (now work) (now lc) (now lv) ⌝ }
-    ensures { λ next. ⌜ LowerStored (q .p) i r at l (compressed (now (starts .entry)) (now (cols .entry)) (now (vals .entry))) (now (co .entry)) (now (us .entry)) (now (uc .entry)) (now (uv .entry)) (length (now (work .entry))) (now (lc .entry)) (now (lv .entry)) (now (lc .exit)) (now (lv .exit)) (now (work .exit)) next ⌝ }
+    requires { ⌜ FillRowReady (q .p) i r at l (storedAt starts cols vals) (now co) (now us) (now uc) (now uv) (now work) (now lc) (now lv) ⌝ }
+    ensures { λ next. ⌜ LowerStored (q .p) i r at l (storedBefore starts cols vals) (before co) (before us) (before uc) (before uv) (length (before work)) (before lc) (before lv) (after lc) (after lv) (after work) next ⌝ }
 {
     let g = gather_row(
         q,
@@ -72,9 +72,9 @@ pub fn fill_dependents(
     lv: &mut [u32],
     work: &mut [u64],
 )
-    requires { ⌜ FillReady (q .p) (compressed (now starts) (now cols) (now vals)) (now ro) (now co) (compressed (now ls) (now lc) (now lv)) (compressed (now us) (now uc) (now uv)) (now work) r at l ⌝ }
-    ensures filled { λ _. ⌜ ((f : Found) (total : ℕ) → FillFrom (q .p) (compressed (now (starts .entry)) (now (cols .entry)) (now (vals .entry))) (now (ro .entry)) (now (co .entry)) (compressed (now (ls .entry)) (now (lc .entry)) (now (lv .entry))) (compressed (now (us .entry)) (now (uc .entry)) (now (uv .entry))) (length (now (work .entry))) r at l total f → FillDone f (compressed (now (ls .exit)) (now (lc .exit)) (now (lv .exit)))) ⌝ }
-    ensures clear { λ _. ⌜ now (work .exit) ≡ zeros (length (now (work .entry))) ⌝ }
+    requires { ⌜ FillReady (q .p) (storedAt starts cols vals) (now ro) (now co) (storedAt ls lc lv) (storedAt us uc uv) (now work) r at l ⌝ }
+    ensures filled { λ _. ⌜ ((f : Found) (total : ℕ) → FillFrom (q .p) (storedBefore starts cols vals) (before ro) (before co) (storedBefore ls lc lv) (storedBefore us uc uv) (length (before work)) r at l total f → FillDone f (storedAfter ls lc lv)) ⌝ }
+    ensures clear { λ _. ⌜ after work ≡ zeros (length (before work)) ⌝ }
 {
     let mut next = l;
     let mut k = r;

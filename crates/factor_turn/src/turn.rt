@@ -4,7 +4,8 @@ ghost use mathlib.Core.Bool.{_||_};
 ghost use Prim.Native.Nat.{_+_, _<_};
 ghost use lib.Dec.{eqb};
 ghost use lib.ListN.{length, set};
-ghost use Rattle.sparse.specs.Matrix.{compressed, matrix};
+ghost use Rattle.sparse.specs.Matrix.{matrix};
+ghost use Rattle.sparse.specs.Views.{before, after, storedAt, storedBefore, storedAfter};
 ghost use Rattle.factor_row.specs.Gathering.{cut};
 ghost use Rattle.factor_row.specs.Taking.{RowFound};
 ghost use Rattle.factor_turn.specs.Turning.{lowerOf, remainderOf, columnOf, FindReady, SettleReady, Settled, TurnReady, TurnLeaves};
@@ -44,8 +45,8 @@ fn find(
     uv: &mut [u32],
     work: &mut [u64],
 ) -> Step
-    requires { ⌜ FindReady (q .p) i paired r at l total (compressed (now starts) (now cols) (now vals)) (now co) (now us) (now work) (now lc) (now lv) (now uc) (now uv) ⌝ }
-    ensures { λ s. ⌜ RowFound (q .p) (length (now (work .entry))) at l total (lowerOf (q .p) paired r (now (co .entry)) (cut r at (now (us .entry)) (now (uc .entry)) (now (uv .entry))) (matrix (compressed (now (starts .entry)) (now (cols .entry)) (now (vals .entry))) i)) (remainderOf (q .p) paired r (now (co .entry)) (cut r at (now (us .entry)) (now (uc .entry)) (now (uv .entry))) (matrix (compressed (now (starts .entry)) (now (cols .entry)) (now (vals .entry))) i)) (columnOf (q .p) (length (now (work .entry))) paired r (now (co .entry)) (cut r at (now (us .entry)) (now (uc .entry)) (now (uv .entry))) (matrix (compressed (now (starts .entry)) (now (cols .entry)) (now (vals .entry))) i)) (now (lc .entry)) (now (lv .entry)) (now (uc .entry)) (now (uv .entry)) (now (lc .exit)) (now (lv .exit)) (now (uc .exit)) (now (uv .exit)) (now (work .exit)) (s .over) (s .column) (s .at) (s .l) (s .total) ⌝ }
+    requires { ⌜ FindReady (q .p) i paired r at l total (storedAt starts cols vals) (now co) (now us) (now work) (now lc) (now lv) (now uc) (now uv) ⌝ }
+    ensures { λ s. ⌜ RowFound (q .p) (length (before work)) at l total (lowerOf (q .p) paired r (before co) (cut r at (before us) (before uc) (before uv)) (matrix (storedBefore starts cols vals) i)) (remainderOf (q .p) paired r (before co) (cut r at (before us) (before uc) (before uv)) (matrix (storedBefore starts cols vals) i)) (columnOf (q .p) (length (before work)) paired r (before co) (cut r at (before us) (before uc) (before uv)) (matrix (storedBefore starts cols vals) i)) (before lc) (before lv) (before uc) (before uv) (after lc) (after lv) (after uc) (after uv) (after work) (s .over) (s .column) (s .at) (s .l) (s .total) ⌝ }
 {
     if paired {
         let c = index(co[r]);
@@ -110,7 +111,7 @@ fn enter(
     us: &mut [u32],
 )
     requires { ⌜ (r < length (now ro)) × (r < length (now co)) × (r + 1 < length (now ls)) × (r + 1 < length (now us)) ⌝ }
-    ensures { λ _. ⌜ (now (ro .exit) ≡ set (now (ro .entry)) r i) × (now (co .exit) ≡ set (now (co .entry)) r c) × (now (ls .exit) ≡ set (now (ls .entry)) (r + 1) l) × (now (us .exit) ≡ set (now (us .entry)) (r + 1) at) ⌝ }
+    ensures { λ _. ⌜ (after ro ≡ set (before ro) r i) × (after co ≡ set (before co) r c) × (after ls ≡ set (before ls) (r + 1) l) × (after us ≡ set (before us) (r + 1) at) ⌝ }
 {
     ro[r] = i;
     co[r] = c;
@@ -130,7 +131,7 @@ pub fn settle(
     us: &mut [u32],
 ) -> Progress
     requires { ⌜ SettleReady (step .over) (step .column) (step .at) (step .l) r m (now ro) (now co) (now ls) (now us) ⌝ }
-    ensures { λ to. ⌜ Settled (step .over) (step .column) (step .at) (step .l) (step .total) i r m (now (ro .entry)) (now (co .entry)) (now (ls .entry)) (now (us .entry)) (now (ro .exit)) (now (co .exit)) (now (ls .exit)) (now (us .exit)) (to .over) (to .r) (to .at) (to .l) (to .total) ⌝ }
+    ensures { λ to. ⌜ Settled (step .over) (step .column) (step .at) (step .l) (step .total) i r m (before ro) (before co) (before ls) (before us) (after ro) (after co) (after ls) (after us) (to .over) (to .r) (to .at) (to .l) (to .total) ⌝ }
 {
     let over = step.over;
     let c = step.column;
@@ -175,8 +176,8 @@ pub fn take_row(
     uv: &mut [u32],
     work: &mut [u64],
 ) -> Progress
-    requires { ⌜ TurnReady (q .p) i paired (compressed (now starts) (now cols) (now vals)) (now ro) (now co) (compressed (now ls) (now lc) (now lv)) (compressed (now us) (now uc) (now uv)) (now work) (so .r) (so .at) (so .l) (so .total) ⌝ }
-    ensures { λ to. ⌜ TurnLeaves (q .p) i paired (compressed (now (starts .entry)) (now (cols .entry)) (now (vals .entry))) (now (ro .entry)) (now (co .entry)) (compressed (now (ls .entry)) (now (lc .entry)) (now (lv .entry))) (compressed (now (us .entry)) (now (uc .entry)) (now (uv .entry))) (now (work .entry)) (so .r) (so .at) (so .l) (so .total) (now (ro .exit)) (now (co .exit)) (compressed (now (ls .exit)) (now (lc .exit)) (now (lv .exit))) (compressed (now (us .exit)) (now (uc .exit)) (now (uv .exit))) (now (work .exit)) (to .over) (to .r) (to .at) (to .l) (to .total) ⌝ }
+    requires { ⌜ TurnReady (q .p) i paired (storedAt starts cols vals) (now ro) (now co) (storedAt ls lc lv) (storedAt us uc uv) (now work) (so .r) (so .at) (so .l) (so .total) ⌝ }
+    ensures { λ to. ⌜ TurnLeaves (q .p) i paired (storedBefore starts cols vals) (before ro) (before co) (storedBefore ls lc lv) (storedBefore us uc uv) (before work) (so .r) (so .at) (so .l) (so .total) (after ro) (after co) (storedAfter ls lc lv) (storedAfter us uc uv) (after work) (to .over) (to .r) (to .at) (to .l) (to .total) ⌝ }
 {
     let r = so.r;
     let step = find(

@@ -1,12 +1,12 @@
 // Checking a certificate against a plan's text.
 ghost use mathlib.Core.Path.{_≡_};
 ghost use lib.ListN.{length};
-ghost use Rattle.sparse.specs.Matrix.{compressed};
 ghost use Rattle.call_check.specs.Calls.{checkCertificateOf, Checks};
 ghost use Rattle.text_plan.specs.Held.{heldPlan};
 ghost use Rattle.stages.specs.Lists.{Held};
 ghost use Rattle.plq.specs.Calls.{checkTextOf};
 ghost use Rattle.plq.specs.Lists.{CheckLists};
+ghost use Rattle.sparse.specs.Views.{before, after, storedAt};
 use call_check::check_certificate;
 use refusals::Outcome;
 use text_plan::Reading;
@@ -20,8 +20,8 @@ fn check_held(
     certificate: &[u8],
     work: &mut [u64],
 ) -> Outcome
-    requires { ⌜ Held r (compressed (now starts) (now cols) (now vals)) ⌝ }
-    ensures { λ o. ⌜ Checks (checkCertificateOf (r .p) (r .n) (r .m) (heldPlan r (now (starts .entry)) (now (cols .entry)) (now (vals .entry))) (now (certificate .entry)) (length (now (work .entry)))) o (now (work .entry)) (now (work .exit)) ⌝ }
+    requires { ⌜ Held r (storedAt starts cols vals) ⌝ }
+    ensures { λ o. ⌜ Checks (checkCertificateOf (r .p) (r .n) (r .m) (heldPlan r (before starts) (before cols) (before vals)) (before certificate) (length (before work))) o (before work) (after work) ⌝ }
 {
     let ro = r.n as usize + 1;
     let count = r.count as usize;
@@ -46,8 +46,8 @@ pub fn check_text(
     vals: &mut [u32],
     work: &mut [u64],
 ) -> Outcome
-    requires { ⌜ CheckLists (compressed (now starts) (now cols) (now vals)) (now work) ⌝ }
-    ensures { λ o. ⌜ o ≡ checkTextOf (now (text .entry)) (now (certificate .entry)) ⌝ }
+    requires { ⌜ CheckLists (storedAt starts cols vals) (now work) ⌝ }
+    ensures { λ o. ⌜ o ≡ checkTextOf (before text) (before certificate) ⌝ }
 {
     let r = text_plan::read(text, starts, cols, vals);
     if r.number != 0 {

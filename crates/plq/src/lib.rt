@@ -11,6 +11,7 @@ pub use call_write::write_certificate;
 pub use text_plan::read as read_plan;
 ghost use mathlib.Core.Path.{_≡_};
 ghost use Rattle.plq.specs.Calls.{checkTextOf, packed, Makes};
+ghost use Rattle.sparse.specs.Views.{before, after};
 use check::check_text;
 use limits::ENTRY_CELLS;
 use limits::SIZE_CELLS;
@@ -40,7 +41,7 @@ fn pack(o: Outcome) -> u64
 //   leaves   after a refusal the buffer all zero; the text is only read
 #[no_mangle]
 pub extern "C" fn plq_make_certificate(text: &[u8], buffer: &mut [u8]) -> u64
-    ensures { λ z. ⌜ Makes (now (text .entry)) z (now (buffer .entry)) (now (buffer .exit)) ⌝ }
+    ensures { λ z. ⌜ Makes (before text) z (before buffer) (after buffer) ⌝ }
 {
     let mut starts = [0u32; START_CELLS];
     let mut cols = [0u32; ENTRY_CELLS];
@@ -94,7 +95,7 @@ pub extern "C" fn plq_make_certificate(text: &[u8], buffer: &mut [u8]) -> u64
 //   leaves   nothing: both are only read
 #[no_mangle]
 pub extern "C" fn plq_check_certificate(text: &[u8], certificate: &[u8]) -> u64
-    ensures { λ z. ⌜ z ≡ packed (checkTextOf (now (text .entry)) (now (certificate .entry))) ⌝ }
+    ensures { λ z. ⌜ z ≡ packed (checkTextOf (before text) (before certificate)) ⌝ }
 {
     let mut starts = [0u32; START_CELLS];
     let mut cols = [0u32; ENTRY_CELLS];

@@ -1,8 +1,8 @@
 // Making a certificate of what the stages left in lists.
 ghost use lib.ListN.{length};
-ghost use Rattle.sparse.specs.Matrix.{compressed};
 ghost use Rattle.stages.specs.Staged.{Fits};
 ghost use Rattle.plq.specs.Held.{heldCertificate, writtenOf, stagedOutcome, Puts, StagedFits};
+ghost use Rattle.sparse.specs.Views.{before, after, storedAt, storedBefore};
 use call_write::write_certificate;
 use lists::clear_bytes;
 use refusals::Outcome;
@@ -25,8 +25,8 @@ fn write_held(
     buffer: &mut [u8],
     work: &mut [u64],
 ) -> Outcome
-    requires { ⌜ Fits s (compressed (now starts) (now cols) (now vals)) (now ro) (now co) (compressed (now ls) (now lc) (now lv)) (compressed (now us) (now uc) (now uv)) ⌝ }
-    ensures { λ o. ⌜ Puts (writtenOf s (compressed (now (starts .entry)) (now (cols .entry)) (now (vals .entry))) (now (ro .entry)) (now (co .entry)) (compressed (now (ls .entry)) (now (lc .entry)) (now (lv .entry))) (compressed (now (us .entry)) (now (uc .entry)) (now (uv .entry))) (length (now (work .entry))) (length (now (buffer .entry)))) (heldCertificate s (now (ro .entry)) (now (co .entry)) (compressed (now (ls .entry)) (now (lc .entry)) (now (lv .entry))) (compressed (now (us .entry)) (now (uc .entry)) (now (uv .entry)))) o (now (buffer .entry)) (now (buffer .exit)) ⌝ }
+    requires { ⌜ Fits s (storedAt starts cols vals) (now ro) (now co) (storedAt ls lc lv) (storedAt us uc uv) ⌝ }
+    ensures { λ o. ⌜ Puts (writtenOf s (storedBefore starts cols vals) (before ro) (before co) (storedBefore ls lc lv) (storedBefore us uc uv) (length (before work)) (length (before buffer))) (heldCertificate s (before ro) (before co) (storedBefore ls lc lv) (storedBefore us uc uv)) o (before buffer) (after buffer) ⌝ }
 {
     let r = s.reading;
     let n = r.n as usize;
@@ -75,8 +75,8 @@ pub fn make_staged(
     buffer: &mut [u8],
     work: &mut [u64],
 ) -> Outcome
-    requires { ⌜ StagedFits s (compressed (now starts) (now cols) (now vals)) (now ro) (now co) (compressed (now ls) (now lc) (now lv)) (compressed (now us) (now uc) (now uv)) ⌝ }
-    ensures { λ o. ⌜ Puts (stagedOutcome s (compressed (now (starts .entry)) (now (cols .entry)) (now (vals .entry))) (now (ro .entry)) (now (co .entry)) (compressed (now (ls .entry)) (now (lc .entry)) (now (lv .entry))) (compressed (now (us .entry)) (now (uc .entry)) (now (uv .entry))) (length (now (work .entry))) (length (now (buffer .entry)))) (heldCertificate s (now (ro .entry)) (now (co .entry)) (compressed (now (ls .entry)) (now (lc .entry)) (now (lv .entry))) (compressed (now (us .entry)) (now (uc .entry)) (now (uv .entry)))) o (now (buffer .entry)) (now (buffer .exit)) ⌝ }
+    requires { ⌜ StagedFits s (storedAt starts cols vals) (now ro) (now co) (storedAt ls lc lv) (storedAt us uc uv) ⌝ }
+    ensures { λ o. ⌜ Puts (stagedOutcome s (storedBefore starts cols vals) (before ro) (before co) (storedBefore ls lc lv) (storedBefore us uc uv) (length (before work)) (length (before buffer))) (heldCertificate s (before ro) (before co) (storedBefore ls lc lv) (storedBefore us uc uv)) o (before buffer) (after buffer) ⌝ }
 {
     let read = s.reading;
     if read.number != 0 {

@@ -1,12 +1,12 @@
 // The report of a plan's text.
 ghost use mathlib.Core.Path.{_≡_};
 ghost use lib.ListN.{length};
-ghost use Rattle.sparse.specs.Matrix.{compressed};
 ghost use Rattle.call_open.specs.Calls.{Lists};
 ghost use Rattle.stages.specs.Staged.{Fits};
 ghost use Rattle.print_text.specs.Printed.{Prints};
 ghost use Rattle.report_lib.specs.Held.{heldSummary, heldList, heldText, stagedText, HeldReady, ReportStagedReady};
 ghost use Rattle.report_lib.specs.Reporting.{ReportLists, Reports};
+ghost use Rattle.sparse.specs.Views.{before, after, storedAt, storedBefore};
 use call_open::from_factors::open_columns_from_factors;
 use limits::ENTRY_CELLS;
 use limits::SIZE_CELLS;
@@ -57,8 +57,8 @@ fn list_held(
     marks: &mut [u32],
     work: &mut [u64],
 ) -> Outcome
-    requires { ⌜ Fits s (compressed (now starts) (now cols) (now vals)) (now ro) (now co) (compressed (now ls) (now lc) (now lv)) (compressed (now us) (now uc) (now uv)) ⌝ }
-    ensures { λ o. ⌜ Lists (heldList s (compressed (now (starts .entry)) (now (cols .entry)) (now (vals .entry))) (now (ro .entry)) (now (co .entry)) (compressed (now (ls .entry)) (now (lc .entry)) (now (lv .entry))) (compressed (now (us .entry)) (now (uc .entry)) (now (uv .entry))) (length (now (marks .entry))) (length (now (work .entry)))) o (now (marks .entry)) (now (marks .exit)) (now (work .entry)) (now (work .exit)) ⌝ }
+    requires { ⌜ Fits s (storedAt starts cols vals) (now ro) (now co) (storedAt ls lc lv) (storedAt us uc uv) ⌝ }
+    ensures { λ o. ⌜ Lists (heldList s (storedBefore starts cols vals) (before ro) (before co) (storedBefore ls lc lv) (storedBefore us uc uv) (length (before marks)) (length (before work))) o (before marks) (after marks) (before work) (after work) ⌝ }
 {
     let r = s.reading;
     let f = s.factored;
@@ -107,8 +107,8 @@ fn report_held(
     out: &mut [u8],
     work: &mut [u64],
 ) -> usize
-    requires { ⌜ HeldReady s (compressed (now starts) (now cols) (now vals)) (now ro) (now co) (compressed (now ls) (now lc) (now lv)) (compressed (now us) (now uc) (now uv)) (now marks) (now out) (now work) ⌝ }
-    ensures { λ size. ⌜ Prints (heldText s (compressed (now (starts .entry)) (now (cols .entry)) (now (vals .entry))) (now (ro .entry)) (now (co .entry)) (compressed (now (ls .entry)) (now (lc .entry)) (now (lv .entry))) (compressed (now (us .entry)) (now (uc .entry)) (now (uv .entry)))) size (now (out .entry)) (now (out .exit)) (now (work .entry)) (now (work .exit)) ⌝ }
+    requires { ⌜ HeldReady s (storedAt starts cols vals) (now ro) (now co) (storedAt ls lc lv) (storedAt us uc uv) (now marks) (now out) (now work) ⌝ }
+    ensures { λ size. ⌜ Prints (heldText s (storedBefore starts cols vals) (before ro) (before co) (storedBefore ls lc lv) (storedBefore us uc uv)) size (before out) (after out) (before work) (after work) ⌝ }
 {
     let listed = list_held(
         s,
@@ -150,8 +150,8 @@ fn report_staged(
     out: &mut [u8],
     work: &mut [u64],
 ) -> usize
-    requires { ⌜ ReportStagedReady s (compressed (now starts) (now cols) (now vals)) (now ro) (now co) (compressed (now ls) (now lc) (now lv)) (compressed (now us) (now uc) (now uv)) (now marks) (now out) (now work) ⌝ }
-    ensures { λ size. ⌜ Prints (stagedText s (compressed (now (starts .entry)) (now (cols .entry)) (now (vals .entry))) (now (ro .entry)) (now (co .entry)) (compressed (now (ls .entry)) (now (lc .entry)) (now (lv .entry))) (compressed (now (us .entry)) (now (uc .entry)) (now (uv .entry)))) size (now (out .entry)) (now (out .exit)) (now (work .entry)) (now (work .exit)) ⌝ }
+    requires { ⌜ ReportStagedReady s (storedAt starts cols vals) (now ro) (now co) (storedAt ls lc lv) (storedAt us uc uv) (now marks) (now out) (now work) ⌝ }
+    ensures { λ size. ⌜ Prints (stagedText s (storedBefore starts cols vals) (before ro) (before co) (storedBefore ls lc lv) (storedBefore us uc uv)) size (before out) (after out) (before work) (after work) ⌝ }
 {
     let r = s.reading;
     let f = s.factored;
@@ -188,7 +188,7 @@ fn report_staged(
 //   leaves   the buffer zero past the report, and the working row all zero
 pub fn report(text: &[u8], out: &mut [u8], work: &mut [u64]) -> usize
     requires { ⌜ ReportLists (now out) (now work) ⌝ }
-    ensures { λ size. ⌜ Reports (now (text .entry)) size (now (out .entry)) (now (out .exit)) (now (work .entry)) (now (work .exit)) ⌝ }
+    ensures { λ size. ⌜ Reports (before text) size (before out) (after out) (before work) (after work) ⌝ }
 {
     let mut starts = [0u32; START_CELLS];
     let mut cols = [0u32; ENTRY_CELLS];

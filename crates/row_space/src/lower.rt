@@ -3,8 +3,8 @@ ghost use lib.ListN.{length};
 ghost use Rattle.lists.specs.Tabulate.{tabulate};
 ghost use Rattle.algebra.specs.Sum.{place};
 ghost use Rattle.algebra.specs.Matrix.{vector};
-ghost use Rattle.sparse.specs.Words.{view};
-ghost use Rattle.sparse.specs.Matrix.{viewed, matrix};
+ghost use Rattle.sparse.specs.Matrix.{matrix};
+ghost use Rattle.sparse.specs.Views.{before, after, viewAt, viewBefore, viewedAt, viewedBefore};
 ghost use Rattle.row_space.specs.Substitution.{backL};
 ghost use Rattle.row_space.specs.Ready.{residues, LowerRowReady, QuotientTaken, LowerOrder, Placed};
 use lists::clear_row;
@@ -26,8 +26,8 @@ fn take_quotient(
     k: usize,
     work: &mut [u64],
 ) -> u32
-    requires { ⌜ LowerRowReady (q .p) k (viewed (now ls) (now lsb) (now lc) (now lcb) (now lv) (now lvb)) (now work) ⌝ }
-    ensures { λ v. ⌜ QuotientTaken (q .p) (viewed (now (ls .entry)) (now (lsb .entry)) (now (lc .entry)) (now (lcb .entry)) (now (lv .entry)) (now (lvb .entry))) k (now (work .entry)) (now (work .exit)) v ⌝ }
+    requires { ⌜ LowerRowReady (q .p) k (viewedAt ls lsb lc lcb lv lvb) (now work) ⌝ }
+    ensures { λ v. ⌜ QuotientTaken (q .p) (viewedBefore ls lsb lc lcb lv lvb) k (before work) (after work) v ⌝ }
 {
     let e = index(word(ls, lsb, k + 1));
     let a = word(lv, lvb, e - 1);
@@ -51,8 +51,8 @@ pub fn solve_lower(
     x: &mut [u32],
     work: &mut [u64],
 )
-    requires { ⌜ LowerOrder (q .p) (viewed (now ls) (now lsb) (now lc) (now lcb) (now lv) (now lvb)) (view (now ro) (now rob)) (now work) (now x) ⌝ }
-    ensures { λ _. ⌜ Placed (tabulate (length (now (x .entry))) (place (length (now (work .entry))) (vector (view (now (ro .entry)) (now (rob .entry)))) (backL (q .p) (matrix (viewed (now (ls .entry)) (now (lsb .entry)) (now (lc .entry)) (now (lcb .entry)) (now (lv .entry)) (now (lvb .entry)))) (length (now (work .entry))) (residues (q .p) (now (work .entry)))))) (now (x .exit)) (now (work .exit)) ⌝ }
+    requires { ⌜ LowerOrder (q .p) (viewedAt ls lsb lc lcb lv lvb) (viewAt ro rob) (now work) (now x) ⌝ }
+    ensures { λ _. ⌜ Placed (tabulate (length (before x)) (place (length (before work)) (vector (viewBefore ro rob)) (backL (q .p) (matrix (viewedBefore ls lsb lc lcb lv lvb)) (length (before work)) (residues (q .p) (before work))))) (after x) (after work) ⌝ }
 {
     let mut k = work.len();
     while 0 < k {

@@ -5,9 +5,9 @@ ghost use lib.ListN.{length};
 ghost use Rattle.lists.specs.Tabulate.{tabulate};
 ghost use Rattle.algebra.specs.Matrix.{vector};
 ghost use Rattle.residue.specs.Arithmetic.{Residue};
-ghost use Rattle.sparse.specs.Words.{view};
 ghost use Rattle.sparse.specs.Row.{weigh};
-ghost use Rattle.sparse.specs.Matrix.{viewed, matrix};
+ghost use Rattle.sparse.specs.Matrix.{matrix};
+ghost use Rattle.sparse.specs.Views.{before, after, viewAt, viewBefore, viewedAt, viewedBefore};
 ghost use Rattle.row_space.specs.Substitution.{missing, backU};
 ghost use Rattle.row_space.specs.Ready.{RowTimesReady, UpperRowReady, UpperReady};
 use lists::index;
@@ -19,8 +19,8 @@ use sparse::words::word;
 
 // The product of a sparse row and z.
 fn row_times(q: Modulus, cols: &[u32], cb: &[u8], vals: &[u32], vb: &[u8], z: &[u32]) -> u32
-    requires { ⌜ RowTimesReady (q .p) (view (now cols) (now cb)) (view (now vals) (now vb)) (now z) ⌝ }
-    ensures { λ s. ⌜ Residue (q .p) (weigh (view (now (cols .entry)) (now (cb .entry))) (view (now (vals .entry)) (now (vb .entry))) (vector (now (z .entry))) % q .p) s ⌝ }
+    requires { ⌜ RowTimesReady (q .p) (viewAt cols cb) (viewAt vals vb) (now z) ⌝ }
+    ensures { λ s. ⌜ Residue (q .p) (weigh (viewBefore cols cb) (viewBefore vals vb) (vector (before z)) % q .p) s ⌝ }
 {
     let n = count(cols, cb);
     let mut s: u32 = 0;
@@ -46,8 +46,8 @@ fn missing_value(
     k: usize,
     z: &[u32],
 ) -> u32
-    requires { ⌜ UpperRowReady (q .p) k (viewed (now us) (now usb) (now uc) (now ucb) (now uv) (now uvb)) (now z) ⌝ }
-    ensures { λ v. ⌜ v ≡ missing (q .p) (length (now (z .entry))) (matrix (viewed (now (us .entry)) (now (usb .entry)) (now (uc .entry)) (now (ucb .entry)) (now (uv .entry)) (now (uvb .entry))) k) (vector (now (z .entry))) ⌝ }
+    requires { ⌜ UpperRowReady (q .p) k (viewedAt us usb uc ucb uv uvb) (now z) ⌝ }
+    ensures { λ v. ⌜ v ≡ missing (q .p) (length (before z)) (matrix (viewedBefore us usb uc ucb uv uvb) k) (vector (before z)) ⌝ }
 {
     let a = index(word(us, usb, k));
     let e = index(word(us, usb, k + 1));
@@ -75,8 +75,8 @@ pub fn solve_upper(
     r: usize,
     z: &mut [u32],
 )
-    requires { ⌜ UpperReady (q .p) r (viewed (now us) (now usb) (now uc) (now ucb) (now uv) (now uvb)) (view (now co) (now cob)) (now z) ⌝ }
-    ensures { λ _. ⌜ now (z .exit) ≡ tabulate (length (now (z .entry))) (backU (q .p) (length (now (z .entry))) (vector (view (now (co .entry)) (now (cob .entry)))) (matrix (viewed (now (us .entry)) (now (usb .entry)) (now (uc .entry)) (now (ucb .entry)) (now (uv .entry)) (now (uvb .entry)))) r (vector (now (z .entry)))) ⌝ }
+    requires { ⌜ UpperReady (q .p) r (viewedAt us usb uc ucb uv uvb) (viewAt co cob) (now z) ⌝ }
+    ensures { λ _. ⌜ after z ≡ tabulate (length (before z)) (backU (q .p) (length (before z)) (vector (viewBefore co cob)) (matrix (viewedBefore us usb uc ucb uv uvb)) r (vector (before z))) ⌝ }
 {
     let mut k = r;
     while 0 < k {

@@ -10,7 +10,7 @@ use lib.ListN.{length, getD, drop, length-append}
 use lib.Seq.{slice}
 use borrow.Author.Tests.{le-leb, lt-ltb, eq-eqb, leb-true}
 use Rattle.lists.proofs.Bools.{and-both, and-left, and-right}
-use Rattle.sparse.specs.Form.{startsFrom, starts, risesFrom, rowsFrom, values, wellFormed}
+use Rattle.sparse.specs.Form.{startsFrom, startsOk, risesFrom, rowsFrom, valuesOk, wellFormed}
 use Rattle.sparse.specs.Matrix.{form}
 use Rattle.sparse.specs.Dense.{columnsFrom, nonzeros, startsAfter, allColumns, allValues, compress}
 use Rattle.sparse.proofs.DenseLaws.{columns-length, parts-first, parts-later, compress-paired}
@@ -42,23 +42,23 @@ dense-rises width at (suc v ∷ row) h =
     (and-both (leb at at) (ltb at width) (le-leb at at (omega arith)) (lt-ltb at width (omega arith)))
     (ap (λ (k : ℕ). risesFrom width k (columnsFrom (suc at) row)) (add-one at) ∙ dense-rises width (suc at) row (omega arith))
 
-dense-values : (p : ℕ) (row : List ℕ) → ((j : ℕ) → getD row j 0 < p) → values p (nonzeros row) ≡ true
-unfolding values nonzeros
+dense-values : (p : ℕ) (row : List ℕ) → ((j : ℕ) → getD row j 0 < p) → valuesOk p (nonzeros row) ≡ true
+unfolding valuesOk nonzeros
 dense-values p [] h = refl
 dense-values p (zero ∷ row) h = dense-values p row (λ j. h (suc j))
 dense-values p (suc v ∷ row) h =
-    and-both (ltb 0 (suc v) && ltb (suc v) p) (values p (nonzeros row))
+    and-both (ltb 0 (suc v) && ltb (suc v) p) (valuesOk p (nonzeros row))
     (and-both (ltb 0 (suc v)) (ltb (suc v) p) (lt-ltb 0 (suc v) (omega arith)) (lt-ltb (suc v) p (h 0)))
     (dense-values p row (λ j. h (suc j)))
 
-values-append : (p : ℕ) (us vs : List ℕ) → values p us ≡ true → values p vs ≡ true → values p (us ++ vs) ≡ true
-unfolding values
+values-append : (p : ℕ) (us vs : List ℕ) → valuesOk p us ≡ true → valuesOk p vs ≡ true → valuesOk p (us ++ vs) ≡ true
+unfolding valuesOk
 values-append p [] vs h k = k
 values-append p (u ∷ us) vs h k =
-    and-both (ltb 0 u && ltb u p) (values p (us ++ vs)) (and-left (ltb 0 u && ltb u p) (values p us) h) (values-append p us vs (and-right (ltb 0 u && ltb u p) (values p us) h) k)
+    and-both (ltb 0 u && ltb u p) (valuesOk p (us ++ vs)) (and-left (ltb 0 u && ltb u p) (valuesOk p us) h) (values-append p us vs (and-right (ltb 0 u && ltb u p) (valuesOk p us) h) k)
 
-values-of : (p width : ℕ) (rows : List (List ℕ)) → DenseRows p width rows → values p (allValues rows) ≡ true
-unfolding values allValues
+values-of : (p width : ℕ) (rows : List (List ℕ)) → DenseRows p width rows → valuesOk p (allValues rows) ≡ true
+unfolding valuesOk allValues
 values-of p width [] d = refl
 values-of p width (row ∷ rows) d =
     values-append p (nonzeros row) (allValues rows) (dense-values p row (λ j. d .residues 0 j (omega arith))) (values-of p width rows (dense-rest p width row rows d))
@@ -84,10 +84,10 @@ rows-of p width at cols (row ∷ rows) d h =
     s = at + length (nonzeros row)
 
 pub compress-form : (p width : ℕ) (rows : List (List ℕ)) → DenseRows p width rows → form p width (compress rows) ≡ true
-unfolding wellFormed starts compress
+unfolding wellFormed startsOk compress
 compress-form p width rows d =
-    and-both (starts (length (allColumns rows)) (0 ∷ startsAfter 0 rows)) (eqb (length (allValues rows)) (length (allColumns rows)) && (rowsFrom width (allColumns rows) 0 (startsAfter 0 rows) && values p (allValues rows)))
+    and-both (startsOk (length (allColumns rows)) (0 ∷ startsAfter 0 rows)) (eqb (length (allValues rows)) (length (allColumns rows)) && (rowsFrom width (allColumns rows) 0 (startsAfter 0 rows) && valuesOk p (allValues rows)))
     (ap (λ (k : ℕ). startsFrom k 0 (startsAfter 0 rows)) (compress-paired rows ∙ (let e : length (allValues rows) ≡ 0 + length (allValues rows) = omega arith in e)) ∙ starts-of 0 rows)
-    (and-both (eqb (length (allValues rows)) (length (allColumns rows))) (rowsFrom width (allColumns rows) 0 (startsAfter 0 rows) && values p (allValues rows))
+    (and-both (eqb (length (allValues rows)) (length (allColumns rows))) (rowsFrom width (allColumns rows) 0 (startsAfter 0 rows) && valuesOk p (allValues rows))
     (eq-eqb (length (allValues rows)) (length (allColumns rows)) (sym (compress-paired rows)))
-    (and-both (rowsFrom width (allColumns rows) 0 (startsAfter 0 rows)) (values p (allValues rows)) (rows-of p width 0 (allColumns rows) rows d refl) (values-of p width rows d)))
+    (and-both (rowsFrom width (allColumns rows) 0 (startsAfter 0 rows)) (valuesOk p (allValues rows)) (rows-of p width 0 (allColumns rows) rows d refl) (values-of p width rows d)))

@@ -12,7 +12,7 @@ use Rattle.lists.proofs.Bools.{and-left, and-right}
 use Rattle.lists.proofs.Steps.{drop-step}
 use Rattle.algebra.specs.Sum.{dot, δ}
 use Rattle.algebra.proofs.Dot.{dot-add, dot-scale, dot-zero, dot-δ, δ-same, δ-other}
-use Rattle.sparse.specs.Form.{risesFrom, values}
+use Rattle.sparse.specs.Form.{risesFrom, valuesOk}
 use Rattle.sparse.specs.Row.{weigh, entry, Below, Row}
 
 -- ---- sums over the entries
@@ -62,13 +62,13 @@ rises-at width low (c ∷ cs) h (suc t) g =
     let i = rises-at width (c + 1) cs (and-right (leb low c && ltb c width) (risesFrom width (c + 1) cs) h) t (omega arith) in
     (omega (arith, i .0), i .1)
 
-pub values-at : (p : ℕ) (vals : List ℕ) → values p vals ≡ true → (t : ℕ) → t < length vals → (0 < getD vals t 0) × (getD vals t 0 < p)
-unfolding values
+pub values-at : (p : ℕ) (vals : List ℕ) → valuesOk p vals ≡ true → (t : ℕ) → t < length vals → (0 < getD vals t 0) × (getD vals t 0 < p)
+unfolding valuesOk
 values-at p [] h t g = absurd (omega arith)
 values-at p (v ∷ vs) h zero g =
-    let b = and-left (ltb 0 v && ltb v p) (values p vs) h in
+    let b = and-left (ltb 0 v && ltb v p) (valuesOk p vs) h in
     (ltb-true 0 v (and-left (ltb 0 v) (ltb v p) b), ltb-true v p (and-right (ltb 0 v) (ltb v p) b))
-values-at p (v ∷ vs) h (suc t) g = values-at p vs (and-right (ltb 0 v && ltb v p) (values p vs) h) t (omega arith)
+values-at p (v ∷ vs) h (suc t) g = values-at p vs (and-right (ltb 0 v && ltb v p) (valuesOk p vs) h) t (omega arith)
 
 pub rises-apart : (width low : ℕ) (cols : List ℕ) (t u : ℕ) → risesFrom width low cols ≡ true → t < u → u < length cols → getD cols t 0 < getD cols u 0
 unfolding risesFrom
@@ -117,18 +117,18 @@ entry-absent (c ∷ cs) (v ∷ vs) j h =
     omega (arith, ap (λ (z : ℕ). v * z) (δ-other c j (h 0 (omega arith))), entry-absent cs vs j (λ t g. h (suc t) (omega arith)))
 
 -- an entry is a residue
-pub entry-below : (p width low j : ℕ) (cols vals : List ℕ) → 0 < p → risesFrom width low cols ≡ true → values p vals ≡ true → entry cols vals j < p
-unfolding risesFrom weigh values
+pub entry-below : (p width low j : ℕ) (cols vals : List ℕ) → 0 < p → risesFrom width low cols ≡ true → valuesOk p vals ≡ true → entry cols vals j < p
+unfolding risesFrom weigh valuesOk
 entry-below p width low j [] vals pos h g = pos
 entry-below p width low j (c ∷ cs) [] pos h g = pos
 entry-below p width low j (c ∷ cs) (v ∷ vs) pos h g =
-    go (ℕ-discrete c j) (entry-below p width (c + 1) j cs vs pos rest (and-right (ltb 0 v && ltb v p) (values p vs) g))
+    go (ℕ-discrete c j) (entry-below p width (c + 1) j cs vs pos rest (and-right (ltb 0 v && ltb v p) (valuesOk p vs) g))
   where
     rest : risesFrom width (c + 1) cs ≡ true
     rest = and-right (leb low c && ltb c width) (risesFrom width (c + 1) cs) h
 
     small : v < p
-    small = ltb-true v p (and-right (ltb 0 v) (ltb v p) (and-left (ltb 0 v && ltb v p) (values p vs) g))
+    small = ltb-true v p (and-right (ltb 0 v) (ltb v p) (and-left (ltb 0 v && ltb v p) (valuesOk p vs) g))
 
     go : Dec (c ≡ j) → entry cs vs j < p → v * δ c j + entry cs vs j < p
     go (yes e) later =

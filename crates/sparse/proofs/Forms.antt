@@ -11,7 +11,7 @@ use lib.Seq.{slice, slice-empty}
 use borrow.Author.Tests.{lt-leb, le-leb, lt-ltb, le-ltb, eq-eqb, ne-eqb, leb-true, eqb-true, not-true, not-false}
 use Rattle.lists.proofs.Bools.{and-left, and-right}
 use Rattle.lists.proofs.Steps.{drop-step, drop-end, slice-step}
-use Rattle.sparse.specs.Form.{risesFrom, startsFrom, starts, rowsFrom, values}
+use Rattle.sparse.specs.Form.{risesFrom, startsFrom, startsOk, rowsFrom, valuesOk}
 
 -- columns
 module _ (width low : ℕ) (l : List ℕ) (i e v : ℕ) (h : i < e) (k : e ≤ length l) (q : v ≡ getD l i 0) where
@@ -50,40 +50,40 @@ starts-end total from l i h k = ap (startsFrom total from) (drop-end l i h k)
 
 -- values
 module _ (p : ℕ) (l : List ℕ) (i v : ℕ) (h : i < length l) (q : v ≡ getD l i 0) where
-  values-step : values p (drop i l) ≡ ((ltb 0 v && ltb v p) && values p (drop (i + 1) l))
-  unfolding values
-  values-step = ap (values p) (drop-step l i v h q)
+  values-step : valuesOk p (drop i l) ≡ ((ltb 0 v && ltb v p) && valuesOk p (drop (i + 1) l))
+  unfolding valuesOk
+  values-step = ap (valuesOk p) (drop-step l i v h q)
 
-  pub values-zero : v ≡ 0 → values p (drop i l) ≡ false
-  values-zero t = values-step ∙ ap (λ (b : Bool). (b && ltb v p) && values p (drop (i + 1) l)) (le-ltb 0 v (omega arith))
+  pub values-zero : v ≡ 0 → valuesOk p (drop i l) ≡ false
+  values-zero t = values-step ∙ ap (λ (b : Bool). (b && ltb v p) && valuesOk p (drop (i + 1) l)) (le-ltb 0 v (omega arith))
 
-  pub values-high : (v ≡ 0 → ⊥) → p ≤ v → values p (drop i l) ≡ false
-  values-high t u = values-step ∙ (λ j. (lt-ltb 0 v (omega arith) j && le-ltb v p u j) && values p (drop (i + 1) l))
+  pub values-high : (v ≡ 0 → ⊥) → p ≤ v → valuesOk p (drop i l) ≡ false
+  values-high t u = values-step ∙ (λ j. (lt-ltb 0 v (omega arith) j && le-ltb v p u j) && valuesOk p (drop (i + 1) l))
 
-  pub values-on : (v ≡ 0 → ⊥) → v < p → values p (drop i l) ≡ values p (drop (i + 1) l)
-  values-on t u = values-step ∙ (λ j. (lt-ltb 0 v (omega arith) j && lt-ltb v p u j) && values p (drop (i + 1) l))
+  pub values-on : (v ≡ 0 → ⊥) → v < p → valuesOk p (drop i l) ≡ valuesOk p (drop (i + 1) l)
+  values-on t u = values-step ∙ (λ j. (lt-ltb 0 v (omega arith) j && lt-ltb v p u j) && valuesOk p (drop (i + 1) l))
 
-pub values-end : (p : ℕ) (l : List ℕ) (i : ℕ) → i ≤ length l → length l ≤ i → values p (drop i l) ≡ true
-unfolding values
-values-end p l i h k = ap (values p) (drop-end l i h k)
+pub values-end : (p : ℕ) (l : List ℕ) (i : ℕ) → i ≤ length l → length l ≤ i → valuesOk p (drop i l) ≡ true
+unfolding valuesOk
+values-end p l i h k = ap (valuesOk p) (drop-end l i h k)
 
-pub starts-none : (total : ℕ) (l : List ℕ) → length l ≡ 0 → starts total l ≡ false
-unfolding starts
+pub starts-none : (total : ℕ) (l : List ℕ) → length l ≡ 0 → startsOk total l ≡ false
+unfolding startsOk
 starts-none total [] h = refl
 starts-none total (s ∷ ss) h = absurd (omega arith)
 
-pub starts-first : (total : ℕ) (l : List ℕ) (v : ℕ) → v ≡ getD l 0 0 → (v ≡ 0 → ⊥) → starts total l ≡ false
-unfolding starts
+pub starts-first : (total : ℕ) (l : List ℕ) (v : ℕ) → v ≡ getD l 0 0 → (v ≡ 0 → ⊥) → startsOk total l ≡ false
+unfolding startsOk
 starts-first total [] v q h = refl
 starts-first total (s ∷ ss) v q h = ap (λ (b : Bool). b && startsFrom total 0 ss) (ne-eqb s 0 (λ e. h (q ∙ e)))
 
-pub starts-rest : (total : ℕ) (l : List ℕ) (v : ℕ) → v ≡ getD l 0 0 → v ≡ 0 → (length l ≡ 0 → ⊥) → starts total l ≡ startsFrom total 0 (drop 1 l)
-unfolding starts
+pub starts-rest : (total : ℕ) (l : List ℕ) (v : ℕ) → v ≡ getD l 0 0 → v ≡ 0 → (length l ≡ 0 → ⊥) → startsOk total l ≡ startsFrom total 0 (drop 1 l)
+unfolding startsOk
 starts-rest total [] v q z h = absurd (h refl)
 starts-rest total (s ∷ ss) v q z h = ap (λ (b : Bool). b && startsFrom total 0 ss) (eq-eqb s 0 (sym q ∙ z))
 
-pub starts-true : (total : ℕ) (l : List ℕ) → starts total l ≡ true → (1 ≤ length l) × (startsFrom total 0 (drop 1 l) ≡ true)
-unfolding starts
+pub starts-true : (total : ℕ) (l : List ℕ) → startsOk total l ≡ true → (1 ≤ length l) × (startsFrom total 0 (drop 1 l) ≡ true)
+unfolding startsOk
 starts-true total [] e = absurd (false≢true e)
 starts-true total (s ∷ ss) e = (omega arith, and-right (eqb s 0) (startsFrom total 0 ss) e)
 

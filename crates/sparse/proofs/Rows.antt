@@ -11,24 +11,24 @@ use lib.ListN.{length, getD, take, drop, List·getD-eq-default}
 use lib.Seq.{slice, length-slice, drop-nil}
 use borrow.Author.Tests.{leb-true, eqb-true}
 use Rattle.lists.proofs.Bools.{and-both, and-left, and-right}
-use Rattle.sparse.specs.Form.{risesFrom, rowsFrom, startsFrom, starts, values, wellFormed}
+use Rattle.sparse.specs.Form.{risesFrom, rowsFrom, startsFrom, startsOk, valuesOk, wellFormed}
 use Rattle.sparse.specs.Row.{entry, Row}
 use Rattle.sparse.specs.Matrix.{rowOf}
 use Rattle.sparse.proofs.Forms.{starts-le}
 use Rattle.sparse.proofs.Entries.{entry-below}
 
-values-take : (p n : ℕ) (vals : List ℕ) → values p vals ≡ true → values p (take n vals) ≡ true
-unfolding values
+values-take : (p n : ℕ) (vals : List ℕ) → valuesOk p vals ≡ true → valuesOk p (take n vals) ≡ true
+unfolding valuesOk
 values-take p zero vals h = refl
 values-take p (suc n) [] h = refl
 values-take p (suc n) (v ∷ vs) h =
-    and-both (ltb 0 v && ltb v p) (values p (take n vs)) (and-left (ltb 0 v && ltb v p) (values p vs) h) (values-take p n vs (and-right (ltb 0 v && ltb v p) (values p vs) h))
+    and-both (ltb 0 v && ltb v p) (valuesOk p (take n vs)) (and-left (ltb 0 v && ltb v p) (valuesOk p vs) h) (values-take p n vs (and-right (ltb 0 v && ltb v p) (valuesOk p vs) h))
 
-values-drop : (p n : ℕ) (vals : List ℕ) → values p vals ≡ true → values p (drop n vals) ≡ true
-unfolding values
+values-drop : (p n : ℕ) (vals : List ℕ) → valuesOk p vals ≡ true → valuesOk p (drop n vals) ≡ true
+unfolding valuesOk
 values-drop p zero vals h = h
 values-drop p (suc n) [] h = h
-values-drop p (suc n) (v ∷ vs) h = values-drop p n vs (and-right (ltb 0 v && ltb v p) (values p vs) h)
+values-drop p (suc n) (v ∷ vs) h = values-drop p n vs (and-right (ltb 0 v && ltb v p) (valuesOk p vs) h)
 
 rows-at : (width : ℕ) (cols : List ℕ) (from : ℕ) (ss : List ℕ) (k : ℕ) → rowsFrom width cols from ss ≡ true → k < length ss
     → risesFrom width 0 (slice (getD (from ∷ ss) k 0) (getD ss k 0) cols) ≡ true
@@ -46,39 +46,39 @@ starts-at total from (s ∷ ss) zero h g =
 starts-at total from (s ∷ ss) (suc k) h g = starts-at total s ss k (and-right (leb from s) (startsFrom total s ss) h) (omega arith)
 
 module _ (p width : ℕ) (ss cols vals : List ℕ) (f : wellFormed p width ss cols vals ≡ true) where
-  starts-good : starts (length cols) ss ≡ true
+  starts-good : startsOk (length cols) ss ≡ true
   unfolding wellFormed
-  starts-good = and-left (starts (length cols) ss) (eqb (length vals) (length cols) && (rowsFrom width cols 0 (drop 1 ss) && values p vals)) f
+  starts-good = and-left (startsOk (length cols) ss) (eqb (length vals) (length cols) && (rowsFrom width cols 0 (drop 1 ss) && valuesOk p vals)) f
 
-  others : (eqb (length vals) (length cols) && (rowsFrom width cols 0 (drop 1 ss) && values p vals)) ≡ true
+  others : (eqb (length vals) (length cols) && (rowsFrom width cols 0 (drop 1 ss) && valuesOk p vals)) ≡ true
   unfolding wellFormed
-  others = and-right (starts (length cols) ss) (eqb (length vals) (length cols) && (rowsFrom width cols 0 (drop 1 ss) && values p vals)) f
+  others = and-right (startsOk (length cols) ss) (eqb (length vals) (length cols) && (rowsFrom width cols 0 (drop 1 ss) && valuesOk p vals)) f
 
   pub form-paired : length cols ≡ length vals
-  form-paired = sym (eqb-true (length vals) (length cols) (and-left (eqb (length vals) (length cols)) (rowsFrom width cols 0 (drop 1 ss) && values p vals) others))
+  form-paired = sym (eqb-true (length vals) (length cols) (and-left (eqb (length vals) (length cols)) (rowsFrom width cols 0 (drop 1 ss) && valuesOk p vals) others))
 
   rows-good : rowsFrom width cols 0 (drop 1 ss) ≡ true
-  rows-good = and-left (rowsFrom width cols 0 (drop 1 ss)) (values p vals) (and-right (eqb (length vals) (length cols)) (rowsFrom width cols 0 (drop 1 ss) && values p vals) others)
+  rows-good = and-left (rowsFrom width cols 0 (drop 1 ss)) (valuesOk p vals) (and-right (eqb (length vals) (length cols)) (rowsFrom width cols 0 (drop 1 ss) && valuesOk p vals) others)
 
-  pub form-values : values p vals ≡ true
-  form-values = and-right (rowsFrom width cols 0 (drop 1 ss)) (values p vals) (and-right (eqb (length vals) (length cols)) (rowsFrom width cols 0 (drop 1 ss) && values p vals) others)
+  pub form-values : valuesOk p vals ≡ true
+  form-values = and-right (rowsFrom width cols 0 (drop 1 ss)) (valuesOk p vals) (and-right (eqb (length vals) (length cols)) (rowsFrom width cols 0 (drop 1 ss) && valuesOk p vals) others)
 
   -- where row k lies
   pub form-starts : (k : ℕ) → k + 1 < length ss → (getD ss k 0 ≤ getD ss (k + 1) 0) × (getD ss (k + 1) 0 ≤ length cols)
-  unfolding starts
+  unfolding startsOk
   form-starts k h = go ss starts-good h
     where
-      go : (ss : List ℕ) → starts (length cols) ss ≡ true → k + 1 < length ss → (getD ss k 0 ≤ getD ss (k + 1) 0) × (getD ss (k + 1) 0 ≤ length cols)
+      go : (ss : List ℕ) → startsOk (length cols) ss ≡ true → k + 1 < length ss → (getD ss k 0 ≤ getD ss (k + 1) 0) × (getD ss (k + 1) 0 ≤ length cols)
       go [] h g = absurd (omega arith)
       go (s ∷ ss) h g =
           let z : s ≡ 0 = eqb-true s 0 (and-left (eqb s 0) (startsFrom (length cols) 0 ss) h) in
           rw (add-one k, z) (starts-at (length cols) 0 ss k (and-right (eqb s 0) (startsFrom (length cols) 0 ss) h) (omega arith))
 
   rising-at : (k : ℕ) → k + 1 < length ss → risesFrom width 0 (rowOf ss k cols) ≡ true
-  unfolding starts
+  unfolding startsOk
   rising-at k h = go ss starts-good rows-good h
     where
-      go : (ss : List ℕ) → starts (length cols) ss ≡ true → rowsFrom width cols 0 (drop 1 ss) ≡ true → k + 1 < length ss → risesFrom width 0 (rowOf ss k cols) ≡ true
+      go : (ss : List ℕ) → startsOk (length cols) ss ≡ true → rowsFrom width cols 0 (drop 1 ss) ≡ true → k + 1 < length ss → risesFrom width 0 (rowOf ss k cols) ≡ true
       go [] h r g = absurd (omega arith)
       go (s ∷ ss) h r g =
           let z : s ≡ 0 = eqb-true s 0 (and-left (eqb s 0) (startsFrom (length cols) 0 ss) h) in
@@ -92,7 +92,7 @@ module _ (p width : ℕ) (ss cols vals : List ℕ) (f : wellFormed p width ss co
   unfolding risesFrom
   form-row k = go (decLt (k + 1) (length ss))
     where
-      small : values p (rowOf ss k vals) ≡ true
+      small : valuesOk p (rowOf ss k vals) ≡ true
       small = values-drop p (getD ss k 0) (take (getD ss (k + 1) 0) vals) (values-take p (getD ss (k + 1) 0) vals form-values)
 
       go : Dec (k + 1 < length ss) → Row p width (rowOf ss k cols) (rowOf ss k vals)

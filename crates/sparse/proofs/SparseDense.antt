@@ -19,7 +19,7 @@ use Rattle.lists.proofs.Tabulate.{length-tabulate, tabulate-at, tabulate-ext}
 use Rattle.algebra.specs.Sum.{δ}
 use Rattle.algebra.proofs.Dot.{δ-same, δ-other}
 use Rattle.residue.specs.Inverse.{Invertible}
-use Rattle.sparse.specs.Form.{risesFrom, values}
+use Rattle.sparse.specs.Form.{risesFrom, valuesOk}
 use Rattle.sparse.specs.Row.{weigh, entry, Row}
 use Rattle.sparse.specs.Dense.{columnsFrom, nonzeros, scaled}
 use Rattle.sparse.specs.Storing.{DenseStored}
@@ -64,14 +64,14 @@ dense-more low k v ks vs row h d =
     here : low + length (zeros (k - low)) ≡ k
     here = omega (arith, length-zeros (k - low))
 
-dense-of : (p width low : ℕ) (cols vals : List ℕ) → length cols ≡ length vals → risesFrom width low cols ≡ true → values p vals ≡ true → (row : List ℕ) × DenseOf low cols vals row
-unfolding columnsFrom nonzeros risesFrom values
+dense-of : (p width low : ℕ) (cols vals : List ℕ) → length cols ≡ length vals → risesFrom width low cols ≡ true → valuesOk p vals ≡ true → (row : List ℕ) × DenseOf low cols vals row
+unfolding columnsFrom nonzeros risesFrom valuesOk
 dense-of p width low [] [] e h g = ([], record { columns = refl; stored = refl })
 dense-of p width low [] (v ∷ vs) e h g = absurd (omega arith)
 dense-of p width low (k ∷ ks) [] e h g = absurd (omega arith)
 dense-of p width low (k ∷ ks) (zero ∷ vs) e h g = absurd (omega (arith, values-at p (zero ∷ vs) g 0 (omega arith)))
 dense-of p width low (k ∷ ks) (suc v ∷ vs) e h g =
-    let d = dense-of p width (k + 1) ks vs (omega arith) (and-right (leb low k && ltb k width) (risesFrom width (k + 1) ks) h) (and-right (ltb 0 (suc v) && ltb (suc v) p) (values p vs) g) in
+    let d = dense-of p width (k + 1) ks vs (omega arith) (and-right (leb low k && ltb k width) (risesFrom width (k + 1) ks) h) (and-right (ltb 0 (suc v) && ltb (suc v) p) (valuesOk p vs) g) in
     (zeros (k - low) ++ (suc v ∷ d .0), dense-more low k v ks vs (d .0) (rises-at width low (k ∷ ks) h 0 (omega arith) .0) (d .1))
 
 -- right of the last column there is nothing
@@ -123,14 +123,14 @@ module _ (p c : ℕ) (i : Invertible p c) where
   positive = omega (arith, i .below)
 
   -- a value stays from 1 to p - 1
-  scaled-values : (vals : List ℕ) → values p vals ≡ true → values p (scaled p c vals) ≡ true
-  unfolding values scaled
+  scaled-values : (vals : List ℕ) → valuesOk p vals ≡ true → valuesOk p (scaled p c vals) ≡ true
+  unfolding valuesOk scaled
   scaled-values [] h = refl
   scaled-values (v ∷ vs) h =
-      and-both (ltb 0 (c * (v % p) % p) && ltb (c * (v % p) % p) p) (values p (scaled p c vs))
+      and-both (ltb 0 (c * (v % p) % p) && ltb (c * (v % p) % p) p) (valuesOk p (scaled p c vs))
       (and-both (ltb 0 (c * (v % p) % p)) (ltb (c * (v % p) % p) p)
       (lt-ltb 0 (c * (v % p) % p) (some (ℕ-discrete (c * (v % p) % p) 0))) (lt-ltb (c * (v % p) % p) p (mod-lt (c * (v % p)) positive)))
-      (scaled-values vs (and-right (ltb 0 v && ltb v p) (values p vs) h))
+      (scaled-values vs (and-right (ltb 0 v && ltb v p) (valuesOk p vs) h))
     where
       bounds : (0 < v) × (v < p)
       bounds = values-at p (v ∷ vs) h 0 (omega arith)

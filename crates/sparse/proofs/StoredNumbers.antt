@@ -14,7 +14,7 @@ use lib.Seq.{slice, drop-drop, length-take-le}
 use borrow.Author.Tests.{eqb-true, leb-true, ltb-true}
 use Rattle.lists.proofs.Bools.{and-left, and-right}
 use Rattle.lists.proofs.Steps.{drop-take, drop-end}
-use Rattle.sparse.specs.Form.{startsFrom, starts, risesFrom, rowsFrom, values, wellFormed}
+use Rattle.sparse.specs.Form.{startsFrom, startsOk, risesFrom, rowsFrom, valuesOk, wellFormed}
 use Rattle.sparse.specs.Matrix.{Compressed, form}
 use Rattle.sparse.specs.Row.{Below}
 use Rattle.sparse.proofs.Forms.{starts-le, starts-true}
@@ -22,11 +22,11 @@ use Rattle.sparse.proofs.Bounds.{below-none, below-cons, below-append, 
 
 -- ---- each list of a stored matrix
 
-values-below : (p : ℕ) (vs : List ℕ) → values p vs ≡ true → Below p vs
-unfolding values
+values-below : (p : ℕ) (vs : List ℕ) → valuesOk p vs ≡ true → Below p vs
+unfolding valuesOk
 values-below p [] e = below-none p
 values-below p (v ∷ vs) e =
-    below-cons p v vs (ltb-true v p (and-right (ltb 0 v) (ltb v p) (and-left (ltb 0 v && ltb v p) (values p vs) e))) (values-below p vs (and-right (ltb 0 v && ltb v p) (values p vs) e))
+    below-cons p v vs (ltb-true v p (and-right (ltb 0 v) (ltb v p) (and-left (ltb 0 v && ltb v p) (valuesOk p vs) e))) (values-below p vs (and-right (ltb 0 v && ltb v p) (valuesOk p vs) e))
 
 starts-below : (b count from : ℕ) (ss : List ℕ) → startsFrom count from ss ≡ true → count < b → Below b ss
 unfolding startsFrom
@@ -87,23 +87,23 @@ module _ (width : ℕ) where
           entries-few s ss rest (and-right (risesFrom width 0 (slice from s cols)) (rowsFrom width cols s ss) q),
         )
 
-starts-all : (b count : ℕ) (ss : List ℕ) → starts count ss ≡ true → count < b → Below b ss
-unfolding starts
+starts-all : (b count : ℕ) (ss : List ℕ) → startsOk count ss ≡ true → count < b → Below b ss
+unfolding startsOk
 starts-all b count [] e h = below-none b
 starts-all b count (s ∷ ss) e h =
     let first : s ≡ 0 = eqb-true s 0 (and-left (eqb s 0) (startsFrom count 0 ss) e) in
     below-cons b s ss (omega arith) (starts-below b count 0 ss (and-right (eqb s 0) (startsFrom count 0 ss) e) h)
 
 module _ (p width : ℕ) (h : Compressed) (formed : form p width h ≡ true) where
-  first : starts (length (h .cols)) (h .starts) ≡ true
+  first : startsOk (length (h .cols)) (h .starts) ≡ true
   unfolding wellFormed
-  first = and-left (starts (length (h .cols)) (h .starts)) _ formed
+  first = and-left (startsOk (length (h .cols)) (h .starts)) _ formed
 
-  later : (rowsFrom width (h .cols) 0 (drop 1 (h .starts)) ≡ true) × (values p (h .vals) ≡ true)
+  later : (rowsFrom width (h .cols) 0 (drop 1 (h .starts)) ≡ true) × (valuesOk p (h .vals) ≡ true)
   unfolding wellFormed
   later =
-      let both = and-right (eqb (length (h .vals)) (length (h .cols))) _ (and-right (starts (length (h .cols)) (h .starts)) _ formed) in
-      (and-left (rowsFrom width (h .cols) 0 (drop 1 (h .starts))) (values p (h .vals)) both, and-right (rowsFrom width (h .cols) 0 (drop 1 (h .starts))) (values p (h .vals)) both)
+      let both = and-right (eqb (length (h .vals)) (length (h .cols))) _ (and-right (startsOk (length (h .cols)) (h .starts)) _ formed) in
+      (and-left (rowsFrom width (h .cols) 0 (drop 1 (h .starts))) (valuesOk p (h .vals)) both, and-right (rowsFrom width (h .cols) 0 (drop 1 (h .starts))) (valuesOk p (h .vals)) both)
 
   pub stored-few : length (h .cols) ≤ length (drop 1 (h .starts)) * width
   stored-few = omega (arith, entries-few width (h .cols) 0 (drop 1 (h .starts)) (starts-true (length (h .cols)) (h .starts) first .1) (later .0))

@@ -3,6 +3,7 @@ pub mod Form
 pub mod Row
 pub mod Matrix
 pub mod Set
+pub mod Views
 pub mod WorkingRow
 pub mod Dense
 pub mod Storing

@@ -9,7 +9,7 @@ use mathlib.Core.Bool.{true}
 use mathlib.Core.List.{List, [], _∷_}
 use lib.ListN.{length, getD}
 use Rattle.algebra.specs.Sum.{δ}
-use Rattle.sparse.specs.Form.{risesFrom, values}
+use Rattle.sparse.specs.Form.{risesFrom, valuesOk}
 
 unfoldable pub weigh : List ℕ → List ℕ → (ℕ → ℕ) → ℕ
 weigh [] vs f = 0
@@ -25,4 +25,4 @@ Below n xs = (i : ℕ) → i < length xs → getD xs i 0 < n
 pub record Row (p width : ℕ) (cols vals : List ℕ) : Type 0 where
   pub paired : length cols ≡ length vals
   pub rising : risesFrom width 0 cols ≡ true
-  pub nonzero : values p vals ≡ true
+  pub nonzero : valuesOk p vals ≡ true

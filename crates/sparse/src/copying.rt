@@ -1,5 +1,6 @@
 // A sparse row copied from list to list: as many steps as it has entries, however wide it is.
 ghost use Rattle.sparse.specs.Copying.{CopyReady, Copied};
+ghost use Rattle.sparse.specs.Views.{before, after};
 use residue::Modulus;
 
 // Copies the sparse row with columns rc and values rv, times c, to the place `at` of two lists; gives the next place. The
@@ -14,7 +15,7 @@ pub fn copy_scaled(
     vals: &mut [u32],
 ) -> usize
     requires { ⌜ CopyReady (q .p) c at (now rc) (now rv) (now cols) (now vals) ⌝ }
-    ensures { λ next. ⌜ Copied (q .p) c at (now (rc .entry)) (now (rv .entry)) (now (cols .entry)) (now (vals .entry)) (now (cols .exit)) (now (vals .exit)) next ⌝ }
+    ensures { λ next. ⌜ Copied (q .p) c at (before rc) (before rv) (before cols) (before vals) (after cols) (after vals) next ⌝ }
 {
     let mut t = 0;
     while t < rc.len() {

@@ -9,11 +9,11 @@ ghost use Rattle.lists.specs.Tabulate.{tabulate};
 ghost use Rattle.lists.specs.Tests.{first};
 ghost use Rattle.algebra.specs.Matrix.{vector};
 ghost use Rattle.residue.specs.Arithmetic.{Residue, Residues};
-ghost use Rattle.sparse.specs.Words.{view};
 ghost use Rattle.sparse.specs.Row.{entry, weigh};
 ghost use Rattle.sparse.specs.WorkingRow.{Cell};
 ghost use Rattle.sparse.specs.Dense.{nonzeros, scaled};
 ghost use Rattle.sparse.specs.Storing.{LoadReady, DotReady, Room, DenseStored, StoreReady, RowStored};
+ghost use Rattle.sparse.specs.Views.{before, after, viewAt, viewBefore};
 use crate::scan::next_nonzero;
 use crate::words::count;
 use crate::words::word;
@@ -22,8 +22,8 @@ use residue::Modulus;
 
 // Puts a sparse row into a working row that is all zero. The modulus bounds the cells and is not computed with.
 pub fn load(cols: &[u32], cb: &[u8], vals: &[u32], vb: &[u8], p: u32, work: &mut [u64])
-    requires { ⌜ LoadReady p (view (now cols) (now cb)) (view (now vals) (now vb)) (now work) ⌝ }
-    ensures { λ _. ⌜ now (work .exit) ≡ tabulate (length (now (work .entry))) (entry (view (now (cols .entry)) (now (cb .entry))) (view (now (vals .entry)) (now (vb .entry)))) ⌝ }
+    requires { ⌜ LoadReady p (viewAt cols cb) (viewAt vals vb) (now work) ⌝ }
+    ensures { λ _. ⌜ after work ≡ tabulate (length (before work)) (entry (viewBefore cols cb) (viewBefore vals vb)) ⌝ }
 {
     let n = count(cols, cb);
     let mut t = 0;
@@ -48,8 +48,8 @@ fn add_product(q: Modulus, s: u64, v: u32, x: u32) -> u64
 
 // The product of a sparse row and a vector of residues.
 pub fn dot(q: Modulus, cols: &[u32], cb: &[u8], vals: &[u32], vb: &[u8], z: &[u32]) -> u32
-    requires { ⌜ DotReady (q .p) (view (now cols) (now cb)) (view (now vals) (now vb)) (now z) ⌝ }
-    ensures { λ r. ⌜ Residue (q .p) (weigh (view (now (cols .entry)) (now (cb .entry))) (view (now (vals .entry)) (now (vb .entry))) (vector (now (z .entry))) % q .p) r ⌝ }
+    requires { ⌜ DotReady (q .p) (viewAt cols cb) (viewAt vals vb) (now z) ⌝ }
+    ensures { λ r. ⌜ Residue (q .p) (weigh (viewBefore cols cb) (viewBefore vals vb) (vector (before z)) % q .p) r ⌝ }
 {
     let n = count(cols, cb);
     let mut s: u64 = 0;
@@ -74,7 +74,7 @@ fn is_zero(q: Modulus, x: u64) -> bool
 // How many cells stand for another residue than 0.
 pub fn count_nonzero(q: Modulus, work: &[u64]) -> usize
     requires { ⌜ 0 < q .p ⌝ }
-    ensures { λ r. ⌜ r ≡ length (nonzeros (scaled (q .p) 1 (now (work .entry)))) ⌝ }
+    ensures { λ r. ⌜ r ≡ length (nonzeros (scaled (q .p) 1 (before work))) ⌝ }
 {
     let mut k = 0;
     let mut j = 0;
@@ -90,7 +90,7 @@ pub fn count_nonzero(q: Modulus, work: &[u64]) -> usize
 // The first cell that stands for another residue than 0, or the length.
 pub fn first_nonzero(q: Modulus, work: &[u64]) -> usize
     requires { ⌜ 0 < q .p ⌝ }
-    ensures { λ r. ⌜ r ≡ first (length (now (work .entry))) (λ j. eqb (getD (now (work .entry)) j 0 % q .p) 0) ⌝ }
+    ensures { λ r. ⌜ r ≡ first (length (before work)) (λ j. eqb (getD (before work) j 0 % q .p) 0) ⌝ }
 {
     let mut j = 0;
     while j < work.len() {
@@ -116,7 +116,7 @@ fn scale(q: Modulus, c: u32, x: u64) -> u32
 // Stores the value v at column j in place `at`, unless it is 0; gives the next place.
 pub fn put(v: u32, j: u32, at: usize, cols: &mut [u32], vals: &mut [u32]) -> usize
     requires { ⌜ Room at (v ∷ []) (now cols) (now vals) ⌝ }
-    ensures { λ next. ⌜ DenseStored j at (v ∷ []) (now (cols .entry)) (now (vals .entry)) (now (cols .exit)) (now (vals .exit)) next ⌝ }
+    ensures { λ next. ⌜ DenseStored j at (v ∷ []) (before cols) (before vals) (after cols) (after vals) next ⌝ }
 {
     if v == 0 {
         return at;
@@ -136,7 +136,7 @@ pub fn store(
     vals: &mut [u32],
 ) -> usize
     requires { ⌜ StoreReady (q .p) c start (now work) (now cols) (now vals) ⌝ }
-    ensures { λ next. ⌜ RowStored (q .p) c start (now (work .entry)) (now (cols .entry)) (now (vals .entry)) (now (work .exit)) (now (cols .exit)) (now (vals .exit)) next ⌝ }
+    ensures { λ next. ⌜ RowStored (q .p) c start (before work) (before cols) (before vals) (after work) (after cols) (after vals) next ⌝ }
 {
     let mut at = start;
     let mut j = 0;

@@ -2,10 +2,11 @@
 ghost use mathlib.Core.Path.{_≡_};
 ghost use Prim.Native.Nat.{_*_, _<_};
 ghost use Rattle.residue.specs.Arithmetic.{Residues};
-ghost use Rattle.sparse.specs.Words.{words, view};
+ghost use Rattle.sparse.specs.Words.{words};
 ghost use Rattle.sparse.specs.Row.{entry};
-ghost use Rattle.sparse.specs.Matrix.{compressed, viewed, matrix};
+ghost use Rattle.sparse.specs.Matrix.{matrix};
 ghost use Rattle.sparse.specs.WorkingRow.{Lessened, Subtracted, RowReady, MatrixReady};
+ghost use Rattle.sparse.specs.Views.{before, after, storedAt, storedBefore, viewAt, viewBefore, viewedAt, viewedBefore};
 use crate::words::bytes_part;
 use crate::words::count;
 use crate::words::list_part;
@@ -35,7 +36,7 @@ pub fn minus(q: Modulus, x: u64, c: u32, v: u32) -> u64
 // work - c row, where the row is given by stored lists.
 fn subtract_list(q: Modulus, cols: &[u32], vals: &[u32], c: u32, work: &mut [u64])
     requires { ⌜ RowReady (q .p) c (now cols) (now vals) (now work) ⌝ }
-    ensures { λ _. ⌜ Subtracted (q .p) (λ j. c * entry (now (cols .entry)) (now (vals .entry)) j) (now (work .entry)) (now (work .exit)) ⌝ }
+    ensures { λ _. ⌜ Subtracted (q .p) (λ j. c * entry (before cols) (before vals) j) (before work) (after work) ⌝ }
 {
     let mut t = 0;
     while t < cols.len() {
@@ -48,7 +49,7 @@ fn subtract_list(q: Modulus, cols: &[u32], vals: &[u32], c: u32, work: &mut [u64
 // work - c row, where the row is given by the numbers that bytes hold.
 fn subtract_bytes(q: Modulus, cb: &[u8], vb: &[u8], c: u32, work: &mut [u64])
     requires { ⌜ RowReady (q .p) c (words (now cb)) (words (now vb)) (now work) ⌝ }
-    ensures { λ _. ⌜ Subtracted (q .p) (λ j. c * entry (words (now (cb .entry))) (words (now (vb .entry))) j) (now (work .entry)) (now (work .exit)) ⌝ }
+    ensures { λ _. ⌜ Subtracted (q .p) (λ j. c * entry (words (before cb)) (words (before vb)) j) (before work) (after work) ⌝ }
 {
     let n = cb.len() / 4;
     let mut t = 0;
@@ -70,8 +71,8 @@ fn subtract_words(
     c: u32,
     work: &mut [u64],
 )
-    requires { ⌜ RowReady (q .p) c (view (now cols) (now cb)) (view (now vals) (now vb)) (now work) ⌝ }
-    ensures { λ _. ⌜ Subtracted (q .p) (λ j. c * entry (view (now (cols .entry)) (now (cb .entry))) (view (now (vals .entry)) (now (vb .entry))) j) (now (work .entry)) (now (work .exit)) ⌝ }
+    requires { ⌜ RowReady (q .p) c (viewAt cols cb) (viewAt vals vb) (now work) ⌝ }
+    ensures { λ _. ⌜ Subtracted (q .p) (λ j. c * entry (viewBefore cols cb) (viewBefore vals vb) j) (before work) (after work) ⌝ }
 {
     let n = count(cols, cb);
     let mut t = 0;
@@ -93,8 +94,8 @@ pub fn subtract(
     c: u32,
     work: &mut [u64],
 )
-    requires { ⌜ RowReady (q .p) c (view (now cols) (now cb)) (view (now vals) (now vb)) (now work) ⌝ }
-    ensures { λ _. ⌜ Subtracted (q .p) (λ j. c * entry (view (now (cols .entry)) (now (cb .entry))) (view (now (vals .entry)) (now (vb .entry))) j) (now (work .entry)) (now (work .exit)) ⌝ }
+    requires { ⌜ RowReady (q .p) c (viewAt cols cb) (viewAt vals vb) (now work) ⌝ }
+    ensures { λ _. ⌜ Subtracted (q .p) (λ j. c * entry (viewBefore cols cb) (viewBefore vals vb) j) (before work) (after work) ⌝ }
 {
     if cb.len() + vb.len() == 0 {
         subtract_list(q, cols, vals, c, work);
@@ -120,8 +121,8 @@ pub fn subtract_row(
     c: u32,
     work: &mut [u64],
 )
-    requires { ⌜ MatrixReady (q .p) k c (viewed (now starts) (now sb) (now cols) (now cb) (now vals) (now vb)) (now work) ⌝ }
-    ensures { λ _. ⌜ Subtracted (q .p) (λ j. c * matrix (viewed (now (starts .entry)) (now (sb .entry)) (now (cols .entry)) (now (cb .entry)) (now (vals .entry)) (now (vb .entry))) k j) (now (work .entry)) (now (work .exit)) ⌝ }
+    requires { ⌜ MatrixReady (q .p) k c (viewedAt starts sb cols cb vals vb) (now work) ⌝ }
+    ensures { λ _. ⌜ Subtracted (q .p) (λ j. c * matrix (viewedBefore starts sb cols cb vals vb) k j) (before work) (after work) ⌝ }
 {
     let a = index(word(starts, sb, k));
     let e = index(word(starts, sb, k + 1));
@@ -146,8 +147,8 @@ pub fn subtract_list_row(
     c: u32,
     work: &mut [u64],
 )
-    requires { ⌜ MatrixReady (q .p) k c (compressed (now starts) (now cols) (now vals)) (now work) ⌝ }
-    ensures { λ _. ⌜ Subtracted (q .p) (λ j. c * matrix (compressed (now (starts .entry)) (now (cols .entry)) (now (vals .entry))) k j) (now (work .entry)) (now (work .exit)) ⌝ }
+    requires { ⌜ MatrixReady (q .p) k c (storedAt starts cols vals) (now work) ⌝ }
+    ensures { λ _. ⌜ Subtracted (q .p) (λ j. c * matrix (storedBefore starts cols vals) k j) (before work) (after work) ⌝ }
 {
     let a = index(starts[k]);
     let e = index(starts[k + 1]);

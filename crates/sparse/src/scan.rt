@@ -2,11 +2,12 @@
 ghost use Prim.Native.Nat.{_+_, _≤_};
 ghost use lib.ListN.{length};
 ghost use Rattle.sparse.specs.Scan.{ZeroRun, NextNonzero};
+ghost use Rattle.sparse.specs.Views.{before};
 
 // How many of the eight cells from place j on are 0 before the first that is not.
 fn zeros_of_eight(row: &[u64], j: usize) -> usize
     requires { ⌜ j + 8 ≤ length (now row) ⌝ }
-    ensures { λ r. ⌜ ZeroRun (now (row .entry)) j r ⌝ }
+    ensures { λ r. ⌜ ZeroRun (before row) j r ⌝ }
 {
     if row[j] != 0 {
         return 0;
@@ -38,7 +39,7 @@ fn zeros_of_eight(row: &[u64], j: usize) -> usize
 // The first place from `from` on whose cell is not 0, or the length; cell by cell.
 fn next_by_one(row: &[u64], from: usize) -> usize
     requires { ⌜ from ≤ length (now row) ⌝ }
-    ensures { λ r. ⌜ NextNonzero (now (row .entry)) from r ⌝ }
+    ensures { λ r. ⌜ NextNonzero (before row) from r ⌝ }
 {
     let mut j = from;
     while j < row.len() {
@@ -53,7 +54,7 @@ fn next_by_one(row: &[u64], from: usize) -> usize
 // The same; cell by cell only where fewer than eight are left.
 pub fn next_nonzero(row: &[u64], from: usize) -> usize
     requires { ⌜ from ≤ length (now row) ⌝ }
-    ensures { λ r. ⌜ NextNonzero (now (row .entry)) from r ⌝ }
+    ensures { λ r. ⌜ NextNonzero (before row) from r ⌝ }
 {
     let mut j = from;
     while 8 <= row.len() - j {

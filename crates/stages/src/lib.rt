@@ -1,5 +1,6 @@
 // A plan's text, read and then factored: the stages that the calls on a text begin with. They work in lists of the largest lengths.
 ghost use Rattle.sparse.specs.Matrix.{compressed};
+ghost use Rattle.sparse.specs.Views.{before, after, storedAt, storedAfter};
 ghost use Rattle.factor_all.specs.Outcome.{Leaves};
 ghost use Rattle.call_factor.specs.Calls.{factorCallOf};
 ghost use Prim.Native.Nat.{_+_};
@@ -37,8 +38,8 @@ fn factor_held(
     uv: &mut [u32],
     work: &mut [u64],
 ) -> Factored
-    requires { ⌜ Lendable r (compressed (now starts) (now cols) (now vals)) (now ro) (now co) (compressed (now ls) (now lc) (now lv)) (compressed (now us) (now uc) (now uv)) (now work) ⌝ }
-    ensures { λ f. ⌜ Leaves (factorCallOf (r .p) (r .n) (r .m) (heldPlan r (now (starts .entry)) (now (cols .entry)) (now (vals .entry))) (lentFor (r .n) (r .m))) (f .number) (f .detail) (f .rank) (f .structural) (take (r .n) (now (ro .exit))) (take (r .m) (now (co .exit))) (compressed (take (r .n + 1) (now (ls .exit))) (now (lc .exit)) (now (lv .exit))) (compressed (take (r .n + 1) (now (us .exit))) (now (uc .exit)) (now (uv .exit))) (now (work .exit)) ⌝ }
+    requires { ⌜ Lendable r (storedAt starts cols vals) (now ro) (now co) (storedAt ls lc lv) (storedAt us uc uv) (now work) ⌝ }
+    ensures { λ f. ⌜ Leaves (factorCallOf (r .p) (r .n) (r .m) (heldPlan r (before starts) (before cols) (before vals)) (lentFor (r .n) (r .m))) (f .number) (f .detail) (f .rank) (f .structural) (take (r .n) (after ro)) (take (r .m) (after co)) (compressed (take (r .n + 1) (after ls)) (after lc) (after lv)) (compressed (take (r .n + 1) (after us)) (after uc) (after uv)) (after work) ⌝ }
 {
     let n = r.n as usize;
     let m = r.m as usize;
@@ -78,8 +79,8 @@ pub fn factor_text(
     uv: &mut [u32],
     work: &mut [u64],
 ) -> Stages
-    requires { ⌜ StageLists (compressed (now starts) (now cols) (now vals)) (now ro) (now co) (compressed (now ls) (now lc) (now lv)) (compressed (now us) (now uc) (now uv)) (now work) ⌝ }
-    ensures { λ s. ⌜ Staged (now (text .entry)) s (compressed (now (starts .exit)) (now (cols .exit)) (now (vals .exit))) (now (ro .exit)) (now (co .exit)) (compressed (now (ls .exit)) (now (lc .exit)) (now (lv .exit))) (compressed (now (us .exit)) (now (uc .exit)) (now (uv .exit))) (now (work .entry)) (now (work .exit)) ⌝ }
+    requires { ⌜ StageLists (storedAt starts cols vals) (now ro) (now co) (storedAt ls lc lv) (storedAt us uc uv) (now work) ⌝ }
+    ensures { λ s. ⌜ Staged (before text) s (storedAfter starts cols vals) (after ro) (after co) (storedAfter ls lc lv) (storedAfter us uc uv) (before work) (after work) ⌝ }
 {
     let reading = text_plan::read(text, starts, cols, vals);
     if reading.number != 0 {

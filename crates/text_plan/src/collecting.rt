@@ -7,6 +7,7 @@ ghost use lib.ListN.{length, drop, set};
 ghost use Rattle.text_fields.specs.Pieces.{pieces};
 ghost use Rattle.text_plan.specs.Collect.{collect};
 ghost use Rattle.text_plan.specs.Needs.{Keepable, Collectable, Collects};
+ghost use Rattle.sparse.specs.Views.{before, after};
 use refusals::Outcome;
 use refusals::numbers::MALFORMED;
 use text_judge::judge::Sizes;
@@ -30,7 +31,7 @@ fn keep(
     v: u32,
 )
     requires { ⌜ Keepable (length (now rows)) (length (now columns)) (length (now values)) number i j ⌝ }
-    ensures { λ _. ⌜ (now (rows .exit) ≡ set (now (rows .entry)) number i) × (now (columns .exit) ≡ set (now (columns .entry)) number j) × (now (values .exit) ≡ set (now (values .entry)) number v) ⌝ }
+    ensures { λ _. ⌜ (after rows ≡ set (before rows) number i) × (after columns ≡ set (before columns) number j) × (after values ≡ set (before values) number v) ⌝ }
 {
     let at = lists::index(number);
     rows[at] = i as u32;
@@ -70,7 +71,7 @@ pub fn collect_lines(
     values: &mut [u32],
 ) -> Gathered
     requires { ⌜ Collectable (now text) from s (now rows) (now columns) (now values) ⌝ }
-    ensures { λ r. ⌜ Collects (collect s room (from .line) [] (pieces 10 (drop (from .at) (now (text .entry))))) r (now (rows .exit)) (now (columns .exit)) (now (values .exit)) ⌝ }
+    ensures { λ r. ⌜ Collects (collect s room (from .line) [] (pieces 10 (drop (from .at) (before text)))) r (after rows) (after columns) (after values) ⌝ }
 {
     let mut here = from;
     let mut count: u32 = 0;

@@ -6,11 +6,12 @@ ghost use lib.ListN.{length};
 ghost use Rattle.limits.specs.Limits.{startsLength};
 ghost use Rattle.text_opening.specs.Reading.{Entry, kept};
 ghost use Rattle.text_plan.specs.Stored.{RowsWithin, startsOf, EntriesStored, Storable};
+ghost use Rattle.sparse.specs.Views.{before, after};
 
 // The starts after the rows `from` + 1 to `to`, which have no entry: all entries stand before them.
 pub fn extend_starts(starts: &mut [u32], from: usize, to: usize, count: u32)
     requires { ⌜ (from ≤ to) × (to < startsLength) × (length (now starts) ≡ startsLength) ⌝ }
-    ensures { λ _. ⌜ ((es : List Entry) → RowsWithin from es → count ≡ length es → now (starts .entry) ≡ startsOf from es → now (starts .exit) ≡ startsOf to es) ⌝ }
+    ensures { λ _. ⌜ ((es : List Entry) → RowsWithin from es → count ≡ length es → before starts ≡ startsOf from es → after starts ≡ startsOf to es) ⌝ }
 {
     let mut k = from;
     while k < to {
@@ -31,7 +32,7 @@ pub fn store(
     v: u32,
 ) -> u32
     requires { ⌜ Storable (length (now starts)) (length (now cols)) (length (now vals)) count row i j v ⌝ }
-    ensures { λ r. ⌜ ((seen : List Entry) → EntriesStored row (length (now (cols .entry))) (kept seen) count (now (starts .entry)) (now (cols .entry)) (now (vals .entry)) → EntriesStored i (length (now (cols .entry))) (kept (record { row = i; column = j; value = v } ∷ seen)) r (now (starts .exit)) (now (cols .exit)) (now (vals .exit))) ⌝ }
+    ensures { λ r. ⌜ ((seen : List Entry) → EntriesStored row (length (before cols)) (kept seen) count (before starts) (before cols) (before vals) → EntriesStored i (length (before cols)) (kept (record { row = i; column = j; value = v } ∷ seen)) r (after starts) (after cols) (after vals)) ⌝ }
 {
     let top = i as usize;
     extend_starts(starts, row as usize, top, count);

@@ -5,6 +5,7 @@ ghost use lib.ListN.{length, drop};
 ghost use Rattle.text_fields.specs.Pieces.{pieces};
 ghost use Rattle.text_opening.specs.Reading.{fresh, triples, readOf};
 ghost use Rattle.text_plan.specs.Call.{readAnswerOf, callOf, refusalOf, Gives, NothingStored, ReadingReady, Settles};
+ghost use Rattle.sparse.specs.Views.{before, after};
 use limits::START_CELLS;
 use refusals::numbers::REPEATED_PLACE;
 use text_judge::judge::Sizes;
@@ -51,7 +52,7 @@ fn read_lines(
     vals: &mut [u32],
 ) -> TripleLines
     requires { ⌜ ReadingReady (now text) third s (now starts) (now cols) (now vals) ⌝ }
-    ensures { λ r. ⌜ Settles (length (now (cols .entry))) (triples fresh s (length (now (cols .entry))) (third .line) [] (pieces 10 (drop (third .at) (now (text .entry))))) r (now (starts .exit)) (now (cols .exit)) (now (vals .exit)) ⌝ }
+    ensures { λ r. ⌜ Settles (length (before cols)) (triples fresh s (length (before cols)) (third .line) [] (pieces 10 (drop (third .at) (before text)))) r (after starts) (after cols) (after vals) ⌝ }
 {
     match triples::read_triples(text, third, s, starts, cols, vals) {
         TripleLines::Read { count, row } => TripleLines::Read { count, row },
@@ -70,7 +71,7 @@ fn read_lines(
 // Reads into lists of the right lengths that are all zero.
 fn fill(text: &[u8], starts: &mut [u32], cols: &mut [u32], vals: &mut [u32]) -> Reading
     requires { ⌜ NothingStored (now starts) (now cols) (now vals) ⌝ }
-    ensures { λ r. ⌜ Gives (readAnswerOf (length (now (cols .entry))) (readOf (length (now (cols .entry))) (now (text .entry)))) r (now (starts .exit)) (now (cols .exit)) (now (vals .exit)) ⌝ }
+    ensures { λ r. ⌜ Gives (readAnswerOf (length (before cols)) (readOf (length (before cols)) (before text))) r (after starts) (after cols) (after vals) ⌝ }
 {
     match text_opening::opening::open(text) {
         Opening::Refused { number, detail } => refusal(number, detail),
@@ -103,7 +104,7 @@ fn fill(text: &[u8], starts: &mut [u32], cols: &mut [u32], vals: &mut [u32]) -> 
 // Refuses with: 9 for a wrong length; 2 for a longer text; then the first line at fault: 3, then 1, 2, or 4, 5, 6, 7.
 // Leaves: after a refusal every number 0 and every lent list all zero. The text never changes.
 pub fn read(text: &[u8], starts: &mut [u32], cols: &mut [u32], vals: &mut [u32]) -> Reading
-    ensures { λ r. ⌜ Gives (callOf (now (text .entry)) (length (now (starts .entry))) (length (now (cols .entry))) (length (now (vals .entry)))) r (now (starts .exit)) (now (cols .exit)) (now (vals .exit)) ⌝ }
+    ensures { λ r. ⌜ Gives (callOf (before text) (length (before starts)) (length (before cols)) (length (before vals))) r (after starts) (after cols) (after vals) ⌝ }
 {
     lists::clear(starts);
     lists::clear(cols);

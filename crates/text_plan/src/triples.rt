@@ -5,6 +5,7 @@ ghost use Rattle.text_fields.specs.Pieces.{pieces};
 ghost use Rattle.text_opening.specs.Reading.{triples};
 ghost use Rattle.text_plan.specs.Rising.{rises};
 ghost use Rattle.text_plan.specs.Call.{ReadingReady, Shows};
+ghost use Rattle.sparse.specs.Views.{before, after};
 use refusals::numbers::MALFORMED;
 use text_judge::judge::Sizes;
 use text_judge::judge::Verdict;
@@ -26,7 +27,7 @@ pub fn read_triples(
     vals: &mut [u32],
 ) -> TripleLines
     requires { ⌜ ReadingReady (now text) from s (now starts) (now cols) (now vals) ⌝ }
-    ensures { λ r. ⌜ Shows (length (now (cols .entry))) (triples rises s (length (now (cols .entry))) (from .line) [] (pieces 10 (drop (from .at) (now (text .entry))))) r (now (starts .exit)) (now (cols .exit)) (now (vals .exit)) ⌝ }
+    ensures { λ r. ⌜ Shows (length (before cols)) (triples rises s (length (before cols)) (from .line) [] (pieces 10 (drop (from .at) (before text)))) r (after starts) (after cols) (after vals) ⌝ }
 {
     let room = cols.len();
     let mut here = from;

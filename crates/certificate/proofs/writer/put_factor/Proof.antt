@@ -18,7 +18,7 @@ put-words-requires-2 c κs = let s = c .before .before .before .before .before .
 
 put-words-requires-3 : tie.Need-put-words-requires-3
 put-words-requires-3 c κs = let s = c .before .before .before .before .before .before .before .before .before .before .before .before .before in
-    omega (arith, s .pre, ends (c .before .before .before .before .before .before .before .put-words .ensures), ends (c .before .before .before .put-words2 .ensures), length-bytes (s .args .starts .now), length-bytes (s .args .co .now))
+    omega (arith, s .pre, ends (c .before .before .before .before .before .before .before .put-words .ensures), ends (c .before .before .before .put-words2 .ensures), length-bytes (s .args .starts .now), length-bytes (s .args .cols .now))
 
 same-length : tie.Need-same-length
 same-length c = search needs
@@ -26,8 +26,8 @@ same-length c = search needs
 returns : tie.Need-returns
 unfolding factorNumbers
 returns c = let s = c .before .before .before .before .before .before .before .before .before .before .before .before .before .before .before .before in
-    numbers-then (s .args .starts .now) (s .args .co .now ++ s .args .vals .now) (c .before .before .before .before .before .before .before .before .before .before .put-words .ensures)
-    (numbers-then (s .args .co .now) (s .args .vals .now) (c .before .before .before .before .before .before .put-words2 .ensures) (c .before .before .put-words3 .ensures))
+    numbers-then (s .args .starts .now) (s .args .cols .now ++ s .args .vals .now) (c .before .before .before .before .before .before .before .before .before .before .put-words .ensures)
+    (numbers-then (s .args .cols .now) (s .args .vals .now) (c .before .before .before .before .before .before .put-words2 .ensures) (c .before .before .put-words3 .ensures))
 
 pub put-factor-spec : {M : Type 1} → statement M
 put-factor-spec =

@@ -4,7 +4,7 @@ use mathlib.Core.Path.{_≡_, sym, _∙_, ap}
 use lib.ListN.{length}
 use borrow.Author.Tests.{ne-eqb, eq-eqb, not-false}
 use Rattle.sparse.specs.Words.{view}
-use Rattle.sparse.specs.Form.{wellFormed, starts}
+use Rattle.sparse.specs.Form.{wellFormed, startsOk}
 use Rattle.lists.proofs.Bools.{chain-stop, chain-on, chain-false, chain-true}
 use borrow.Author.Needs.{needs}
 use Rattle.sparse.proofs.form.form_ok.Statement.{statement}
@@ -12,11 +12,11 @@ use Rattle.sparse.proofs.form.form_ok.Tie as tie
 
 -- what the first test says
 first : (c : tie.After-starts-ok)
-    → c .starts-ok .result ≡ starts (length (view (c .before .before .before .before .before .before .before .before .args .cols .now) (c .before .before .before .before .before .before .before .before .args .cb .now)))
+    → c .starts-ok .result ≡ startsOk (length (view (c .before .before .before .before .before .before .before .before .args .cols .now) (c .before .before .before .before .before .before .before .before .args .cb .now)))
     (view (c .before .before .before .before .before .before .before .before .args .starts .now) (c .before .before .before .before .before .before .before .before .args .sb .now))
 first c =
     let s = c .before .before .before .before .before .before .before .before in
-    c .starts-ok .ensures ∙ ap (λ (n : ℕ). starts n (view (s .args .starts .now) (s .args .sb .now))) (c .before .count .ensures)
+    c .starts-ok .ensures ∙ ap (λ (n : ℕ). startsOk n (view (s .args .starts .now) (s .args .sb .now))) (c .before .count .ensures)
 
 count-requires : tie.Need-count-requires
 count-requires c κs = search needs

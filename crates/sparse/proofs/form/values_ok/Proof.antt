@@ -5,13 +5,13 @@ use native.Mathlib.Omega.{arith}
 use borrow.Author.Needs.{needs}
 use lib.ListN.{drop}
 use Rattle.sparse.specs.Words.{view}
-use Rattle.sparse.specs.Form.{values}
+use Rattle.sparse.specs.Form.{valuesOk}
 use Rattle.sparse.proofs.Forms.{values-zero, values-high, values-on, values-end}
 use Rattle.sparse.proofs.form.values_ok.Statement.{statement}
 use Rattle.sparse.proofs.form.values_ok.Tie as tie
 
 abbrev Inv-loop : tie.InvT-loop
-Inv-loop vals vb p n i₀ i = (i ≤ n) × (values p (drop i (view vals vb)) ≡ values p (view vals vb))
+Inv-loop vals vb p n i₀ i = (i ≤ n) × (valuesOk p (drop i (view vals vb)) ≡ valuesOk p (view vals vb))
 
 abbrev μ-loop : tie.MeasureT-loop
 μ-loop vals vb p n i₀ i = n - i

@@ -23,7 +23,7 @@ abbrev μ-loop : tie.MeasureT-loop
     length text - here .at
 
 -- the lists keep their lengths
-lengths : (c : tie.At-loop Inv-loop μ-loop) → (length (c .loop .starts) ≡ length (now (c .before .before .before .before .before .args .starts))) × (length (c .loop .columns) ≡ length (now (c .before .before .before .before .before .args .cols))) × (length (c .loop .values) ≡ length (now (c .before .before .before .before .before .args .vals)))
+lengths : (c : tie.At-loop Inv-loop μ-loop) → (length (c .loop .starts) ≡ length (now (c .before .before .before .before .before .args .starts))) × (length (c .loop .cols) ≡ length (now (c .before .before .before .before .before .args .cols))) × (length (c .loop .vals) ≡ length (now (c .before .before .before .before .before .args .vals)))
 lengths c =
     let g = c .loop .inv in
     (starts-long (g .0) ∙ sym (g .1), columns-long (g .0) ∙ sym (g .2), values-long (g .0) ∙ sym (g .3))
