@@ -21,7 +21,7 @@ abbrev start : tie.At-loop Inv-loop μ-loop → tie.Start Inv-loop μ-loop
 start c = c .before .before .before .before .before .before .before .before .before .before .before .before .before
 
 -- there is room for one pair more
-fits : (c : tie.In-loop Inv-loop μ-loop) → let l = c .before .loop in (l .at < length (l .rows)) × (l .at < length (l .columns))
+fits : (c : tie.In-loop Inv-loop μ-loop) → let l = c .before .loop in (l .at < length (l .ro)) × (l .at < length (l .co))
 fits c = listing-fits _ _ _ _ _ _ _ _ _ _ _ _ (c .before .loop .inv) (c .loop-test .taken)
 
 -- row k is a row
