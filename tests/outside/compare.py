@@ -113,7 +113,7 @@ def tiny_cases(seed, index, most):
 
 
 def _plan_d_cases():
-    """The scope's questions and edits, and the certificate that was made before
+    """Document 01's questions and edits, and the certificate that was made before
     slip 9; then every byte of D's certificate changed in every way that one bit
     or all bits make."""
     plan = read_plan(PLAN_D, GREATEST_ENTRIES)

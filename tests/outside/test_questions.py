@@ -1,4 +1,4 @@
-"""Answers in the model, against enumeration and against the scope's description."""
+"""Answers in the model, against enumeration and against document 01's description."""
 
 import unittest
 from itertools import product

@@ -19,7 +19,7 @@ from worked import PLAN_D
 
 
 def passes_by_cells(plan, factors):
-    """The scope's sentences on a set, over full matrices."""
+    """Document 01's sentences on a set, over full matrices."""
     R, C, L, U, r = factors
     p, n, m = plan.p, plan.n, plan.m
     if set(R) != set(range(n)) or set(C) != set(range(m)) or r > min(n, m):

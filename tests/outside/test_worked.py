@@ -1,4 +1,4 @@
-"""The model against the scope's worked cases (scope, "Report and cases")."""
+"""The model against document 01's worked cases (document 01, "Report and cases")."""
 
 import unittest
 from pathlib import Path
@@ -29,7 +29,7 @@ EXAMPLES = Path(__file__).resolve().parents[2] / "examples"
 
 
 class WorkedCases(unittest.TestCase):
-    """The scope's own numbers."""
+    """Document 01's own numbers."""
 
     def test_reports(self):
         for text, output in REPORTS:

@@ -1,4 +1,4 @@
-"""The worked cases of the scope with their results, letter by letter (scope, "Report and cases").
+"""The worked cases of document 01 with their results, letter by letter (document 01, "Report and cases").
 Those of the structural pivots are worked by slip 9 of the change requests.
 
     PLAN_D        the text of plan D; FALLING_D and BY_COLUMN_D, the same plan in other orders

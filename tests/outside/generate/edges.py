@@ -1,4 +1,4 @@
-"""Plans and texts at the limits of the scope.
+"""Plans and texts at the limits of document 01.
 
     lower_edge, upper_edge   plans whose L or U has an exact number of entries
     left_edges               plans that leave as much as the block holds, and more

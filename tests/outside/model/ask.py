@@ -1,4 +1,4 @@
-"""The question program's output (scope, "Questions"; the form of the lines is the program's own).
+"""The question program's output (document 01, "Questions"; the form of the lines is the program's own).
 
     ask          the output for a text and a question
     ask_by_text  the output for a text that the question follows

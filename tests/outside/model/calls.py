@@ -1,4 +1,4 @@
-"""The two calls for C programs (scope, "What the library returns", last sentences).
+"""The two calls for C programs (document 01, "What the library returns", last sentences).
 
     make_certificate    reading, then factoring and writing
     check_certificate   reading, then checking

@@ -1,4 +1,4 @@
-"""The bytes of a certificate (scope, "Certificate"; number 10 in "What the library returns").
+"""The bytes of a certificate (document 01, "Certificate"; number 10 in "What the library returns").
 
     write        the certificate of a plan's factors
     parse        the factors in a certificate for a plan, or 10

@@ -1,4 +1,4 @@
-"""Checking any set (scope, "Factors", from "A set is"; numbers 9 to 14).
+"""Checking any set (document 01, "Factors", from "A set is"; numbers 9 to 14).
 
     judge               11 to 14 on a set of right lengths, or None if it passes
     check_factors       the check of a set given as stored lists

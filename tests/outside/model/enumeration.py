@@ -1,4 +1,4 @@
-"""The same notions by trying everything, for tiny plans (scope, "Factors": rank; "Questions").
+"""The same notions by trying everything, for tiny plans (document 01, "Factors": rank; "Questions").
 
 No factors are used but for which rows and columns are pivots. A matrix is a
 list of full rows.
@@ -6,7 +6,7 @@ list of full rows.
     full_rows    the plan's matrix with its zeros
     combinations all lists of residues of a length
     rank         the greatest number of independent rows
-    answer       x and z as the scope describes them, found by trying all
+    answer       x and z as document 01 describes them, found by trying all
     values       the values y.s over the settings s that give certain slots
 """
 

@@ -1,6 +1,6 @@
-"""Factoring a plan (scope, "Factors" and its pivot rules; number 7 in "What the library returns").
+"""Factoring a plan (document 01, "Factors" and its pivot rules; number 7 in "What the library returns").
 
-    Factors      the scope's set: R, C, L, U and r
+    Factors      document 01's set: R, C, L, U and r
     Factored     the factors with the number of structural pivots
     schedule     the processing order: the structural rows, then the others
     reduce       a row reduced by rows of U, in order

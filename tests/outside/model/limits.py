@@ -1,4 +1,4 @@
-"""The limits of a plan (scope, "The product", the paragraph "Limits").
+"""The limits of a plan (document 01, "The product", the paragraph "Limits").
 
     is_modulus   a prime from 2 to 65,521
 """

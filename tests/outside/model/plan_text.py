@@ -1,4 +1,4 @@
-"""Reading a plan text (scope, "Plan text"; order of refusals, "What the library returns"; triples
+"""Reading a plan text (document 01, "Plan text"; order of refusals, "What the library returns"; triples
 in any order, slip 2 of the change requests).
 
     read_plan    the stored plan that a text states, or the first refusal

@@ -1,4 +1,4 @@
-"""Answering questions from a set that passed (scope, "Questions"; number 15).
+"""Answering questions from a set that passed (document 01, "Questions"; number 15).
 
     Answer              the verdict with x and z
     answer              the answer to one question

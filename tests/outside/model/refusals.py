@@ -1,4 +1,4 @@
-"""The numbers that calls return (scope, table in "What the library returns").
+"""The numbers that calls return (document 01, table in "What the library returns").
 
     Refusal      a number of the table with its detail
     encoded      the one number that a C call returns for a number and detail

@@ -1,4 +1,4 @@
-"""The report program's output (scope, "Report and cases").
+"""The report program's output (document 01, "Report and cases").
 
     report       the output for a text
     stages       reading, then factoring, with the rooms that the program lends

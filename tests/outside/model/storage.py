@@ -1,4 +1,4 @@
-"""Stored rows, of a plan and of factors alike (scope, "The product", "Stored form").
+"""Stored rows, of a plan and of factors alike (document 01, "The product", "Stored form").
 
     Rows         row starts, columns and values
     has_form     the stored form holds for a width and a modulus

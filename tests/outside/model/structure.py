@@ -1,13 +1,13 @@
-"""The structural pivots (scope, "Factors", pivot rule 1; slip 9 of the change requests).
+"""The structural pivots (document 01, "Factors", pivot rule 1; slip 9 of the change requests).
 
 A pivot is a row and a column. One pivot leads to another when its row has an
 entry in the other's column; a cycle is a chain that comes back. Rows are
 dictionaries from column to value; `pivots` has the row of each pivot column.
 
-    leading      the scope's own choice: a row for each leftmost column
+    leading      document 01's own choice: a row for each leftmost column
     led_to       the pivot rows to which a row leads
     reached      those to which it leads at once or through others
-    selected     the scope's choice, and what can be added without a cycle
+    selected     document 01's choice, and what can be added without a cycle
     ordered      pivot rows in their order
     structural   the whole rule
 """
