@@ -5,7 +5,7 @@ use Prim.Native.Nat.{ℕ, _≤_}
 use native.Mathlib.Omega.{arith}
 use lib.ListN.{length}
 use Rattle.lists.specs.Filled.{filled}
-use Rattle.byte_buffer.specs.Stored.{Fills}
+use Rattle.byte_buffer.specs.Fills.{Fills}
 use Rattle.stages.proofs.Lists.{filled-fits}
 
 pub line-inside : (b₀ b : List ℕ) (size : ℕ) (ys : List ℕ) → length b ≡ length b₀ → Fills b₀ b size ys → size ≤ length b

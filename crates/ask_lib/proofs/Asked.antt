@@ -12,7 +12,7 @@ use Rattle.refusals.specs.Refusals.{unless, _▷_}
 use Rattle.lists.proofs.Filled.{length-zeros}
 use Rattle.refusals.specs.declared.Outcome.{Outcome}
 use Rattle.refusals.specs.declared.Outcome.the-variants.{Passed, Refused}
-use Rattle.byte_buffer.specs.Stored.{Fills}
+use Rattle.byte_buffer.specs.Fills.{Fills}
 use Rattle.sparse.specs.Matrix.{Compressed}
 use Rattle.text_plan.specs.Call.{ReadAnswer}
 use Rattle.text_plan.specs.declared.Reading.{Reading}

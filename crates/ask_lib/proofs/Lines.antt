@@ -6,7 +6,7 @@ use Prim.Native.Nat.{ℕ, _≤_, _<_}
 use native.Mathlib.Omega.{arith}
 use lib.ListN.{length, take}
 use lib.Seq.{length-take-le}
-use Rattle.byte_buffer.specs.Stored.{Fills}
+use Rattle.byte_buffer.specs.Fills.{Fills}
 use Rattle.call_answer.specs.Calls.{answerDetail}
 use Rattle.call_answer.specs.declared.Answer.{Answer}
 use Rattle.print_text.specs.Answer.{answerLine}

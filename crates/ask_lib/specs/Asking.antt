@@ -13,7 +13,7 @@ use mathlib.Core.List.{List}
 use lib.ListN.{length}
 use Rattle.lists.specs.Filled.{zeros}
 use Rattle.refusals.specs.Table.{storageTooShort, questionTooLarge}
-use Rattle.byte_buffer.specs.Stored.{Fills}
+use Rattle.byte_buffer.specs.Fills.{Fills}
 use Rattle.text_plan.specs.Call.{ReadAnswer}
 use Rattle.limits.specs.Limits.{workLength, startsLength, printRoom}
 use Rattle.factor_all.specs.Outcome.{Outcome}

@@ -1,7 +1,7 @@
 // The answer to a question about a plan's text.
 ghost use mathlib.Core.Path.{_≡_};
 ghost use lib.ListN.{take};
-ghost use Rattle.byte_buffer.specs.Stored.{Fills};
+ghost use Rattle.byte_buffer.specs.Fills.{Fills};
 ghost use Rattle.ask_lib.specs.Asking.{AskLists, Asks};
 ghost use Rattle.print_text.specs.Printed.{Prints};
 ghost use Rattle.ask_lib.specs.Held.{answerLineOf, LineReady, heldAnswer, Answerable, AnswerHeld, RowCountable, stagesRefusal, stagedLine, AskStagedReady};

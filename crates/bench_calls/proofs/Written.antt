@@ -8,7 +8,7 @@ use lib.ListN.{length}
 use borrow.Author.Tests.{lt-ltb, le-ltb}
 use Rattle.lists.specs.Filled.{zeros}
 use Rattle.lists.proofs.Filled.{filled-none}
-use Rattle.byte_buffer.specs.Stored.{Fills}
+use Rattle.byte_buffer.specs.Fills.{Fills}
 use Rattle.report_lib.specs.Reporting.{reportOf, Reports}
 use Rattle.limits.specs.Limits.{printRoom}
 use Rattle.bench_calls.specs.Timed.{timedReport}

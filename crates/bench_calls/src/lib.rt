@@ -2,7 +2,7 @@
 // the caller's but the report's buffer, so that a time is that of the work and of clearing the lists, and of nothing else.
 ghost use mathlib.Core.Path.{_≡_};
 ghost use lib.ListN.{length};
-ghost use Rattle.byte_buffer.specs.Stored.{Fills};
+ghost use Rattle.byte_buffer.specs.Fills.{Fills};
 ghost use Rattle.bench_calls.specs.Timed.{heldRank, timedRank, timedReport};
 ghost use Rattle.sparse.specs.Views.{before, after};
 use limits::ENTRY_CELLS;

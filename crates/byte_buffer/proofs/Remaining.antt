@@ -8,8 +8,8 @@ use native.Mathlib.Nat.{add-zero}
 use lib.ListN.{length, set, length-append}
 use lib.Seq.{sets}
 use Rattle.lists.proofs.Steps.{sets-append}
-use Rattle.byte_buffer.specs.Stored.{Stored}
-use Rattle.byte_buffer.proofs.Storing.{stored-length}
+use Rattle.lists.specs.Stored.{Stored}
+use Rattle.lists.proofs.Stored.{stored-length}
 
 pub record Remains (b₀ : List ℕ) (from : ℕ) (text b : List ℕ) (at : ℕ) (runs : List (List ℕ)) : Type 0 where
   pub long : length b ≡ length b₀
@@ -63,10 +63,6 @@ module _ {b₀ : List ℕ} {from : ℕ} {text b : List ℕ} {at : ℕ} where
     now-is = ap (λ (l : List ℕ). sets b at (l ++ [])) (sym e) ∙ g .lands;
     next-is = sym (add-zero at) ∙ ap (λ (l : List ℕ). at + length (l ++ [])) (sym e) ∙ g .ending;
   }
-
--- one byte is a run
-pub byte-stored : (b : List ℕ) (at v : ℕ) → Stored b (set b at v) at (at + 1) (v ∷ [])
-byte-stored b at v = record { now-is = refl; next-is = refl }
 
 -- ---- a loop of n turns, where `rest i` remains before turn i
 

@@ -1,7 +1,7 @@
 // Bytes stored in a lent buffer, one run after another.
 ghost use Prim.Native.Nat.{_+_, _≤_};
 ghost use lib.ListN.{length};
-ghost use Rattle.byte_buffer.specs.Stored.{Stored};
+ghost use Rattle.lists.specs.Stored.{Stored};
 
 // Stores bytes from a place on; the place after them.
 pub fn put_bytes(list: &[u8], buffer: &mut [u8], at: usize) -> usize

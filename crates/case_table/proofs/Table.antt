@@ -7,7 +7,7 @@ use mathlib.Core.Option.{none, some}
 use lib.ListN.{take}
 use Rattle.lists.specs.Filled.{zeros}
 use Rattle.lists.specs.Tabulate.{tabulate}
-use Rattle.lists.specs.Tests.{all, first}
+use Rattle.lists.specs.Tests.{all, first, among}
 use Rattle.refusals.specs.declared.Outcome.{Outcome}
 use Rattle.refusals.specs.declared.Outcome.the-variants.{Passed, Refused}
 use Rattle.algebra.specs.Sum.{sum, dot, δ, place}
@@ -24,7 +24,6 @@ use Rattle.sparse.specs.Matrix.{matrix}
 use Rattle.sparse.specs.Form.{startsFrom, startsOk, risesFrom, rowsFrom, valuesOk, wellFormed}
 use Rattle.sparse.specs.Row.{weigh}
 use Rattle.sparse.specs.Dense.{columnsFrom, nonzeros, startsAfter, allColumns, allValues, compress}
-use Rattle.lists.specs.Tests.{among}
 use Rattle.pluq.specs.Order.{below, distinct, permutation}
 use Rattle.pluq.specs.Shape.{lowerRow, lower, upperRow, upper}
 use Rattle.pluq.specs.Judge.{agrees, productOutcome, judgeFactors, judge}
@@ -35,7 +34,6 @@ use Rattle.elimination.specs.Structural.{leads, prefer, chosen, leading}
 use Rattle.elimination.specs.Chains.{chain, closes}
 use Rattle.elimination.specs.Selection.{pairAt, lowerPair as lowerOf, without, unfit, extended, extendedTo, free, lowest as lowestOf, ordered, selected, structural}
 use Rattle.elimination.specs.Pivots.{columnsOf, uppersOf, coefficients, withPivot, withDependent, placedRow, turn, turns}
-use Rattle.elimination.specs.Members.{isIn}
 use Rattle.elimination.specs.Factoring.{rest, schedule, rowsOf, lowersOf, factored, factorFrom, factor}
 use Rattle.elimination.proofs.Theorem.{factor-rank}
 use Rattle.elimination.proofs.Example.{roomD, D-pairs as pairs-computed, D-factors as factors-computed, D-rooms as rooms-computed}
@@ -95,7 +93,7 @@ unfolding isPrime dividedBelow
 two = true-prime 2 refl
 
 pub table : Table
-unfolding zeros tabulate all first sum dot δ place reduced invMod inverseBelow startsFrom startsOk risesFrom rowsFrom valuesOk wellFormed weigh columnsFrom nonzeros startsAfter allColumns allValues compress among below distinct permutation lowerRow lower upperRow upper agrees productOutcome judgeFactors judge backL backU lowest solve leads prefer chosen leading chain closes lowerOf without unfit extended extendedTo free lowestOf ordered selected structural columnsOf uppersOf coefficients withPivot withDependent placedRow turn turns isIn rest schedule rowsOf lowersOf factored factorFrom factor words bytes mark version factorNumbers numbersOf certificateOf placesOf field setIn setOfCertificate begins lengthOk sizesOk headerOk isPrime dividedBelow isModulus planLengths setLengths limitsOk planOutcome certificateOutcome checkCertificateOf
+unfolding zeros tabulate all first sum dot δ place reduced invMod inverseBelow startsFrom startsOk risesFrom rowsFrom valuesOk wellFormed weigh columnsFrom nonzeros startsAfter allColumns allValues compress among below distinct permutation lowerRow lower upperRow upper agrees productOutcome judgeFactors judge backL backU lowest solve leads prefer chosen leading chain closes lowerOf without unfit extended extendedTo free lowestOf ordered selected structural columnsOf uppersOf coefficients withPivot withDependent placedRow turn turns among rest schedule rowsOf lowersOf factored factorFrom factor words bytes mark version factorNumbers numbersOf certificateOf placesOf field setIn setOfCertificate begins lengthOk sizesOk headerOk isPrime dividedBelow isModulus planLengths setLengths limitsOk planOutcome certificateOutcome checkCertificateOf
 table =
     record {
       empty-rank = factor-rank 7 0 0 silent seven refl refl;

@@ -11,8 +11,8 @@ use Rattle.lists.specs.Filled.{zeros, filled}
 use Rattle.refusals.specs.Refusals.{unless}
 use Rattle.refusals.specs.declared.Outcome.the-variants.{Passed, Refused}
 use Rattle.lists.proofs.Filled.{filled-none}
-use Rattle.byte_buffer.specs.Stored.{Stored}
-use Rattle.byte_buffer.proofs.Storing.{stored-filled}
+use Rattle.lists.specs.Stored.{Stored}
+use Rattle.lists.proofs.Stored.{stored-filled}
 use Rattle.sparse.specs.Set.{Set}
 use Rattle.certificate.specs.Layout.{mark, certificateOf}
 use Rattle.certificate.specs.Writing.{roomFor, written, Writes}

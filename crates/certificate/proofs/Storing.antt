@@ -5,8 +5,8 @@ use Prim.Native.Nat.{ℕ, suc, _+_, _/_, _%_, _≤_, _<_}
 use lib.ListN.{length, getD, drop, set, drop-of-length-le}
 use lib.Seq.{sets}
 use Rattle.lists.proofs.Steps.{drop-step}
-use Rattle.byte_buffer.specs.Stored.{Stored}
-use Rattle.byte_buffer.proofs.Storing.{stored-as, stored-then}
+use Rattle.lists.specs.Stored.{Stored}
+use Rattle.lists.proofs.Stored.{stored-as, stored-then}
 use Rattle.certificate.specs.Layout.{bytes}
 use Rattle.certificate.proofs.Bytes.{bytes-append}
 

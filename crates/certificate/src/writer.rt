@@ -4,7 +4,7 @@ ghost use mathlib.Core.List.{_∷_, [], _++_};
 ghost use Prim.Native.Nat.{_+_, _*_, _≤_};
 ghost use lib.ListN.{length};
 ghost use lib.Seq.{sets};
-ghost use Rattle.byte_buffer.specs.Stored.{Stored};
+ghost use Rattle.lists.specs.Stored.{Stored};
 ghost use Rattle.certificate.specs.Layout.{bytes, mark, version, headerNumbers, factorNumbers, certificateOf};
 ghost use Rattle.certificate.specs.Writing.{Writes, Writable, CertificateRoom};
 ghost use Rattle.sparse.specs.Views.{before, after, storedBefore, setAt, setBefore};

@@ -7,18 +7,18 @@ use native.Mathlib.Omega.{arith}
 use lib.Dec.{eqb}
 use borrow.Author.Tests.{eqb-true, eqb-false}
 use Rattle.elimination.specs.Structural.{Pair}
-use Rattle.elimination.specs.Members.{In}
+use Rattle.lists.specs.Members.{Member}
 use Rattle.elimination.specs.Chains.{Path, one, more, Back}
 use Rattle.elimination.specs.Selection.{without, Apart}
 use Rattle.elimination.proofs.Members.{apart-same}
 use Rattle.elimination.proofs.Ordering.{without-in, Ranked}
 
-module _ (has : ℕ → ℕ → Bool) (rank : Pair → ℕ) (ps : List Pair) (apart : Apart ps) (ranked : Ranked has rank ps) (q : Pair) (chosen : In q ps) where
+module _ (has : ℕ → ℕ → Bool) (rank : Pair → ℕ) (ps : List Pair) (apart : Apart ps) (ranked : Ranked has rank ps) (q : Pair) (chosen : Member q ps) where
   abbrev others : List Pair
   others = without (q .row) ps
 
   -- the rank rises along a chain to q
-  chain-rises : (b : Pair) (i c : ℕ) → In b others → b .row ≡ i → q .column ≡ c → Path has others i c → rank b < rank q
+  chain-rises : (b : Pair) (i c : ℕ) → Member b others → b .row ≡ i → q .column ≡ c → Path has others i c → rank b < rank q
   chain-rises b i c m s t (one e) =
       let o = without-in (q .row) ps b m in
       ranked b q (o .0) chosen (o .1) ((λ k. has (s k) (t k)) ∙ e)

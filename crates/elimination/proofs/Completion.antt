@@ -10,37 +10,37 @@ use lib.Dec.{eqb}
 use lib.ListN.{length, getD, length-append}
 use borrow.Author.Tests.{eq-eqb, ne-eqb}
 use Rattle.algebra.specs.Matrix.{Distinct, Permutation, vector}
-use Rattle.elimination.specs.Members.{isIn}
+use Rattle.lists.specs.Tests.{among}
 use Rattle.elimination.specs.Factoring.{rest}
-use Rattle.elimination.proofs.Listed.{snoc-each, isIn-append, isIn-place, listed}
+use Rattle.elimination.proofs.Listed.{snoc-each, among-append, among-place, listed}
 
 -- ---- each number below n is in the list or among the others
 
-rest-isIn : (xs : List ℕ) (n x : ℕ) → x < n → isIn xs x ≡ false → isIn (rest xs n) x ≡ true
-unfolding rest isIn
-rest-isIn xs zero x h e = absurd (omega arith)
-rest-isIn xs (suc k) x h e =
-    isIn-append (rest xs k) (cond (isIn xs k) [] (k ∷ [])) x ∙ go (eq-or-lt-of-le (le-of-suc-le-suc h)) (λ l. rest-isIn xs k x l e)
+rest-among : (xs : List ℕ) (n x : ℕ) → x < n → among x xs ≡ false → among x (rest xs n) ≡ true
+unfolding rest among
+rest-among xs zero x h e = absurd (omega arith)
+rest-among xs (suc k) x h e =
+    among-append (rest xs k) (cond (among k xs) [] (k ∷ [])) x ∙ go (eq-or-lt-of-le (le-of-suc-le-suc h)) (λ l. rest-among xs k x l e)
   where
-    go : (x ≡ k) ⊎ (x < k) → (x < k → isIn (rest xs k) x ≡ true) → (isIn (rest xs k) x || isIn (cond (isIn xs k) [] (k ∷ [])) x) ≡ true
+    go : (x ≡ k) ⊎ (x < k) → (x < k → among x (rest xs k) ≡ true) → (among x (rest xs k) || among x (cond (among k xs) [] (k ∷ []))) ≡ true
     go (inl q) ih =
-        ap (λ (b : Bool). isIn (rest xs k) x || isIn (cond b [] (k ∷ [])) x) (ap (isIn xs) (sym q) ∙ e)
-        ∙ ap (λ (b : Bool). isIn (rest xs k) x || (b || false)) (eq-eqb k x (sym q))
-        ∙ or-true (isIn (rest xs k) x)
-    go (inr l) ih = ap (λ (b : Bool). b || isIn (cond (isIn xs k) [] (k ∷ [])) x) (ih l)
+        ap (λ (b : Bool). among x (rest xs k) || among x (cond b [] (k ∷ []))) (ap (λ (y : ℕ). among y xs) (sym q) ∙ e)
+        ∙ ap (λ (b : Bool). among x (rest xs k) || (b || false)) (eq-eqb x k q)
+        ∙ or-true (among x (rest xs k))
+    go (inr l) ih = ap (λ (b : Bool). b || among x (cond (among k xs) [] (k ∷ []))) (ih l)
 
-pub completed-isIn : (xs : List ℕ) (n x : ℕ) → x < n → isIn (xs ++ rest xs n) x ≡ true
-completed-isIn xs n x h = isIn-append xs (rest xs n) x ∙ go (isIn xs x) refl
+pub completed-among : (xs : List ℕ) (n x : ℕ) → x < n → among x (xs ++ rest xs n) ≡ true
+completed-among xs n x h = among-append xs (rest xs n) x ∙ go (among x xs) refl
   where
-    go : (b : Bool) → isIn xs x ≡ b → (b || isIn (rest xs n) x) ≡ true
+    go : (b : Bool) → among x xs ≡ b → (b || among x (rest xs n)) ≡ true
     go true e = refl
-    go false e = rest-isIn xs n x h e
+    go false e = rest-among xs n x h e
 
 -- the others are below n
 pub rest-each : (xs : List ℕ) (n k : ℕ) → k < length (rest xs n) → getD (rest xs n) k 0 < n
 unfolding rest
 rest-each xs zero k h = absurd (omega arith)
-rest-each xs (suc n) k h = go (isIn xs n) (rest-each xs n) k h
+rest-each xs (suc n) k h = go (among n xs) (rest-each xs n) k h
   where
     go : (b : Bool) → ((k : ℕ) → k < length (rest xs n) → getD (rest xs n) k 0 < n) → (k : ℕ) → k < length (rest xs n ++ cond b [] (n ∷ []))
         → getD (rest xs n ++ cond b [] (n ∷ [])) k 0 < suc n
@@ -52,14 +52,14 @@ rest-each xs (suc n) k h = go (isIn xs n) (rest-each xs n) k h
 
 -- a number that is not below n changes nothing
 rest-beyond : (y : ℕ) (ys : List ℕ) (n : ℕ) → n ≤ y → rest (y ∷ ys) n ≡ rest ys n
-unfolding rest isIn
+unfolding rest among
 rest-beyond y ys zero h = refl
 rest-beyond y ys (suc k) h =
-    (λ t. rest-beyond y ys k (omega arith) t ++ cond (ne-eqb y k (λ e. omega arith) t || isIn ys k) [] (k ∷ []))
+    (λ t. rest-beyond y ys k (omega arith) t ++ cond (ne-eqb k y (λ e. omega arith) t || among k ys) [] (k ∷ []))
 
 -- and one that is below n, and is not there yet, is one less
-rest-one : (y : ℕ) (ys : List ℕ) (n : ℕ) → y < n → isIn ys y ≡ false → suc (length (rest (y ∷ ys) n)) ≡ length (rest ys n)
-unfolding rest isIn
+rest-one : (y : ℕ) (ys : List ℕ) (n : ℕ) → y < n → among y ys ≡ false → suc (length (rest (y ∷ ys) n)) ≡ length (rest ys n)
+unfolding rest among
 rest-one y ys zero h e = absurd (omega arith)
 rest-one y ys (suc k) h e = go (eq-or-lt-of-le (le-of-suc-le-suc h)) (λ l. rest-one y ys k l e)
   where
@@ -67,25 +67,25 @@ rest-one y ys (suc k) h e = go (eq-or-lt-of-le (le-of-suc-le-suc h)) (λ l. rest
     one b = cond b [] (k ∷ [])
 
     go : (y ≡ k) ⊎ (y < k) → (y < k → suc (length (rest (y ∷ ys) k)) ≡ length (rest ys k))
-        → suc (length (rest (y ∷ ys) k ++ one (eqb y k || isIn ys k))) ≡ length (rest ys k ++ one (isIn ys k))
+        → suc (length (rest (y ∷ ys) k ++ one (eqb k y || among k ys))) ≡ length (rest ys k ++ one (among k ys))
     go (inl q) ih =
-        (λ t. suc (length (rest-beyond y ys k (omega arith) t ++ one (eq-eqb y k q t || isIn ys k))))
+        (λ t. suc (length (rest-beyond y ys k (omega arith) t ++ one (eq-eqb k y (sym q) t || among k ys))))
         ∙ omega (arith, length-append (rest ys k) [], length-append (rest ys k) (k ∷ []))
-        ∙ ap (λ (b : Bool). length (rest ys k ++ one b)) (sym (ap (isIn ys) (sym q) ∙ e))
+        ∙ ap (λ (b : Bool). length (rest ys k ++ one b)) (sym (ap (λ (y : ℕ). among y ys) (sym q) ∙ e))
     go (inr l) ih =
-        ap (λ (b : Bool). suc (length (rest (y ∷ ys) k ++ one (b || isIn ys k)))) (ne-eqb y k (λ q. omega arith))
-        ∙ omega (arith, ih l, length-append (rest (y ∷ ys) k) (one (isIn ys k)), length-append (rest ys k) (one (isIn ys k)))
+        ap (λ (b : Bool). suc (length (rest (y ∷ ys) k ++ one (b || among k ys)))) (ne-eqb k y (λ q. omega arith))
+        ∙ omega (arith, ih l, length-append (rest (y ∷ ys) k) (one (among k ys)), length-append (rest ys k) (one (among k ys)))
 
 rest-none : (n : ℕ) → length (rest [] n) ≡ n
-unfolding rest isIn
+unfolding rest among
 rest-none zero = refl
 rest-none (suc k) = omega (arith, length-append (rest [] k) (k ∷ []), rest-none k)
 
 pub completed-length : (xs : List ℕ) (n : ℕ) → Distinct (length xs) n (vector xs) → length (xs ++ rest xs n) ≡ n
 completed-length xs n d = length-append xs (rest xs n) ∙ go xs d
   where
-    fresh : (y : ℕ) (ys : List ℕ) → Distinct (length (y ∷ ys)) n (vector (y ∷ ys)) → (b : Bool) → isIn ys y ≡ b → b ≡ false
-    fresh y ys d true e = let s = isIn-place ys y e in absurd (omega (arith, d .apart 0 (suc (s .0)) (omega arith) (omega (arith, s .1)) (sym (s .2))))
+    fresh : (y : ℕ) (ys : List ℕ) → Distinct (length (y ∷ ys)) n (vector (y ∷ ys)) → (b : Bool) → among y ys ≡ b → b ≡ false
+    fresh y ys d true e = let s = among-place ys y e in absurd (omega (arith, d .apart 0 (suc (s .0)) (omega arith) (omega (arith, s .1)) (sym (s .2))))
     fresh y ys d false e = refl
 
     later : (y : ℕ) (ys : List ℕ) → Distinct (length (y ∷ ys)) n (vector (y ∷ ys)) → Distinct (length ys) n (vector ys)
@@ -97,7 +97,7 @@ completed-length xs n d = length-append xs (rest xs n) ∙ go xs d
 
     go : (xs : List ℕ) → Distinct (length xs) n (vector xs) → length xs + length (rest xs n) ≡ n
     go [] d = omega (arith, rest-none n)
-    go (y ∷ ys) d = omega (arith, go ys (later y ys d), rest-one y ys n (d .below 0 (omega arith)) (fresh y ys d (isIn ys y) refl))
+    go (y ∷ ys) d = omega (arith, go ys (later y ys d), rest-one y ys n (d .below 0 (omega arith)) (fresh y ys d (among y ys) refl))
 
 pub completed : (xs : List ℕ) (n : ℕ) → Distinct (length xs) n (vector xs) → Permutation n (vector (xs ++ rest xs n))
-completed xs n d = listed n (xs ++ rest xs n) (completed-length xs n d) (completed-isIn xs n)
+completed xs n d = listed n (xs ++ rest xs n) (completed-length xs n d) (completed-among xs n)

@@ -11,12 +11,12 @@ use native.Mathlib.Omega.{arith}
 use lib.Dec.{eqb, leb}
 use lib.ListN.{length, getD, List·getD-map}
 use borrow.Author.Tests.{eq-eqb, ne-eqb, leb-true, leb-false}
-use Rattle.lists.specs.Tests.{first}
+use Rattle.lists.specs.Tests.{first, among}
 use Rattle.lists.proofs.Tests.{first-before, first-here}
 use Rattle.algebra.specs.Matrix.{Matrix}
 use Rattle.elimination.specs.Structural.{Pair}
 use Rattle.elimination.specs.Pairs.{Pairs, pairRows, pairColumns}
-use Rattle.elimination.specs.Members.{isIn, In}
+use Rattle.lists.specs.Members.{Member}
 use Rattle.elimination.proofs.Pairs.{noPair}
 use Rattle.elimination.specs.Chains.{chain, closes}
 use Rattle.elimination.specs.Selection.{nonzero, pairAt, unfit, extended, extendedTo, Apart}
@@ -24,14 +24,14 @@ use Rattle.elimination.proofs.Members.{here, in-snoc, in-place, not-nam
 use Rattle.elimination.proofs.Paths.{chain-join, closes-join, entry-chain}
 
 pub record Sound (has : ℕ → ℕ → Bool) (n m : ℕ) (ps : List Pair) : Type 0 where
-  pub row : (q : Pair) → In q ps → q .row < n
-  pub column : (q : Pair) → In q ps → q .column < m
-  pub entry : (q : Pair) → In q ps → has (q .row) (q .column) ≡ true
+  pub row : (q : Pair) → Member q ps → q .row < n
+  pub column : (q : Pair) → Member q ps → q .column < m
+  pub entry : (q : Pair) → Member q ps → has (q .row) (q .column) ≡ true
   pub apart : Apart ps
   pub rank : Pair → ℕ
   pub bound : ℕ
-  pub below : (q : Pair) → In q ps → rank q < bound
-  pub rising : (b q : Pair) → In b ps → In q ps → ¬ (b .row ≡ q .row) → has (b .row) (q .column) ≡ true → rank b < rank q
+  pub below : (q : Pair) → Member q ps → rank q < bound
+  pub rising : (b q : Pair) → Member b ps → Member q ps → ¬ (b .row ≡ q .row) → has (b .row) (q .column) ≡ true → rank b < rank q
 
 -- ---- pairs in a list of which each row has no entry in the columns before it: the rank is the place
 
@@ -58,8 +58,8 @@ place-most (b ∷ bs) q = go (eqb (b .row) (q .row)) (place-most bs q)
 
 module _ (has : ℕ → ℕ → Bool) where
   place-rising : (ps : List Pair) → Apart ps → ((k l : ℕ) → k < l → l < length ps → has (getD ps l noPair .row) (getD ps k noPair .column) ≡ false)
-      → (b q : Pair) → In b ps → In q ps → ¬ (b .row ≡ q .row) → has (b .row) (q .column) ≡ true → place ps b < place ps q
-  unfolding In Apart
+      → (b q : Pair) → Member b ps → Member q ps → ¬ (b .row ≡ q .row) → has (b .row) (q .column) ≡ true → place ps b < place ps q
+  unfolding Apart
   place-rising [] a h b q m l d e = absurd m
   place-rising (p ∷ ps) a h b q (inl s) (inl t) d e = absurd (d (ap (λ (x : Pair). x .row) (s ∙ sym t)))
   place-rising (p ∷ ps) a h b q (inl s) (inr l) d e = omega (arith, place-own p ps b s, place-other p ps q (λ r. a .0 q l (sym r)))
@@ -109,17 +109,17 @@ module _ (n m : ℕ) (A : Matrix) (ps : List Pair) (h : Pairs n m A ps) where
 module _ (has : ℕ → ℕ → Bool) where
   -- row i is left, or has a pair
   pub extended-either : (m : ℕ) (ps : List Pair) (i : ℕ) (P : List Pair → Type 0)
-      → (isIn (pairRows ps) i ≡ true → P ps)
-      → (isIn (pairRows ps) i ≡ false → ((j : ℕ) → j < m → unfit has ps i j ≡ true) → P ps)
-      → (isIn (pairRows ps) i ≡ false → (c : ℕ) → c < m → unfit has ps i c ≡ false → ((j : ℕ) → j < c → unfit has ps i j ≡ true) → P (ps ++ (pairAt i c ∷ [])))
+      → (among i (pairRows ps) ≡ true → P ps)
+      → (among i (pairRows ps) ≡ false → ((j : ℕ) → j < m → unfit has ps i j ≡ true) → P ps)
+      → (among i (pairRows ps) ≡ false → (c : ℕ) → c < m → unfit has ps i c ≡ false → ((j : ℕ) → j < c → unfit has ps i j ≡ true) → P (ps ++ (pairAt i c ∷ [])))
       → P (extended has m ps i)
   unfolding extended
-  extended-either m ps i P is none one = go (isIn (pairRows ps) i) refl (leb m c) refl
+  extended-either m ps i P is none one = go (among i (pairRows ps)) refl (leb m c) refl
     where
       c : ℕ
       c = first m (unfit has ps i)
 
-      go : (s : Bool) → isIn (pairRows ps) i ≡ s → (t : Bool) → leb m c ≡ t → P (cond (s || t) ps (ps ++ (pairAt i c ∷ [])))
+      go : (s : Bool) → among i (pairRows ps) ≡ s → (t : Bool) → leb m c ≡ t → P (cond (s || t) ps (ps ++ (pairAt i c ∷ [])))
       go true e t f = is e
       go false e true f = none e (λ j l. first-before m (unfit has ps i) j (omega (arith, leb-true m c f)))
       go false e false f = one e c (leb-false m c f) (first-here m (unfit has ps i) (leb-false m c f)) (λ j l. first-before m (unfit has ps i) j l)
@@ -127,20 +127,20 @@ module _ (has : ℕ → ℕ → Bool) where
   -- what is fit
   pub record Fit (ps : List Pair) (i j : ℕ) : Type 0 where
     pub entry : has i j ≡ true
-    pub unused : isIn (pairColumns ps) j ≡ false
+    pub unused : among j (pairColumns ps) ≡ false
     pub closesNone : closes has ps i j ≡ false
 
   pub fit : (ps : List Pair) (i j : ℕ) → unfit has ps i j ≡ false → Fit ps i j
   unfolding unfit
-  fit ps i j e = go (has i j) refl (isIn (pairColumns ps) j) refl (closes has ps i j) refl e
+  fit ps i j e = go (has i j) refl (among j (pairColumns ps)) refl (closes has ps i j) refl e
     where
-      go : (a : Bool) → has i j ≡ a → (b : Bool) → isIn (pairColumns ps) j ≡ b → (c : Bool) → closes has ps i j ≡ c → (not a || (b || c)) ≡ false → Fit ps i j
+      go : (a : Bool) → has i j ≡ a → (b : Bool) → among j (pairColumns ps) ≡ b → (c : Bool) → closes has ps i j ≡ c → (not a || (b || c)) ≡ false → Fit ps i j
       go true s true t c u e = absurd (true≢false e)
       go true s false t true u e = absurd (true≢false e)
       go true s false t false u e = record { entry = s; unused = t; closesNone = u }
       go false s b t c u e = absurd (true≢false e)
 
-  module _ (n m : ℕ) (ps : List Pair) (h : Sound has n m ps) (i c : ℕ) (row : i < n) (column : c < m) (new : (b : Pair) → In b ps → ¬ (b .row ≡ i)) (entry : has i c ≡ true) (not-closed : closes has ps i c ≡ false) where
+  module _ (n m : ℕ) (ps : List Pair) (h : Sound has n m ps) (i c : ℕ) (row : i < n) (column : c < m) (new : (b : Pair) → Member b ps → ¬ (b .row ≡ i)) (entry : has i c ≡ true) (not-closed : closes has ps i c ≡ false) where
     -- those that row i reaches come after it, the others before it
     rank : Pair → ℕ
     rank q = cond (eqb (q .row) i) (h .bound) (cond (chain has ps i (q .column)) (h .bound + 1 + h .rank q) (h .rank q))
@@ -149,13 +149,13 @@ module _ (has : ℕ → ℕ → Bool) where
     unfolding rank
     rank-new = ap (λ (t : Bool). cond t (h .bound) (cond (chain has ps i c) (h .bound + 1 + h .rank (pairAt i c)) (h .rank (pairAt i c)))) (eq-eqb i i refl)
 
-    rank-old : (q : Pair) → In q ps → (t : Bool) → chain has ps i (q .column) ≡ t → rank q ≡ cond t (h .bound + 1 + h .rank q) (h .rank q)
+    rank-old : (q : Pair) → Member q ps → (t : Bool) → chain has ps i (q .column) ≡ t → rank q ≡ cond t (h .bound + 1 + h .rank q) (h .rank q)
     unfolding rank
     rank-old q m t e =
         ap (λ (s : Bool). cond s (h .bound) (cond (chain has ps i (q .column)) (h .bound + 1 + h .rank q) (h .rank q))) (ne-eqb (q .row) i (new q m))
         ∙ ap (λ (s : Bool). cond s (h .bound + 1 + h .rank q) (h .rank q)) e
 
-    old-rising : (b q : Pair) → In b ps → In q ps → ¬ (b .row ≡ q .row) → has (b .row) (q .column) ≡ true → rank b < rank q
+    old-rising : (b q : Pair) → Member b ps → Member q ps → ¬ (b .row ≡ q .row) → has (b .row) (q .column) ≡ true → rank b < rank q
     old-rising b q m l d e = go (chain has ps i (b .column)) refl (chain has ps i (q .column)) refl
       where
         go : (s : Bool) → chain has ps i (b .column) ≡ s → (t : Bool) → chain has ps i (q .column) ≡ t → rank b < rank q
@@ -165,25 +165,25 @@ module _ (has : ℕ → ℕ → Bool) where
         go false f false g = omega (arith, rank-old b m false f, rank-old q l false g, h .rising b q m l d e)
 
     -- row i leads to what it reaches
-    new-first : (q : Pair) → In q ps → has i (q .column) ≡ true → h .bound < rank q
+    new-first : (q : Pair) → Member q ps → has i (q .column) ≡ true → h .bound < rank q
     new-first q m e = omega (arith, rank-old q m true (entry-chain has ps i (q .column) e))
 
     -- and what leads to it is not reached
-    new-last : (b : Pair) → In b ps → has (b .row) c ≡ true → rank b < h .bound
+    new-last : (b : Pair) → Member b ps → has (b .row) c ≡ true → rank b < h .bound
     new-last b m e = go (chain has ps i (b .column)) refl
       where
         go : (s : Bool) → chain has ps i (b .column) ≡ s → rank b < h .bound
         go true f = absurd (true≢false (sym (closes-join has b ps i c m f (entry-chain has ps (b .row) c e)) ∙ not-closed))
         go false f = omega (arith, rank-old b m false f, h .below b m)
 
-    each : (P : Pair → Type 0) → ((q : Pair) → In q ps → P q) → P (pairAt i c) → (q : Pair) → In q (ps ++ (pairAt i c ∷ [])) → P q
+    each : (P : Pair → Type 0) → ((q : Pair) → Member q ps → P q) → P (pairAt i c) → (q : Pair) → Member q (ps ++ (pairAt i c ∷ [])) → P q
     each P old last q m = go (in-snoc ps (pairAt i c) q m)
       where
-        go : In q ps ⊎ (q ≡ pairAt i c) → P q
+        go : Member q ps ⊎ (q ≡ pairAt i c) → P q
         go (inl l) = old q l
         go (inr e) = subst P (sym e) last
 
-    old-below : (q : Pair) → In q ps → rank q < h .bound + h .bound + 1
+    old-below : (q : Pair) → Member q ps → rank q < h .bound + h .bound + 1
     old-below q m = go (chain has ps i (q .column)) refl
       where
         go : (s : Bool) → chain has ps i (q .column) ≡ s → rank q < h .bound + h .bound + 1

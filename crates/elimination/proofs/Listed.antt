@@ -11,7 +11,7 @@ use borrow.Author.Tests.{eqb-true}
 use Rattle.algebra.specs.Matrix.{Permutation, vector}
 use Rattle.algebra.proofs.Dot.{below-suc}
 use Rattle.algebra.proofs.Finite.{onto, choose}
-use Rattle.elimination.specs.Members.{isIn}
+use Rattle.lists.specs.Tests.{among}
 
 -- ---- lists of anything
 
@@ -44,23 +44,23 @@ append-both P d e (x ∷ xs) xs′ (y ∷ ys) ys′ long front back (suc i) h =
 
 -- ---- lists of numbers
 
-pub isIn-append : (xs ys : List ℕ) (x : ℕ) → isIn (xs ++ ys) x ≡ (isIn xs x || isIn ys x)
-unfolding isIn
-isIn-append [] ys x = refl
-isIn-append (y ∷ xs) ys x = go (eqb y x) (isIn-append xs ys x)
+pub among-append : (xs ys : List ℕ) (x : ℕ) → among x (xs ++ ys) ≡ (among x xs || among x ys)
+unfolding among
+among-append [] ys x = refl
+among-append (y ∷ xs) ys x = go (eqb x y) (among-append xs ys x)
   where
-    go : (b : Bool) → isIn (xs ++ ys) x ≡ (isIn xs x || isIn ys x) → (b || isIn (xs ++ ys) x) ≡ ((b || isIn xs x) || isIn ys x)
+    go : (b : Bool) → among x (xs ++ ys) ≡ (among x xs || among x ys) → (b || among x (xs ++ ys)) ≡ ((b || among x xs) || among x ys)
     go true ih = refl
     go false ih = ih
 
-pub isIn-place : (xs : List ℕ) (x : ℕ) → isIn xs x ≡ true → (a : ℕ) × (a < length xs) × (getD xs a 0 ≡ x)
-unfolding isIn
-isIn-place [] x h = absurd (false≢true h)
-isIn-place (y ∷ xs) x h = go (eqb y x) refl h (isIn-place xs x)
+pub among-place : (xs : List ℕ) (x : ℕ) → among x xs ≡ true → (a : ℕ) × (a < length xs) × (getD xs a 0 ≡ x)
+unfolding among
+among-place [] x h = absurd (false≢true h)
+among-place (y ∷ xs) x h = go (eqb x y) refl h (among-place xs x)
   where
-    go : (b : Bool) → eqb y x ≡ b → (b || isIn xs x) ≡ true → (isIn xs x ≡ true → (a : ℕ) × (a < length xs) × (getD xs a 0 ≡ x))
+    go : (b : Bool) → eqb x y ≡ b → (b || among x xs) ≡ true → (among x xs ≡ true → (a : ℕ) × (a < length xs) × (getD xs a 0 ≡ x))
         → (a : ℕ) × (a < length (y ∷ xs)) × (getD (y ∷ xs) a 0 ≡ x)
-    go true e h ih = (0, omega arith, eqb-true y x e)
+    go true e h ih = (0, omega arith, sym (eqb-true x y e))
     go false e h ih = let r = ih h in (suc (r .0), omega (arith, r .1), r .2)
 
 -- n numbers among which is each number below n are a permutation
@@ -76,5 +76,5 @@ covers n w each = go (choose (λ t a. (a < n) × (w a ≡ t)) n (λ t h. let s =
         back : (a : ℕ) → a < n → (t : ℕ) × (t < n) × (w a ≡ t) × (a ≡ g t)
         back a h = let s = onto n g inverse a h in (s .0, s .1, ap w (sym (s .2)) ∙ at (s .0) (s .1) .1, sym (s .2))
 
-pub listed : (n : ℕ) (xs : List ℕ) → length xs ≡ n → ((x : ℕ) → x < n → isIn xs x ≡ true) → Permutation n (vector xs)
-listed n xs long h = covers n (vector xs) (λ t l. let s = isIn-place xs t (h t l) in (s .0, omega (arith, s .1), s .2))
+pub listed : (n : ℕ) (xs : List ℕ) → length xs ≡ n → ((x : ℕ) → x < n → among x xs ≡ true) → Permutation n (vector xs)
+listed n xs long h = covers n (vector xs) (λ t l. let s = among-place xs t (h t l) in (s .0, omega (arith, s .1), s .2))

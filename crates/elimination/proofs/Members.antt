@@ -13,48 +13,42 @@ use lib.ListN.{length, getD}
 use borrow.Author.Tests.{eqb-true, eq-eqb}
 use Rattle.lists.proofs.Bools.{or-right}
 use Rattle.elimination.specs.Structural.{Pair}
-use Rattle.elimination.specs.Members.{isIn, In}
+use Rattle.lists.specs.Tests.{among}
+use Rattle.lists.specs.Members.{Member}
 use Rattle.elimination.proofs.Pairs.{noPair}
 use Rattle.elimination.specs.Selection.{Apart}
 
-pub later : (q : Pair) (qs : List Pair) (b : Pair) → In b qs → In b (q ∷ qs)
-unfolding In
+pub later : (q : Pair) (qs : List Pair) (b : Pair) → Member b qs → Member b (q ∷ qs)
 later q qs b m = inr m
 
-pub here : (q : Pair) (qs : List Pair) → In q (q ∷ qs)
-unfolding In
+pub here : (q : Pair) (qs : List Pair) → Member q (q ∷ qs)
 here q qs = inl refl
 
-pub in-front : (ps qs : List Pair) (b : Pair) → In b ps → In b (ps ++ qs)
-unfolding In
+pub in-front : (ps qs : List Pair) (b : Pair) → Member b ps → Member b (ps ++ qs)
 in-front [] qs b m = absurd m
 in-front (p ∷ ps) qs b (inl e) = inl e
 in-front (p ∷ ps) qs b (inr m) = inr (in-front ps qs b m)
 
-pub in-last : (ps : List Pair) (q : Pair) → In q (ps ++ (q ∷ []))
-unfolding In
+pub in-last : (ps : List Pair) (q : Pair) → Member q (ps ++ (q ∷ []))
 in-last [] q = inl refl
 in-last (p ∷ ps) q = inr (in-last ps q)
 
-pub in-snoc : (ps : List Pair) (q b : Pair) → In b (ps ++ (q ∷ [])) → In b ps ⊎ (b ≡ q)
-unfolding In
+pub in-snoc : (ps : List Pair) (q b : Pair) → Member b (ps ++ (q ∷ [])) → Member b ps ⊎ (b ≡ q)
 in-snoc [] q b (inl e) = inr e
 in-snoc [] q b (inr m) = absurd m
 in-snoc (p ∷ ps) q b (inl e) = inl (inl e)
 in-snoc (p ∷ ps) q b (inr m) = go (in-snoc ps q b m)
   where
-    go : In b ps ⊎ (b ≡ q) → ((b ≡ p) ⊎ In b ps) ⊎ (b ≡ q)
+    go : Member b ps ⊎ (b ≡ q) → ((b ≡ p) ⊎ Member b ps) ⊎ (b ≡ q)
     go (inl l) = inl (inr l)
     go (inr e) = inr e
 
-pub in-at : (ps : List Pair) (k : ℕ) → k < length ps → In (getD ps k noPair) ps
-unfolding In
+pub in-at : (ps : List Pair) (k : ℕ) → k < length ps → Member (getD ps k noPair) ps
 in-at [] k h = absurd (omega arith)
 in-at (p ∷ ps) zero h = inl refl
 in-at (p ∷ ps) (suc k) h = inr (in-at ps k (omega arith))
 
-pub in-place : (ps : List Pair) (q : Pair) → In q ps → (k : ℕ) × (k < length ps) × (getD ps k noPair ≡ q)
-unfolding In
+pub in-place : (ps : List Pair) (q : Pair) → Member q ps → (k : ℕ) × (k < length ps) × (getD ps k noPair ≡ q)
 in-place [] q m = absurd m
 in-place (p ∷ ps) q (inl e) = (0, omega arith, sym e)
 in-place (p ∷ ps) q (inr m) = let s = in-place ps q m in (suc (s .0), omega (arith, s .1), s .2)
@@ -62,49 +56,49 @@ in-place (p ∷ ps) q (inr m) = let s = in-place ps q m in (suc (s .0), omega (a
 -- ---- their rows, or their columns
 
 module _ (f : Pair → ℕ) where
-  pub in-named : (ps : List Pair) (q : Pair) → In q ps → isIn (map f ps) (f q) ≡ true
-  unfolding In isIn
+  pub in-named : (ps : List Pair) (q : Pair) → Member q ps → among (f q) (map f ps) ≡ true
+  unfolding among
   in-named [] q m = absurd m
-  in-named (p ∷ ps) q (inl e) = ap (λ (b : Bool). b || isIn (map f ps) (f q)) (eq-eqb (f p) (f q) (ap f (sym e)))
-  in-named (p ∷ ps) q (inr m) = or-right (eqb (f p) (f q)) (in-named ps q m)
+  in-named (p ∷ ps) q (inl e) = ap (λ (b : Bool). b || among (f q) (map f ps)) (eq-eqb (f q) (f p) (ap f e))
+  in-named (p ∷ ps) q (inr m) = or-right (eqb (f q) (f p)) (in-named ps q m)
 
-  pub named-in : (ps : List Pair) (x : ℕ) → isIn (map f ps) x ≡ true → (q : Pair) × In q ps × (f q ≡ x)
-  unfolding In isIn
+  pub named-in : (ps : List Pair) (x : ℕ) → among x (map f ps) ≡ true → (q : Pair) × Member q ps × (f q ≡ x)
+  unfolding among
   named-in [] x h = absurd (false≢true h)
-  named-in (p ∷ ps) x h = go (eqb (f p) x) refl h (named-in ps x)
+  named-in (p ∷ ps) x h = go (eqb x (f p)) refl h (named-in ps x)
     where
-      go : (b : Bool) → eqb (f p) x ≡ b → (b || isIn (map f ps) x) ≡ true → (isIn (map f ps) x ≡ true → (q : Pair) × In q ps × (f q ≡ x))
-          → (q : Pair) × ((q ≡ p) ⊎ In q ps) × (f q ≡ x)
-      go true e h ih = (p, inl refl, eqb-true (f p) x e)
+      go : (b : Bool) → eqb x (f p) ≡ b → (b || among x (map f ps)) ≡ true → (among x (map f ps) ≡ true → (q : Pair) × Member q ps × (f q ≡ x))
+          → (q : Pair) × ((q ≡ p) ⊎ Member q ps) × (f q ≡ x)
+      go true e h ih = (p, inl refl, sym (eqb-true x (f p) e))
       go false e h ih = let r = ih h in (r .0, inr (r .1), r .2)
 
-  pub not-named : (ps : List Pair) (x : ℕ) → isIn (map f ps) x ≡ false → (q : Pair) → In q ps → ¬ (f q ≡ x)
-  not-named ps x h q m e = true≢false (sym (subst (λ (y : ℕ). isIn (map f ps) y ≡ true) e (in-named ps q m)) ∙ h)
+  pub not-named : (ps : List Pair) (x : ℕ) → among x (map f ps) ≡ false → (q : Pair) → Member q ps → ¬ (f q ≡ x)
+  not-named ps x h q m e = true≢false (sym (subst (λ (y : ℕ). among y (map f ps) ≡ true) e (in-named ps q m)) ∙ h)
 
-  pub none-named : (ps : List Pair) (x : ℕ) → ((q : Pair) → In q ps → ¬ (f q ≡ x)) → isIn (map f ps) x ≡ false
-  none-named ps x h = go (isIn (map f ps) x) refl
+  pub none-named : (ps : List Pair) (x : ℕ) → ((q : Pair) → Member q ps → ¬ (f q ≡ x)) → among x (map f ps) ≡ false
+  none-named ps x h = go (among x (map f ps)) refl
     where
-      go : (b : Bool) → isIn (map f ps) x ≡ b → b ≡ false
+      go : (b : Bool) → among x (map f ps) ≡ b → b ≡ false
       go true e = let r = named-in ps x e in absurd (h (r .0) (r .1) (r .2))
       go false e = refl
 
   -- a list with more pairs has more rows
-  pub named-fewer : (ps qs : List Pair) → ((q : Pair) → In q ps → In q qs) → (x : ℕ) → isIn (map f qs) x ≡ false → isIn (map f ps) x ≡ false
+  pub named-fewer : (ps qs : List Pair) → ((q : Pair) → Member q ps → Member q qs) → (x : ℕ) → among x (map f qs) ≡ false → among x (map f ps) ≡ false
   named-fewer ps qs h x e = none-named ps x (λ q m. not-named qs x e q (h q m))
 
 -- ---- no two in the same row
 
-pub apart-snoc : (ps : List Pair) (q : Pair) → Apart ps → ((b : Pair) → In b ps → ¬ (b .row ≡ q .row)) → Apart (ps ++ (q ∷ []))
-unfolding Apart In
+pub apart-snoc : (ps : List Pair) (q : Pair) → Apart ps → ((b : Pair) → Member b ps → ¬ (b .row ≡ q .row)) → Apart (ps ++ (q ∷ []))
+unfolding Apart
 apart-snoc [] q h g = ((λ b m. absurd m), tt)
 apart-snoc (p ∷ ps) q h g = ((λ b m. go b (in-snoc ps q b m)), apart-snoc ps q (h .1) (λ b m. g b (inr m)))
   where
-    go : (b : Pair) → In b ps ⊎ (b ≡ q) → ¬ (b .row ≡ p .row)
+    go : (b : Pair) → Member b ps ⊎ (b ≡ q) → ¬ (b .row ≡ p .row)
     go b (inl m) e = h .0 b m e
     go b (inr s) e = g p (inl refl) (sym e ∙ ap (λ (x : Pair). x .row) s)
 
-pub apart-same : (ps : List Pair) → Apart ps → (a b : Pair) → In a ps → In b ps → a .row ≡ b .row → a ≡ b
-unfolding Apart In
+pub apart-same : (ps : List Pair) → Apart ps → (a b : Pair) → Member a ps → Member b ps → a .row ≡ b .row → a ≡ b
+unfolding Apart
 apart-same [] h a b m l e = absurd m
 apart-same (p ∷ ps) h a b (inl s) (inl t) e = s ∙ sym t
 apart-same (p ∷ ps) h a b (inl s) (inr l) e = absurd (h .0 b l (sym e ∙ ap (λ (x : Pair). x .row) s))

@@ -11,7 +11,8 @@ use native.Mathlib.Omega.{arith}
 use Rattle.algebra.proofs.Dot.{below-suc}
 use Rattle.elimination.specs.Structural.{Pair}
 use Rattle.elimination.specs.Pairs.{pairRows, pairColumns}
-use Rattle.elimination.specs.Members.{isIn, In}
+use Rattle.lists.specs.Tests.{among}
+use Rattle.lists.specs.Members.{Member}
 use Rattle.elimination.specs.Chains.{closes}
 use Rattle.elimination.specs.Selection.{pairAt, unfit, extended, extendedTo, Takes, NoneLeft}
 use Rattle.elimination.proofs.Members.{in-front, in-last, not-named, named-fewer}
@@ -19,21 +20,21 @@ use Rattle.elimination.proofs.Paths.{closes-back, back-closes, closes-w
 use Rattle.elimination.proofs.Kept.{extended-either, fit}
 
 module _ (has : ℕ → ℕ → Bool) (m : ℕ) where
-  pub extended-grows : (ps : List Pair) (i : ℕ) (q : Pair) → In q ps → In q (extended has m ps i)
-  extended-grows ps i q h = extended-either has m ps i (In q) (λ e. h) (λ e g. h) (λ e c b f g. in-front ps (pairAt i c ∷ []) q h)
+  pub extended-grows : (ps : List Pair) (i : ℕ) (q : Pair) → Member q ps → Member q (extended has m ps i)
+  extended-grows ps i q h = extended-either has m ps i (Member q) (λ e. h) (λ e g. h) (λ e c b f g. in-front ps (pairAt i c ∷ []) q h)
 
-  pub extendedTo-grows : (ps : List Pair) (k : ℕ) (q : Pair) → In q ps → In q (extendedTo has m ps k)
+  pub extendedTo-grows : (ps : List Pair) (k : ℕ) (q : Pair) → Member q ps → Member q (extendedTo has m ps k)
   unfolding extendedTo
   extendedTo-grows ps zero q h = h
   extendedTo-grows ps (suc k) q h = extended-grows (extendedTo has m ps k) k q (extendedTo-grows ps k q h)
 
   -- row i is left, and each of its entries in an unused column closes a cycle
   abbrev Left : List Pair → ℕ → Type 0
-  Left ps i = isIn (pairRows ps) i ≡ false → (j : ℕ) → j < m → has i j ≡ true → isIn (pairColumns ps) j ≡ false → closes has ps i j ≡ true
+  Left ps i = among i (pairRows ps) ≡ false → (j : ℕ) → j < m → has i j ≡ true → among j (pairColumns ps) ≡ false → closes has ps i j ≡ true
 
-  unfit-closes : (ps : List Pair) (i j : ℕ) → unfit has ps i j ≡ true → has i j ≡ true → isIn (pairColumns ps) j ≡ false → closes has ps i j ≡ true
+  unfit-closes : (ps : List Pair) (i j : ℕ) → unfit has ps i j ≡ true → has i j ≡ true → among j (pairColumns ps) ≡ false → closes has ps i j ≡ true
   unfolding unfit
-  unfit-closes ps i j e f g = go (has i j) f (isIn (pairColumns ps) j) g e
+  unfit-closes ps i j e f g = go (has i j) f (among j (pairColumns ps)) g e
     where
       go : (a : Bool) → a ≡ true → (b : Bool) → b ≡ false → (not a || (b || closes has ps i j)) ≡ true → closes has ps i j ≡ true
       go true s true t e = absurd (true≢false t)
@@ -49,12 +50,12 @@ module _ (has : ℕ → ℕ → Bool) (m : ℕ) where
       (λ e c b f g r. absurd (not-named (λ q. q .row) (ps ++ (pairAt i c ∷ [])) i r (pairAt i c) (in-last ps (pairAt i c)) refl))
 
   -- the turns after it
-  left-wider : (ps qs : List Pair) → ((q : Pair) → In q ps → In q qs) → (i : ℕ) → Left ps i → Left qs i
+  left-wider : (ps qs : List Pair) → ((q : Pair) → Member q ps → Member q qs) → (i : ℕ) → Left ps i → Left qs i
   left-wider ps qs h i w r j l f u =
       closes-wider has ps qs h i j (w (named-fewer (λ q. q .row) ps qs h i r) j l f (named-fewer (λ q. q .column) ps qs h j u))
 
   pub extendedTo-most : (ps : List Pair) (k : ℕ) (i : ℕ) → i < k
-      → isIn (pairRows (extendedTo has m ps k)) i ≡ false → (j : ℕ) → j < m → has i j ≡ true → isIn (pairColumns (extendedTo has m ps k)) j ≡ false
+      → among i (pairRows (extendedTo has m ps k)) ≡ false → (j : ℕ) → j < m → has i j ≡ true → among j (pairColumns (extendedTo has m ps k)) ≡ false
       → closes has (extendedTo has m ps k) i j ≡ true
   unfolding extendedTo
   extendedTo-most ps zero i h = absurd (omega arith)
@@ -64,7 +65,7 @@ module _ (has : ℕ → ℕ → Bool) (m : ℕ) where
 
   -- ---- one turn
 
-  pub extended-rule : (ps : List Pair) (i : ℕ) → isIn (pairRows ps) i ≡ false
+  pub extended-rule : (ps : List Pair) (i : ℕ) → among i (pairRows ps) ≡ false
       → ((c : ℕ) × (c < m) × Takes has ps i c × (extended has m ps i ≡ ps ++ (pairAt i c ∷ [])))
       ⊎ (NoneLeft has m ps i × (extended has m ps i ≡ ps))
   extended-rule ps i left =

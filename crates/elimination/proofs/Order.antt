@@ -10,22 +10,22 @@ use Rattle.algebra.specs.Matrix.{Vector, Matrix}
 use Rattle.elimination.specs.Structural.{Pair}
 use Rattle.elimination.specs.Pairs.{pairRows}
 use Rattle.elimination.specs.Pivots.{Pivot, Found, rankOf, reducedBy, coefficients, withPivot, withDependent, pair, other, turn, turns}
-use Rattle.elimination.specs.Members.{isIn}
+use Rattle.lists.specs.Tests.{among}
 use Rattle.elimination.specs.Factoring.{rest, schedule, nothing, rowsOf}
-use Rattle.elimination.proofs.Listed.{map-append, isIn-append}
+use Rattle.elimination.proofs.Listed.{map-append, among-append}
 use Rattle.elimination.proofs.Turns.{other-either}
 use Rattle.elimination.proofs.RowsFound.{pivotRows, dependentRows}
 use Rattle.elimination.proofs.Schedule.{turns-append}
 
-rest-same : (xs ys : List ℕ) (k : ℕ) → ((x : ℕ) → x < k → isIn xs x ≡ isIn ys x) → rest xs k ≡ rest ys k
+rest-same : (xs ys : List ℕ) (k : ℕ) → ((x : ℕ) → x < k → among x xs ≡ among x ys) → rest xs k ≡ rest ys k
 unfolding rest
 rest-same xs ys zero h = refl
 rest-same xs ys (suc k) h = λ t. rest-same xs ys k (λ x l. h x (omega arith)) t ++ cond (h k (omega arith) t) [] (k ∷ [])
 
 -- one number more
-isIn-snoc : (xs : List ℕ) (y x : ℕ) → isIn (xs ++ (y ∷ [])) x ≡ (isIn xs x || (eqb y x || false))
-unfolding isIn
-isIn-snoc xs y x = isIn-append xs (y ∷ []) x
+among-snoc : (xs : List ℕ) (y x : ℕ) → among x (xs ++ (y ∷ [])) ≡ (among x xs || (eqb x y || false))
+unfolding among
+among-snoc xs y x = among-append xs (y ∷ []) x
 
 or-none : (a b : Bool) → b ≡ false → (a || (b || false)) ≡ a
 or-none true b e = refl
@@ -38,11 +38,11 @@ or-one false b e = ap (λ (c : Bool). c || false) e
 -- the rows below k have been taken, but for those of the pairs ps: the dependent ones are the ones that are no pivot rows, rising
 record Ordered (ps : List ℕ) (k : ℕ) (f : Found) : Type 0 where
   dependents : dependentRows f ≡ rest (pivotRows f) k
-  others : (x : ℕ) → k ≤ x → isIn (pivotRows f) x ≡ isIn ps x
+  others : (x : ℕ) → k ≤ x → among x (pivotRows f) ≡ among x ps
 
 module _ (ps : List ℕ) (k : ℕ) (f : Found) (o : Ordered ps k f) where
   -- row k is a row of the pairs
-  ordered-pair : isIn ps k ≡ true → Ordered ps (suc k) f
+  ordered-pair : among k ps ≡ true → Ordered ps (suc k) f
   unfolding rest
   ordered-pair e =
       record {
@@ -50,7 +50,7 @@ module _ (ps : List ℕ) (k : ℕ) (f : Found) (o : Ordered ps k f) where
         others = λ x h. o .others x (omega arith);
       }
 
-  ordered-dependent : isIn ps k ≡ false → (ls : List ℕ) → Ordered ps (suc k) (withDependent f k ls)
+  ordered-dependent : among k ps ≡ false → (ls : List ℕ) → Ordered ps (suc k) (withDependent f k ls)
   unfolding rest withDependent
   ordered-dependent e ls =
       record {
@@ -67,14 +67,14 @@ module _ (ps : List ℕ) (k : ℕ) (f : Found) (o : Ordered ps k f) where
       record {
         dependents =
             o .dependents
-            ∙ rest-same (pivotRows f) (pivotRows f ++ (k ∷ [])) k (λ x h. sym (isIn-snoc (pivotRows f) k x ∙ or-none (isIn (pivotRows f) x) (eqb k x) (ne-eqb k x (λ q. omega arith))))
+            ∙ rest-same (pivotRows f) (pivotRows f ++ (k ∷ [])) k (λ x h. sym (among-snoc (pivotRows f) k x ∙ or-none (among x (pivotRows f)) (eqb x k) (ne-eqb x k (λ q. omega arith))))
             ∙ sym (append-nil (rest (pivotRows f ++ (k ∷ [])) k))
-            ∙ sym (ap (λ (b : Bool). rest (pivotRows f ++ (k ∷ [])) k ++ cond b [] (k ∷ [])) (isIn-snoc (pivotRows f) k k ∙ or-one (isIn (pivotRows f) k) (eqb k k) (eq-eqb k k refl)))
+            ∙ sym (ap (λ (b : Bool). rest (pivotRows f ++ (k ∷ [])) k ++ cond b [] (k ∷ [])) (among-snoc (pivotRows f) k k ∙ or-one (among k (pivotRows f)) (eqb k k) (eq-eqb k k refl)))
             ∙ ap (λ (l : List ℕ). rest l (suc k)) (sym more);
         others = λ x h.
-            ap (λ (l : List ℕ). isIn l x) more
-            ∙ isIn-snoc (pivotRows f) k x
-            ∙ or-none (isIn (pivotRows f) x) (eqb k x) (ne-eqb k x (λ q. omega arith))
+            ap (λ (l : List ℕ). among x l) more
+            ∙ among-snoc (pivotRows f) k x
+            ∙ or-none (among x (pivotRows f)) (eqb x k) (ne-eqb x k (λ q. omega arith))
             ∙ o .others x (omega arith);
       }
     where
@@ -84,7 +84,7 @@ module _ (ps : List ℕ) (k : ℕ) (f : Found) (o : Ordered ps k f) where
 -- ---- the whole schedule
 
 module _ (p m : ℕ) (A : Matrix) where
-  turn-ordered : (ps : List ℕ) (k : ℕ) (f : Found) → Ordered ps k f → isIn ps k ≡ false → Ordered ps (suc k) (turn p m A f (other k))
+  turn-ordered : (ps : List ℕ) (k : ℕ) (f : Found) → Ordered ps k f → among k ps ≡ false → Ordered ps (suc k) (turn p m A f (other k))
   turn-ordered ps k f o e =
       other-either p m A f k (Ordered ps (suc k)) (ordered-dependent ps k f o e (coefficients p f (A k)))
       (λ c. ordered-pivot ps k f o p m c (coefficients p f (A k)) (reducedBy p f (rankOf f) (A k)))
@@ -92,12 +92,12 @@ module _ (p m : ℕ) (A : Matrix) where
   others-ordered : (ps : List ℕ) (k : ℕ) (f : Found) → Ordered ps 0 f → Ordered ps k (turns p m A f (map other (rest ps k)))
   unfolding rest turns
   others-ordered ps zero f o = o
-  others-ordered ps (suc k) f o = go (isIn ps k) refl (others-ordered ps k f o)
+  others-ordered ps (suc k) f o = go (among k ps) refl (others-ordered ps k f o)
     where
       before : Found
       before = turns p m A f (map other (rest ps k))
 
-      go : (b : Bool) → isIn ps k ≡ b → Ordered ps k before → Ordered ps (suc k) (turns p m A f (map other (rest ps k ++ cond b [] (k ∷ []))))
+      go : (b : Bool) → among k ps ≡ b → Ordered ps k before → Ordered ps (suc k) (turns p m A f (map other (rest ps k ++ cond b [] (k ∷ []))))
       go true e ih = rw (append-nil (rest ps k)) (ordered-pair ps k before ih e)
       go false e ih = rw (map-append other (rest ps k) (k ∷ []), turns-append p m A f (map other (rest ps k)) (other k ∷ [])) (turn-ordered ps k before ih e)
 
@@ -115,7 +115,7 @@ module _ (p m : ℕ) (A : Matrix) where
   unfolding schedule rowsOf rest
   rows-rising n qs =
       rw (turns-append p m A nothing (map pair qs) (map other (rest (pairRows qs) n)))
-      (ap (λ (l : List ℕ). pivotRows end ++ l) (others-ordered (pairRows qs) n start (record { dependents = first .1; others = λ x h. ap (λ (l : List ℕ). isIn l x) (first .0) }) .dependents))
+      (ap (λ (l : List ℕ). pivotRows end ++ l) (others-ordered (pairRows qs) n start (record { dependents = first .1; others = λ x h. ap (λ (l : List ℕ). among x l) (first .0) }) .dependents))
     where
       start : Found
       start = turns p m A nothing (map pair qs)

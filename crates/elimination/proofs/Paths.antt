@@ -6,7 +6,7 @@ use mathlib.Core.Logic.{_⊎_, inl, inr}
 use mathlib.Core.List.{List, [], _∷_}
 use Rattle.lists.proofs.Bools.{and-both, and-left, and-right, or-cases, or-right}
 use Rattle.elimination.specs.Structural.{Pair}
-use Rattle.elimination.specs.Members.{In}
+use Rattle.lists.specs.Members.{Member}
 use Rattle.elimination.specs.Chains.{Path, one, more, Back, chain, closes}
 use Rattle.elimination.proofs.Members.{here, later}
 
@@ -56,8 +56,7 @@ module _ (has : ℕ → ℕ → Bool) where
       go (inl a) = a
       go (inr b) = b .1
 
-  pub chain-join : (q : Pair) (ps : List Pair) (i j : ℕ) → In q ps → chain has ps i (q .column) ≡ true → chain has ps (q .row) j ≡ true → chain has ps i j ≡ true
-  unfolding In
+  pub chain-join : (q : Pair) (ps : List Pair) (i j : ℕ) → Member q ps → chain has ps i (q .column) ≡ true → chain has ps (q .row) j ≡ true → chain has ps i j ≡ true
   chain-join q [] i j m a b = absurd m
   chain-join q (p ∷ qs) i j (inl e) a b =
       let own : (chain has qs i (p .column) ≡ true) × (chain has qs (p .row) j ≡ true) = (to-own p qs i (rw e at a), from-own p qs j (rw e at b)) in
@@ -66,7 +65,7 @@ module _ (has : ℕ → ℕ → Bool) where
     where
       go : (chain has qs i (q .column) ≡ true) ⊎ ((chain has qs i (p .column) ≡ true) × (chain has qs (p .row) (q .column) ≡ true))
           → (chain has qs (q .row) j ≡ true) ⊎ ((chain has qs (q .row) (p .column) ≡ true) × (chain has qs (p .row) j ≡ true))
-          → ((i j : ℕ) → In q qs → chain has qs i (q .column) ≡ true → chain has qs (q .row) j ≡ true → chain has qs i j ≡ true)
+          → ((i j : ℕ) → Member q qs → chain has qs i (q .column) ≡ true → chain has qs (q .row) j ≡ true → chain has qs i j ≡ true)
           → chain has (p ∷ qs) i j ≡ true
       go (inl a) (inl b) ih = around p qs i j (ih i j m a b)
       go (inl a) (inr b) ih = through p qs i j (ih i (p .column) m a (b .0)) (b .1)
@@ -74,8 +73,8 @@ module _ (has : ℕ → ℕ → Bool) where
       go (inr a) (inr b) ih = through p qs i j (a .0) (b .1)
 
   -- and what joins at a pivot comes back
-  pub closes-join : (q : Pair) (ps : List Pair) (i j : ℕ) → In q ps → chain has ps i (q .column) ≡ true → chain has ps (q .row) j ≡ true → closes has ps i j ≡ true
-  unfolding In closes
+  pub closes-join : (q : Pair) (ps : List Pair) (i j : ℕ) → Member q ps → chain has ps i (q .column) ≡ true → chain has ps (q .row) j ≡ true → closes has ps i j ≡ true
+  unfolding closes
   closes-join q [] i j m a b = absurd m
   closes-join q (p ∷ qs) i j (inl e) a b =
       let own : (chain has qs i (p .column) ≡ true) × (chain has qs (p .row) j ≡ true) = (to-own p qs i (rw e at a), from-own p qs j (rw e at b)) in
@@ -98,11 +97,11 @@ module _ (has : ℕ → ℕ → Bool) where
 
   -- ---- chains as such
 
-  pub path-wider : (ps qs : List Pair) → ((q : Pair) → In q ps → In q qs) → {i j : ℕ} → Path has ps i j → Path has qs i j
+  pub path-wider : (ps qs : List Pair) → ((q : Pair) → Member q ps → Member q qs) → {i j : ℕ} → Path has ps i j → Path has qs i j
   path-wider ps qs h (one e) = one e
   path-wider ps qs h (more q m e w) = more q (h q m) e (path-wider ps qs h w)
 
-  path-join : (ps : List Pair) (i c j : ℕ) (q : Pair) → In q ps → q .column ≡ c → Path has ps i c → Path has ps (q .row) j → Path has ps i j
+  path-join : (ps : List Pair) (i c j : ℕ) (q : Pair) → Member q ps → q .column ≡ c → Path has ps i c → Path has ps (q .row) j → Path has ps i j
   path-join ps i c j q m s (one e) v = more q m (subst (λ (x : ℕ). has i x ≡ true) (sym s) e) v
   path-join ps i c j q m s (more p l e w) v = more p l e (path-join ps (p .row) c j q m s w v)
 
@@ -125,7 +124,7 @@ module _ (has : ℕ → ℕ → Bool) where
       go (inl a) ih = wide i j (ih i j a)
       go (inr b) ih = path-join (q ∷ qs) i (q .column) j q (here q qs) refl (wide i (q .column) (ih i (q .column) (b .0))) (wide (q .row) j (ih (q .row) j (b .1)))
 
-  pub back-wider : (ps qs : List Pair) → ((q : Pair) → In q ps → In q qs) → (i j : ℕ) → Back has ps i j → Back has qs i j
+  pub back-wider : (ps qs : List Pair) → ((q : Pair) → Member q ps → Member q qs) → (i j : ℕ) → Back has ps i j → Back has qs i j
   back-wider ps qs h i j b = record { by = b .by; chosen = h (b .by) (b .chosen); leads = b .leads; onward = path-wider ps qs h (b .onward) }
 
   pub back-closes : (ps : List Pair) (i j : ℕ) → Back has ps i j → closes has ps i j ≡ true
@@ -154,5 +153,5 @@ module _ (has : ℕ → ℕ → Bool) where
   closes-exactly ps i j = (closes-back ps i j, back-closes ps i j)
 
   -- only which pairs there are matters; with more of them there are more cycles
-  pub closes-wider : (ps qs : List Pair) → ((q : Pair) → In q ps → In q qs) → (i j : ℕ) → closes has ps i j ≡ true → closes has qs i j ≡ true
+  pub closes-wider : (ps qs : List Pair) → ((q : Pair) → Member q ps → Member q qs) → (i j : ℕ) → closes has ps i j ≡ true → closes has qs i j ≡ true
   closes-wider ps qs h i j e = back-closes qs i j (back-wider ps qs h i j (closes-back ps i j e))

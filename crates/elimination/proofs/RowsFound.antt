@@ -11,11 +11,11 @@ use Rattle.algebra.specs.Matrix.{Vector, Matrix, Distinct, Permutation, vector}
 use Rattle.elimination.specs.Structural.{Pair}
 use Rattle.elimination.specs.Pairs.{pairRows, Pairs}
 use Rattle.elimination.specs.Pivots.{Pivot, Dependent, Found, rankOf, reducedBy, coefficients, withPivot, withDependent, Turn, pair, other, turn, turns}
-use Rattle.elimination.specs.Members.{isIn}
+use Rattle.lists.specs.Tests.{among}
 use Rattle.elimination.specs.Factoring.{rest, schedule, nothing, rowsOf, rowOfTurn}
-use Rattle.elimination.proofs.Listed.{snoc-length, map-append, isIn-append, listed}
+use Rattle.elimination.proofs.Listed.{snoc-length, map-append, among-append, listed}
 use Rattle.elimination.proofs.Turns.{other-either}
-use Rattle.elimination.proofs.Completion.{completed-isIn, completed-length}
+use Rattle.elimination.proofs.Completion.{completed-among, completed-length}
 
 -- ---- the rows found
 
@@ -28,16 +28,16 @@ dependentRows f = map (λ d. d .row) (f .dependents)
 -- f′ has the rows of f, and row i
 record OneMore (f f′ : Found) (i : ℕ) : Type 0 where
   long : length (rowsOf f′) ≡ suc (length (rowsOf f))
-  has : (x : ℕ) → isIn (rowsOf f′) x ≡ (isIn (rowsOf f) x || eqb i x)
+  has : (x : ℕ) → among x (rowsOf f′) ≡ (among x (rowsOf f) || eqb x i)
 
 module _ (f : Found) (i : ℕ) where
-  front : (x : ℕ) → isIn ((pivotRows f ++ (i ∷ [])) ++ dependentRows f) x ≡ (isIn (pivotRows f ++ dependentRows f) x || eqb i x)
-  unfolding isIn
+  front : (x : ℕ) → among x ((pivotRows f ++ (i ∷ [])) ++ dependentRows f) ≡ (among x (pivotRows f ++ dependentRows f) || eqb x i)
+  unfolding among
   front x =
-      isIn-append (pivotRows f ++ (i ∷ [])) (dependentRows f) x
-      ∙ ap (λ (b : Bool). b || isIn (dependentRows f) x) (isIn-append (pivotRows f) (i ∷ []) x)
-      ∙ go (isIn (pivotRows f) x) (isIn (dependentRows f) x) (eqb i x)
-      ∙ ap (λ (b : Bool). b || eqb i x) (sym (isIn-append (pivotRows f) (dependentRows f) x))
+      among-append (pivotRows f ++ (i ∷ [])) (dependentRows f) x
+      ∙ ap (λ (b : Bool). b || among x (dependentRows f)) (among-append (pivotRows f) (i ∷ []) x)
+      ∙ go (among x (pivotRows f)) (among x (dependentRows f)) (eqb x i)
+      ∙ ap (λ (b : Bool). b || eqb x i) (sym (among-append (pivotRows f) (dependentRows f) x))
     where
       go : (a b c : Bool) → ((a || (c || false)) || b) ≡ ((a || b) || c)
       go true b c = refl
@@ -46,13 +46,13 @@ module _ (f : Found) (i : ℕ) where
       go false false true = refl
       go false false false = refl
 
-  back : (x : ℕ) → isIn (pivotRows f ++ (dependentRows f ++ (i ∷ []))) x ≡ (isIn (pivotRows f ++ dependentRows f) x || eqb i x)
-  unfolding isIn
+  back : (x : ℕ) → among x (pivotRows f ++ (dependentRows f ++ (i ∷ []))) ≡ (among x (pivotRows f ++ dependentRows f) || eqb x i)
+  unfolding among
   back x =
-      isIn-append (pivotRows f) (dependentRows f ++ (i ∷ [])) x
-      ∙ ap (λ (b : Bool). isIn (pivotRows f) x || b) (isIn-append (dependentRows f) (i ∷ []) x)
-      ∙ go (isIn (pivotRows f) x) (isIn (dependentRows f) x) (eqb i x)
-      ∙ ap (λ (b : Bool). b || eqb i x) (sym (isIn-append (pivotRows f) (dependentRows f) x))
+      among-append (pivotRows f) (dependentRows f ++ (i ∷ [])) x
+      ∙ ap (λ (b : Bool). among x (pivotRows f) || b) (among-append (dependentRows f) (i ∷ []) x)
+      ∙ go (among x (pivotRows f)) (among x (dependentRows f)) (eqb x i)
+      ∙ ap (λ (b : Bool). b || eqb x i) (sym (among-append (pivotRows f) (dependentRows f) x))
     where
       go : (a b c : Bool) → (a || (b || (c || false))) ≡ ((a || b) || c)
       go true b c = refl
@@ -89,17 +89,17 @@ module _ (p m : ℕ) (A : Matrix) where
   turns-length f [] = omega arith
   turns-length f (t ∷ ts) = omega (arith, turns-length (turn p m A f t) ts, turn-row f t .long)
 
-  pub turns-isIn : (f : Found) (ts : List Turn) (x : ℕ) → isIn (rowsOf (turns p m A f ts)) x ≡ (isIn (rowsOf f) x || isIn (map rowOfTurn ts) x)
-  unfolding turns isIn
-  turns-isIn f [] x = go (isIn (rowsOf f) x)
+  pub turns-among : (f : Found) (ts : List Turn) (x : ℕ) → among x (rowsOf (turns p m A f ts)) ≡ (among x (rowsOf f) || among x (map rowOfTurn ts))
+  unfolding turns among
+  turns-among f [] x = go (among x (rowsOf f))
     where
       go : (b : Bool) → b ≡ (b || false)
       go true = refl
       go false = refl
-  turns-isIn f (t ∷ ts) x =
-      turns-isIn (turn p m A f t) ts x
-      ∙ ap (λ (b : Bool). b || isIn (map rowOfTurn ts) x) (turn-row f t .has x)
-      ∙ go (isIn (rowsOf f) x) (eqb (rowOfTurn t) x) (isIn (map rowOfTurn ts) x)
+  turns-among f (t ∷ ts) x =
+      turns-among (turn p m A f t) ts x
+      ∙ ap (λ (b : Bool). b || among x (map rowOfTurn ts)) (turn-row f t .has x)
+      ∙ go (among x (rowsOf f)) (eqb x (rowOfTurn t)) (among x (map rowOfTurn ts))
     where
       go : (a b c : Bool) → ((a || b) || c) ≡ (a || (b || c))
       go true b c = refl
@@ -129,7 +129,7 @@ module _ (p n m : ℕ) (A : Matrix) (ps : List Pair) (pairs : Pairs n m A ps) wh
   rows-length = turns-length p m A nothing (schedule n ps) ∙ omega (arith, whole, length-map (schedule n ps) rowOfTurn)
 
   pub rows-permutation : Permutation n (vector (rowsOf end))
-  unfolding rowsOf isIn
+  unfolding rowsOf among
   rows-permutation =
       listed n (rowsOf end) rows-length
-      (λ x h. turns-isIn p m A nothing (schedule n ps) x ∙ ap (λ (l : List ℕ). isIn l x) (schedule-rows n ps) ∙ completed-isIn (pairRows ps) n x h)
+      (λ x h. turns-among p m A nothing (schedule n ps) x ∙ ap (λ (l : List ℕ). among x l) (schedule-rows n ps) ∙ completed-among (pairRows ps) n x h)

@@ -9,7 +9,7 @@ use lib.ListN.{length}
 use Rattle.sparse.specs.Matrix.{Compressed, matrix, form}
 use Rattle.elimination.specs.Structural.{Pair}
 use Rattle.elimination.specs.Pairs.{pairRows}
-use Rattle.elimination.specs.Members.{isIn}
+use Rattle.lists.specs.Tests.{among}
 use Rattle.elimination.specs.Selection.{nonzero, pairAt, extendedTo, Takes, NoneLeft}
 use Rattle.elimination.specs.Factoring.{factor}
 use Rattle.elimination.specs.Rules.{pivotsTo, FollowsRules}
@@ -23,7 +23,7 @@ Turned A n m i qs =
     ((c : ℕ) × (c < m) × Takes (nonzero (matrix A)) (pivotsTo A n m i) i c × (qs ≡ pivotsTo A n m i ++ (pairAt i c ∷ [])))
     ⊎ (NoneLeft (nonzero (matrix A)) m (pivotsTo A n m i) i × (qs ≡ pivotsTo A n m i))
 
-turned : (A : Compressed) (n m i : ℕ) → isIn (pairRows (pivotsTo A n m i)) i ≡ false → Turned A n m i (pivotsTo A n m (suc i))
+turned : (A : Compressed) (n m i : ℕ) → among i (pairRows (pivotsTo A n m i)) ≡ false → Turned A n m i (pivotsTo A n m (suc i))
 unfolding extendedTo
 turned A n m i e = extended-rule (nonzero (matrix A)) m (pivotsTo A n m i) i e
 

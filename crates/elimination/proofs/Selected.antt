@@ -21,7 +21,8 @@ use Rattle.algebra.proofs.Finite.{pigeons}
 use Rattle.sparse.specs.Matrix.{Compressed, matrix, form}
 use Rattle.elimination.specs.Structural.{Pair, leading}
 use Rattle.elimination.specs.Pairs.{Pairs, pairRows, pairColumns}
-use Rattle.elimination.specs.Members.{isIn, In}
+use Rattle.lists.specs.Tests.{among}
+use Rattle.lists.specs.Members.{Member}
 use Rattle.elimination.proofs.Pairs.{noPair, leading-pairs}
 use Rattle.elimination.specs.Chains.{Back}
 use Rattle.elimination.specs.Selection.{nonzero, without, extendedTo, Ordering, selected, structural}
@@ -51,7 +52,7 @@ module _ (n m : ℕ) (A : Matrix) (ps : List Pair) (s : Sound (nonzero A) n m ps
   column-at : (k : ℕ) → getD (pairColumns qs) k 0 ≡ getD qs k noPair .column
   column-at k = List·getD-map (λ q. q .column) qs k noPair
 
-  chosen : (k : ℕ) → k < length qs → In (getD qs k noPair) ps
+  chosen : (k : ℕ) → k < length qs → Member (getD qs k noPair) ps
   chosen k h = o .from (getD qs k noPair) (in-at qs k h)
 
   pub ordering-pairs : Pairs n m A qs
@@ -122,21 +123,21 @@ module _ (p n m : ℕ) (A : Compressed) (formed : form p m A ≡ true) (many : l
   pub structural-pairs : Pairs n m (matrix A) (structural A n m)
   structural-pairs = ordering-pairs n m (matrix A) (selected A n m) selected-sound (structural A n m) structural-ordering
 
-  pub structural-leading : (q : Pair) → In q (leading A n m) → In q (structural A n m)
+  pub structural-leading : (q : Pair) → Member q (leading A n m) → Member q (structural A n m)
   unfolding selected
   structural-leading q h = structural-ordering .all q (extendedTo-grows has m (leading A n m) n q h)
 
-  pub structural-acyclic : (q : Pair) → In q (structural A n m) → ¬ Back has (without (q .row) (structural A n m)) (q .row) (q .column)
+  pub structural-acyclic : (q : Pair) → Member q (structural A n m) → ¬ Back has (without (q .row) (structural A n m)) (q .row) (q .column)
   structural-acyclic =
       let s = selected-sound in
       let o = structural-ordering in
       no-cycle has (s .rank) (structural A n m) (o .apart) (λ b q m l. s .rising b q (o .from b m) (o .from q l))
 
-  pub structural-most : (i j : ℕ) → i < n → j < m → isIn (pairRows (structural A n m)) i ≡ false → isIn (pairColumns (structural A n m)) j ≡ false
+  pub structural-most : (i j : ℕ) → i < n → j < m → among i (pairRows (structural A n m)) ≡ false → among j (pairColumns (structural A n m)) ≡ false
       → has i j ≡ true → Back has (structural A n m) i j
   unfolding selected
   structural-most i j h l r c e =
-      let all : (q : Pair) → In q (extendedTo has m (leading A n m) n) → In q (structural A n m) = structural-ordering .all in
+      let all : (q : Pair) → Member q (extendedTo has m (leading A n m) n) → Member q (structural A n m) = structural-ordering .all in
       back-wider has (selected A n m) (structural A n m) all i j
       (closes-back has (selected A n m) i j
       (extendedTo-most has m (leading A n m) n i h (named-fewer (λ q. q .row) (selected A n m) (structural A n m) all i r) j l e

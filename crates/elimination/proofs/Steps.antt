@@ -17,12 +17,12 @@ use native.Mathlib.Omega.{arith}
 use lib.Dec.{eqb, leb}
 use lib.ListN.{length}
 use borrow.Author.Tests.{eq-eqb, ne-eqb, le-leb, lt-leb}
-use Rattle.lists.specs.Tests.{first}
+use Rattle.lists.specs.Tests.{first, among}
 use Rattle.lists.proofs.Bools.{or-right}
 use Rattle.lists.proofs.Tests.{first-all, first-fails}
 use Rattle.elimination.specs.Structural.{Pair}
 use Rattle.elimination.specs.Pairs.{pairRows}
-use Rattle.elimination.specs.Members.{isIn, In}
+use Rattle.lists.specs.Members.{Member}
 use Rattle.elimination.specs.Chains.{Path, one, more, Back, closes}
 use Rattle.elimination.specs.Selection.{pairAt, unfit, extended, without, free, lowest, ordered, leadsTo, degree, Apart}
 use Rattle.elimination.proofs.Members.{apart-same}
@@ -35,7 +35,7 @@ module _ (has : ℕ → ℕ → Bool) where
   -- what is stamped is reached through a pivot, and whole rows are stamped: of each pivot whose column row i has, or that is stamped
   pub record Searched (ps : List Pair) (i : ℕ) (stamped : ℕ → Bool) : Type 0 where
     pub right : (j : ℕ) → stamped j ≡ true → Back has ps i j
-    pub whole : (q : Pair) → In q ps → (has i (q .column) ≡ true) ⊎ (stamped (q .column) ≡ true) → (j : ℕ) → has (q .row) j ≡ true → stamped j ≡ true
+    pub whole : (q : Pair) → Member q ps → (has i (q .column) ≡ true) ⊎ (stamped (q .column) ≡ true) → (j : ℕ) → has (q .row) j ≡ true → stamped j ≡ true
 
   module _ (ps : List Pair) (i : ℕ) (stamped : ℕ → Bool) (s : Searched ps i stamped) where
     reached : (k j : ℕ) → ((c : ℕ) → has k c ≡ true → stamped c ≡ true) → Path has ps k j → stamped j ≡ true
@@ -56,7 +56,7 @@ module _ (has : ℕ → ℕ → Bool) where
 
   -- ---- what is added
 
-  pub extended-chosen : (m : ℕ) (ps : List Pair) (i : ℕ) → isIn (pairRows ps) i ≡ true → extended has m ps i ≡ ps
+  pub extended-chosen : (m : ℕ) (ps : List Pair) (i : ℕ) → among i (pairRows ps) ≡ true → extended has m ps i ≡ ps
   unfolding extended
   extended-chosen m ps i e = ap (λ (t : Bool). cond (t || leb m c) ps (ps ++ (pairAt i c ∷ []))) e
     where
@@ -65,12 +65,12 @@ module _ (has : ℕ → ℕ → Bool) where
 
   pub extended-left : (m : ℕ) (ps : List Pair) (i : ℕ) → ((j : ℕ) → j < m → unfit has ps i j ≡ true) → extended has m ps i ≡ ps
   unfolding extended
-  extended-left m ps i h = ap (λ (t : Bool). cond t ps (ps ++ (pairAt i c ∷ []))) (or-right (isIn (pairRows ps) i) (le-leb m c (omega (arith, first-all m (unfit has ps i) h))))
+  extended-left m ps i h = ap (λ (t : Bool). cond t ps (ps ++ (pairAt i c ∷ []))) (or-right (among i (pairRows ps)) (le-leb m c (omega (arith, first-all m (unfit has ps i) h))))
     where
       c : ℕ
       c = first m (unfit has ps i)
 
-  pub extended-taken : (m : ℕ) (ps : List Pair) (i c : ℕ) → isIn (pairRows ps) i ≡ false → c < m → ((j : ℕ) → j < c → unfit has ps i j ≡ true) → unfit has ps i c ≡ false
+  pub extended-taken : (m : ℕ) (ps : List Pair) (i c : ℕ) → among i (pairRows ps) ≡ false → c < m → ((j : ℕ) → j < c → unfit has ps i j ≡ true) → unfit has ps i c ≡ false
       → extended has m ps i ≡ ps ++ (pairAt i c ∷ [])
   unfolding extended
   extended-taken m ps i c e l before here =
@@ -91,15 +91,15 @@ module _ (has : ℕ → ℕ → Bool) where
       go true ih = ih ∙ ap (λ (d : ℕ). eqb d 0) (let e : degree has bs q ≡ 0 + degree has bs q = omega arith in e)
       go false ih = sym (ne-eqb (1 + degree has bs q) 0 (λ e. absurd (omega arith)))
 
-  degree-none : (i : ℕ) (ws : List Pair) (q : Pair) → ((b : Pair) → In b ws → ¬ (b .row ≡ i)) → degree has (without i ws) q ≡ degree has ws q
-  unfolding degree without In
+  degree-none : (i : ℕ) (ws : List Pair) (q : Pair) → ((b : Pair) → Member b ws → ¬ (b .row ≡ i)) → degree has (without i ws) q ≡ degree has ws q
+  unfolding degree without
   degree-none i [] q h = refl
   degree-none i (b ∷ bs) q h =
       ap (λ (t : Bool). degree has (cond t (without i bs) (b ∷ without i bs)) q) (ne-eqb (b .row) i (h b (inl refl)))
       ∙ ap (λ (d : ℕ). leadsTo has (b .row) q + d) (degree-none i bs q (λ x m. h x (inr m)))
 
-  pub degree-without : (ws : List Pair) (a q : Pair) → Apart ws → In a ws → leadsTo has (a .row) q + degree has (without (a .row) ws) q ≡ degree has ws q
-  unfolding degree without In Apart
+  pub degree-without : (ws : List Pair) (a q : Pair) → Apart ws → Member a ws → leadsTo has (a .row) q + degree has (without (a .row) ws) q ≡ degree has ws q
+  unfolding degree without Apart
   degree-without [] a q h m = absurd m
   degree-without (b ∷ bs) a q h (inl s) =
       ap (λ (t : Bool). leadsTo has (a .row) q + degree has (cond t (without (a .row) bs) (b ∷ without (a .row) bs)) q) (eq-eqb (b .row) (a .row) (ap (λ (x : Pair). x .row) (sym s)))
@@ -130,7 +130,7 @@ module _ (has : ℕ → ℕ → Bool) where
       go none g = refl
       go (some a) g = absurd (h a g)
 
-  pub ordered-same : (rank : Pair → ℕ) (ps qs : List Pair) → Apart ps → Apart qs → Ranked has rank ps → ((b : Pair) → In b ps → In b qs) → ((b : Pair) → In b qs → In b ps)
+  pub ordered-same : (rank : Pair → ℕ) (ps qs : List Pair) → Apart ps → Apart qs → Ranked has rank ps → ((b : Pair) → Member b ps → Member b qs) → ((b : Pair) → Member b qs → Member b ps)
       → ordered has (length ps) ps ≡ ordered has (length qs) qs
   ordered-same rank ps qs h g r f u =
       let a = ordered-right has rank (length ps) ps refl h r in

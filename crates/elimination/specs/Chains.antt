@@ -8,15 +8,15 @@ use mathlib.Core.Path.{_≡_}
 use mathlib.Core.Bool.{Bool, true, false, _&&_, _||_}
 use mathlib.Core.List.{List, [], _∷_}
 use Rattle.elimination.specs.Structural.{Pair}
-use Rattle.elimination.specs.Members.{In}
+use Rattle.lists.specs.Members.{Member}
 
 pub data Path (has : ℕ → ℕ → Bool) (ps : List Pair) : ℕ → ℕ → Type 0 where
   one : {i j : ℕ} → has i j ≡ true → Path has ps i j
-  more : {i j : ℕ} (q : Pair) → In q ps → has i (q .column) ≡ true → Path has ps (q .row) j → Path has ps i j
+  more : {i j : ℕ} (q : Pair) → Member q ps → has i (q .column) ≡ true → Path has ps (q .row) j → Path has ps i j
 
 pub record Back (has : ℕ → ℕ → Bool) (ps : List Pair) (i j : ℕ) : Type 0 where
   pub by : Pair
-  pub chosen : In by ps
+  pub chosen : Member by ps
   pub leads : has i (by .column) ≡ true
   pub onward : Path has ps (by .row) j
 

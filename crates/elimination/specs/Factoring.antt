@@ -20,13 +20,13 @@ use Rattle.sparse.specs.Matrix.{Compressed, matrix}
 use Rattle.sparse.specs.Set.{Set}
 use Rattle.sparse.specs.Dense.{nonzeros, compress}
 use Rattle.elimination.specs.Structural.{Pair}
-use Rattle.elimination.specs.Members.{isIn}
+use Rattle.lists.specs.Tests.{among}
 use Rattle.elimination.specs.Selection.{structural}
 use Rattle.elimination.specs.Pivots.{Found, Turn, pair, other, turn, turns, columnsOf, uppersOf, rankOf}
 
 unfoldable pub rest : List ℕ → ℕ → List ℕ
 rest xs zero = []
-rest xs (suc k) = rest xs k ++ cond (isIn xs k) [] (k ∷ [])
+rest xs (suc k) = rest xs k ++ cond (among k xs) [] (k ∷ [])
 
 unfoldable pub schedule : ℕ → List Pair → List Turn
 schedule n pairs = map pair pairs ++ map other (rest (map (λ q. q .row) pairs) n)

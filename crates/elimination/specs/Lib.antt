@@ -1,5 +1,4 @@
 pub mod Structural
-pub mod Members
 pub mod Pairs
 pub mod Chains
 pub mod Selection

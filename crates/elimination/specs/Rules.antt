@@ -16,7 +16,8 @@ use lib.ListN.{length}
 use Rattle.sparse.specs.Matrix.{Compressed, matrix, rowOf}
 use Rattle.elimination.specs.Structural.{Pair, leading}
 use Rattle.elimination.specs.Pairs.{pairRows, pairColumns}
-use Rattle.elimination.specs.Members.{isIn, In}
+use Rattle.lists.specs.Tests.{among}
+use Rattle.lists.specs.Members.{Member}
 use Rattle.elimination.specs.Chains.{Back}
 use Rattle.elimination.specs.Selection.{nonzero, pairAt, extendedTo, selected, structural, Takes, NoneLeft, Ordering}
 use Rattle.elimination.specs.Factoring.{factor}
@@ -25,12 +26,12 @@ abbrev pub pivotsTo : Compressed → ℕ → ℕ → ℕ → List Pair
 pivotsTo A n m i = extendedTo (nonzero (matrix A)) m (leading A n m) i
 
 pub record FollowsRules (p n m : ℕ) (A : Compressed) : Type 0 where
-  pub keeps : (q : Pair) → In q (leading A n m) → In q (structural A n m)
-  pub takes : (i : ℕ) → isIn (pairRows (pivotsTo A n m i)) i ≡ false
+  pub keeps : (q : Pair) → Member q (leading A n m) → Member q (structural A n m)
+  pub takes : (i : ℕ) → among i (pairRows (pivotsTo A n m i)) ≡ false
       → ((c : ℕ) × (c < m) × Takes (nonzero (matrix A)) (pivotsTo A n m i) i c × (pivotsTo A n m (i + 1) ≡ pivotsTo A n m i ++ (pairAt i c ∷ [])))
       ⊎ (NoneLeft (nonzero (matrix A)) m (pivotsTo A n m i) i × (pivotsTo A n m (i + 1) ≡ pivotsTo A n m i))
   pub ordering : Ordering (nonzero (matrix A)) (selected A n m) (structural A n m)
   pub only : (qs : List Pair) → Ordering (nonzero (matrix A)) (selected A n m) qs → qs ≡ structural A n m
   pub diagonal : (k : ℕ) → k < length (structural A n m) → rowOf (factor p n m A .L .starts) k (factor p n m A .L .cols) ≡ k ∷ []
-  pub most : (i j : ℕ) → i < n → j < m → isIn (pairRows (structural A n m)) i ≡ false → isIn (pairColumns (structural A n m)) j ≡ false
+  pub most : (i j : ℕ) → i < n → j < m → among i (pairRows (structural A n m)) ≡ false → among j (pairColumns (structural A n m)) ≡ false
       → nonzero (matrix A) i j ≡ true → Back (nonzero (matrix A)) (structural A n m) i j

@@ -27,12 +27,12 @@ use mathlib.Core.List.{List, [], _∷_, _++_}
 use mathlib.Core.Option.{Option, none, some}
 use lib.ListN.{length}
 use lib.Dec.{eqb, leb}
-use Rattle.lists.specs.Tests.{first}
+use Rattle.lists.specs.Tests.{first, among}
 use Rattle.algebra.specs.Matrix.{Matrix}
 use Rattle.sparse.specs.Matrix.{Compressed, matrix}
 use Rattle.elimination.specs.Structural.{Pair, leading}
 use Rattle.elimination.specs.Pairs.{pairRows, pairColumns}
-use Rattle.elimination.specs.Members.{isIn, In}
+use Rattle.lists.specs.Members.{Member}
 use Rattle.elimination.specs.Chains.{Back, closes}
 
 abbrev pub nonzero : Matrix → ℕ → ℕ → Bool
@@ -53,12 +53,12 @@ module _ (has : ℕ → ℕ → Bool) where
   -- ---- the choice
 
   unfoldable pub unfit : List Pair → ℕ → ℕ → Bool
-  unfit ps i j = not (has i j) || (isIn (pairColumns ps) j || closes has ps i j)
+  unfit ps i j = not (has i j) || (among j (pairColumns ps) || closes has ps i j)
 
   unfoldable pub extended : ℕ → List Pair → ℕ → List Pair
   extended m ps i =
       let c = first m (unfit ps i) in
-      cond (isIn (pairRows ps) i || leb m c) ps (ps ++ (pairAt i c ∷ []))
+      cond (among i (pairRows ps) || leb m c) ps (ps ++ (pairAt i c ∷ []))
 
   unfoldable pub extendedTo : ℕ → List Pair → ℕ → List Pair
   extendedTo m ps zero = ps
@@ -68,12 +68,12 @@ module _ (has : ℕ → ℕ → Bool) where
 
   pub record Takes (ps : List Pair) (i c : ℕ) : Type 0 where
     pub entry : has i c ≡ true
-    pub unused : isIn (pairColumns ps) c ≡ false
+    pub unused : among c (pairColumns ps) ≡ false
     pub clear : ¬ Back has ps i c
-    pub lowest : (j : ℕ) → j < c → has i j ≡ true → isIn (pairColumns ps) j ≡ false → Back has ps i j
+    pub lowest : (j : ℕ) → j < c → has i j ≡ true → among j (pairColumns ps) ≡ false → Back has ps i j
 
   abbrev pub NoneLeft : ℕ → List Pair → ℕ → Type 0
-  NoneLeft m ps i = (j : ℕ) → j < m → has i j ≡ true → isIn (pairColumns ps) j ≡ false → Back has ps i j
+  NoneLeft m ps i = (j : ℕ) → j < m → has i j ≡ true → among j (pairColumns ps) ≡ false → Back has ps i j
 
   -- ---- the order
 
@@ -101,11 +101,11 @@ module _ (has : ℕ → ℕ → Bool) where
   -- ---- what the order is asked for
 
   abbrev pub Free : List Pair → Pair → Type 0
-  Free waiting q = (b : Pair) → In b waiting → ¬ (b .row ≡ q .row) → has (b .row) (q .column) ≡ false
+  Free waiting q = (b : Pair) → Member b waiting → ¬ (b .row ≡ q .row) → has (b .row) (q .column) ≡ false
 
   pub record Next (waiting : List Pair) (q : Pair) : Type 0 where
     pub free : Free waiting q
-    pub lowest : (b : Pair) → In b waiting → Free waiting b → q .row ≤ b .row
+    pub lowest : (b : Pair) → Member b waiting → Free waiting b → q .row ≤ b .row
 
   unfoldable pub Obeys : List Pair → Type 0
   Obeys [] = Unit {0}
@@ -113,12 +113,12 @@ module _ (has : ℕ → ℕ → Bool) where
 
 unfoldable pub Apart : List Pair → Type 0
 Apart [] = Unit {0}
-Apart (q ∷ qs) = ((b : Pair) → In b qs → ¬ (b .row ≡ q .row)) × Apart qs
+Apart (q ∷ qs) = ((b : Pair) → Member b qs → ¬ (b .row ≡ q .row)) × Apart qs
 
 pub record Ordering (has : ℕ → ℕ → Bool) (ps qs : List Pair) : Type 0 where
   pub many : length qs ≡ length ps
-  pub from : (b : Pair) → In b qs → In b ps
-  pub all : (b : Pair) → In b ps → In b qs
+  pub from : (b : Pair) → Member b qs → Member b ps
+  pub all : (b : Pair) → Member b ps → Member b qs
   pub apart : Apart qs
   pub obeys : Obeys has qs
 

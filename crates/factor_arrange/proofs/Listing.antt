@@ -21,7 +21,7 @@ use Rattle.sparse.specs.Matrix.{Compressed, matrix}
 use Rattle.sparse.specs.Scan.{NextNonzero}
 use Rattle.elimination.specs.Structural.{Pair}
 use Rattle.elimination.specs.Pairs.{pairRows, pairColumns}
-use Rattle.elimination.specs.Members.{In}
+use Rattle.lists.specs.Members.{Member}
 use Rattle.elimination.specs.Selection.{nonzero, pairAt, without, free, ordered, degree, selected, structural}
 use Rattle.elimination.proofs.Pairs.{noPair}
 use Rattle.elimination.proofs.Ordering.{Least, without-one}
@@ -55,15 +55,15 @@ module _ (p n : ℕ) (A : Compressed) (w v₀ v d s : List ℕ) (g : Stage p n A
 
   -- ---- what waits, by its cells
 
-  cell-column : (b : Pair) → In b (waiting v) → getD w (b .column) 0 ≡ suc (b .row)
+  cell-column : (b : Pair) → Member b (waiting v) → getD w (b .column) 0 ≡ suc (b .row)
   cell-column b m =
       let e = in-waiting v (length v) b m .0 in
       named-back p n A w v₀ (g .sized) (g .named) (b .row) (b .column) (sym (g .part (b .row) (λ z. absurd (omega (arith, e)))) ∙ e)
 
-  cell-degree : (b : Pair) → In b (waiting v) → getD d (b .row) 0 ≡ degree has (waiting v) b
+  cell-degree : (b : Pair) → Member b (waiting v) → getD d (b .row) 0 ≡ degree has (waiting v) b
   cell-degree b m = g .counted .cells (b .column) (b .row) (cell-column b m)
 
-  free-ready : (b : Pair) → In b (waiting v) → free has (waiting v) b ≡ true → ¬ (getD s (b .row) 0 ≡ 0)
+  free-ready : (b : Pair) → Member b (waiting v) → free has (waiting v) b ≡ true → ¬ (getD s (b .row) 0 ≡ 0)
   free-ready b m f =
       g .marked .all (b .row) (λ z. absurd (omega (arith, in-waiting v (length v) b m .0)))
       (cell-degree b m ∙ eqb-true (degree has (waiting v) b) 0 (sym (free-degree has (waiting v) b) ∙ f))
@@ -91,7 +91,7 @@ module _ (p n : ℕ) (A : Compressed) (w v₀ v d s : List ℕ) (g : Stage p n A
             least = λ b m f. ready-from (b .row) (free-ready b m f);
           }
         where
-          here : In (pairAt k (waits .0)) (waiting v)
+          here : Member (pairAt k (waits .0)) (waiting v)
           here = waiting-in v (length v) k (waits .0) (omega (arith, g .v-long, g .ready-long)) (waits .1)
 
     pub none-ready : length s ≤ k → ordered has (length (waiting v)) (waiting v) ≡ []

@@ -17,7 +17,7 @@ use lib.ListN.{length, getD, set, length-append, length-set}
 use lib.Seq.{getD-set-same, getD-set-other}
 use borrow.Author.Tests.{eq-eqb, ne-eqb}
 use Rattle.elimination.specs.Structural.{Pair}
-use Rattle.elimination.specs.Members.{In}
+use Rattle.lists.specs.Members.{Member}
 use Rattle.elimination.specs.Selection.{pairAt, without, Apart}
 use Rattle.elimination.proofs.Members.{in-snoc, in-front, in-last, apart-snoc}
 use Rattle.factor_arrange.specs.Waiting.{pairNamed, waitingTo, waiting}
@@ -46,27 +46,26 @@ module _ (v : List ℕ) where
 
   -- ---- which pairs wait
 
-  pub in-waiting : (k : ℕ) (b : Pair) → In b (waitingTo v k) → (getD v (b .row) 0 ≡ suc (b .column)) × (b .row < k)
-  unfolding In
+  pub in-waiting : (k : ℕ) (b : Pair) → Member b (waitingTo v k) → (getD v (b .row) 0 ≡ suc (b .column)) × (b .row < k)
   in-waiting k b =
-      each (λ k ws. In b ws → (getD v (b .row) 0 ≡ suc (b .column)) × (b .row < k)) (λ m. absurd m) (λ i ws e ih m. let r = ih m in (r .0, omega (arith, r .1)))
+      each (λ k ws. Member b ws → (getD v (b .row) 0 ≡ suc (b .column)) × (b .row < k)) (λ m. absurd m) (λ i ws e ih m. let r = ih m in (r .0, omega (arith, r .1)))
       (λ i c e ih m. go i c e ih (in-snoc (waitingTo v i) (pairAt i c) b m)) k
     where
-      go : (i c : ℕ) → getD v i 0 ≡ suc c → (In b (waitingTo v i) → (getD v (b .row) 0 ≡ suc (b .column)) × (b .row < i)) → In b (waitingTo v i) ⊎ (b ≡ pairAt i c)
+      go : (i c : ℕ) → getD v i 0 ≡ suc c → (Member b (waitingTo v i) → (getD v (b .row) 0 ≡ suc (b .column)) × (b .row < i)) → Member b (waitingTo v i) ⊎ (b ≡ pairAt i c)
           → (getD v (b .row) 0 ≡ suc (b .column)) × (b .row < suc i)
       go i c e ih (inl m) = let r = ih m in (r .0, omega (arith, r .1))
       go i c e ih (inr s) =
           (ap (λ (x : Pair). getD v (x .row) 0) s ∙ e ∙ ap (λ (x : Pair). suc (x .column)) (sym s), omega (arith, ap (λ (x : Pair). x .row) s))
 
-  pub waiting-in : (k i c : ℕ) → i < k → getD v i 0 ≡ suc c → In (pairAt i c) (waitingTo v k)
+  pub waiting-in : (k i c : ℕ) → i < k → getD v i 0 ≡ suc c → Member (pairAt i c) (waitingTo v k)
   unfolding waitingTo
   waiting-in zero i c h e = absurd (omega arith)
   waiting-in (suc k) i c h e = go (ℕ-discrete i k) (λ l. waiting-in k i c l e)
     where
-      go : Dec (i ≡ k) → (i < k → In (pairAt i c) (waitingTo v k)) → In (pairAt i c) (waitingTo v k ++ pairNamed k (getD v k 0))
+      go : Dec (i ≡ k) → (i < k → Member (pairAt i c) (waitingTo v k)) → Member (pairAt i c) (waitingTo v k ++ pairNamed k (getD v k 0))
       go (yes s) ih =
-          subst (λ (j : ℕ). In (pairAt i c) (waitingTo v j ++ pairNamed j (getD v j 0))) s
-          (subst (λ (x : ℕ). In (pairAt i c) (waitingTo v i ++ pairNamed i x)) (sym e) (in-last (waitingTo v i) (pairAt i c)))
+          subst (λ (j : ℕ). Member (pairAt i c) (waitingTo v j ++ pairNamed j (getD v j 0))) s
+          (subst (λ (x : ℕ). Member (pairAt i c) (waitingTo v i ++ pairNamed i x)) (sym e) (in-last (waitingTo v i) (pairAt i c)))
       go (no s) ih = in-front (waitingTo v k) (pairNamed k (getD v k 0)) (pairAt i c) (ih (omega arith))
 
   pub waiting-apart : (k : ℕ) → Apart (waitingTo v k)

@@ -10,16 +10,16 @@ use lib.ListN.{length, getD, length-append, List·getD-append}
 use lib.Seq.{getD-at}
 use Rattle.lists.proofs.Bools.{or-cases}
 use Rattle.algebra.specs.Matrix.{vector}
-use Rattle.elimination.specs.Members.{isIn}
+use Rattle.lists.specs.Tests.{among}
 use Rattle.elimination.specs.Factoring.{rest}
-use Rattle.elimination.proofs.Completion.{completed-isIn, rest-each}
-use Rattle.elimination.proofs.Listed.{isIn-append, isIn-place}
+use Rattle.elimination.proofs.Completion.{completed-among, rest-each}
+use Rattle.elimination.proofs.Listed.{among-append, among-place}
 use Rattle.factor_dense.specs.Block.{LeftColumns}
 
 rest-rising : (xs : List ℕ) (n a b : ℕ) → a < b → b < length (rest xs n) → getD (rest xs n) a 0 < getD (rest xs n) b 0
 unfolding rest
 rest-rising xs zero a b lt h = absurd (omega arith)
-rest-rising xs (suc n) a b lt h = go (isIn xs n) h (rest-rising xs n a b lt)
+rest-rising xs (suc n) a b lt h = go (among n xs) h (rest-rising xs n a b lt)
   where
     go : (t : Bool) → b < length (rest xs n ++ cond t [] (n ∷ [])) → (b < length (rest xs n) → getD (rest xs n) a 0 < getD (rest xs n) b 0)
         → getD (rest xs n ++ cond t [] (n ∷ [])) a 0 < getD (rest xs n ++ cond t [] (n ∷ [])) b 0
@@ -38,6 +38,6 @@ rest-left C m =
       inside = rest-each C m;
       rising = rest-rising C m;
       covers = λ j h.
-          ⊎-elim (λ e. inl (isIn-place C j e)) (λ e. inr (isIn-place (rest C m) j e))
-          (or-cases (isIn C j) (isIn (rest C m) j) (sym (isIn-append C (rest C m) j) ∙ completed-isIn C m j h));
+          ⊎-elim (λ e. inl (among-place C j e)) (λ e. inr (among-place (rest C m) j e))
+          (or-cases (among j C) (among j (rest C m)) (sym (among-append C (rest C m) j) ∙ completed-among C m j h));
     }

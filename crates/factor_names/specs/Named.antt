@@ -8,17 +8,17 @@ use mathlib.Core.List.{List}
 use lib.ListN.{length, getD}
 use Rattle.sparse.specs.Matrix.{Compressed}
 use Rattle.elimination.specs.Structural.{Pair}
-use Rattle.elimination.specs.Members.{In}
+use Rattle.lists.specs.Members.{Member}
 use Rattle.elimination.specs.Selection.{pairAt}
 use Rattle.elimination.specs.Rules.{pivotsTo}
 
 pub record ByColumn (w : List ℕ) (ps : List Pair) : Type 0 where
-  pub right : (c i : ℕ) → getD w c 0 ≡ suc i → In (pairAt i c) ps
-  pub all : (b : Pair) → In b ps → getD w (b .column) 0 ≡ suc (b .row)
+  pub right : (c i : ℕ) → getD w c 0 ≡ suc i → Member (pairAt i c) ps
+  pub all : (b : Pair) → Member b ps → getD w (b .column) 0 ≡ suc (b .row)
 
 pub record ByRow (v : List ℕ) (ps : List Pair) : Type 0 where
-  pub right : (i c : ℕ) → getD v i 0 ≡ suc c → In (pairAt i c) ps
-  pub all : (b : Pair) → In b ps → getD v (b .row) 0 ≡ suc (b .column)
+  pub right : (i c : ℕ) → getD v i 0 ≡ suc c → Member (pairAt i c) ps
+  pub all : (b : Pair) → Member b ps → getD v (b .row) 0 ≡ suc (b .column)
 
 pub record Named (A : Compressed) (n m i : ℕ) (w v : List ℕ) : Type 0 where
   pub columns-long : length w ≡ m

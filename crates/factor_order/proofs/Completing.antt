@@ -15,14 +15,15 @@ use Rattle.lists.specs.Tabulate.{tabulate}
 use Rattle.lists.proofs.Filled.{Clearing, zeros-at, clearing-starts, clearing-turn, clearing-ends, clearing-cell}
 use Rattle.lists.proofs.Tabulate.{length-tabulate, tabulate-at, tabulated}
 use Rattle.algebra.specs.Matrix.{Distinct, vector}
-use Rattle.elimination.specs.Members.{isIn}
+use Rattle.lists.specs.Tests.{among}
 use Rattle.elimination.specs.Factoring.{rest}
-use Rattle.elimination.proofs.Listed.{isIn-append}
+use Rattle.elimination.proofs.Listed.{among-append}
 use Rattle.elimination.proofs.Completion.{completed-length}
 use Rattle.factor_order.specs.Needs.{Completable}
-use Rattle.factor_order.specs.Written.{Written}
+use Rattle.lists.specs.Stored.{Stored}
 use Rattle.factor_order.specs.Completion.{marked, unmarked, AppendReady, Completed}
-use Rattle.factor_order.proofs.Writing.{written-none, written-one, written-then, written-length, written-end, rising}
+use Rattle.lists.proofs.Stored.{stored-none, stored-one, stored-then, stored-length, stored-to-end}
+use Rattle.factor_order.proofs.Rising.{rising}
 
 -- ---- marking: the marks are those of the numbers passed
 
@@ -31,13 +32,13 @@ pub record Marking (xs w₀ w : List ℕ) (i : ℕ) : Type 0 where
   pub marks : (x : ℕ) → getD w x 0 ≡ marked (take i xs) x
 
 -- one number more
-isIn-snoc : (xs : List ℕ) (v x : ℕ) → isIn (xs ++ (v ∷ [])) x ≡ (isIn xs x || eqb v x)
-unfolding isIn
-isIn-snoc xs v x = isIn-append xs (v ∷ []) x ∙ ap (λ (b : Bool). isIn xs x || b) (or-false (eqb v x))
+among-snoc : (xs : List ℕ) (v x : ℕ) → among x (xs ++ (v ∷ [])) ≡ (among x xs || eqb x v)
+unfolding among
+among-snoc xs v x = among-append xs (v ∷ []) x ∙ ap (λ (b : Bool). among x xs || b) (or-false (eqb x v))
 
 module _ (xs w₀ : List ℕ) where
   pub marking-starts : w₀ ≡ zeros (length xs) → Marking xs w₀ w₀ 0
-  unfolding isIn
+  unfolding among
   marking-starts z = record { long = refl; marks = λ x. ap (λ (l : List ℕ). getD l x 0) z ∙ zeros-at (length xs) x }
 
   pub marking-turn : (w : List ℕ) (i v : ℕ) → i < length xs → v ≡ getD xs i 0 → v < length w → Marking xs w₀ w i → Marking xs w₀ (set w v 1) (i + 1)
@@ -51,11 +52,11 @@ module _ (xs w₀ : List ℕ) where
       at x (yes q) =
           ap (λ (k : ℕ). getD (set w v 1) k 0) (sym q)
           ∙ getD-set-same w v 1 0 b
-          ∙ ap (λ (t : Bool). cond t 1 0) (sym (isIn-snoc (take i xs) v x ∙ ap (λ (t : Bool). isIn (take i xs) x || t) (eq-eqb v x q) ∙ or-true (isIn (take i xs) x)))
+          ∙ ap (λ (t : Bool). cond t 1 0) (sym (among-snoc (take i xs) v x ∙ ap (λ (t : Bool). among x (take i xs) || t) (eq-eqb x v (sym q)) ∙ or-true (among x (take i xs))))
       at x (no q) =
           getD-set-other w v x 1 0 (λ y. q (sym y))
           ∙ s .marks x
-          ∙ ap (λ (t : Bool). cond t 1 0) (sym (isIn-snoc (take i xs) v x ∙ ap (λ (t : Bool). isIn (take i xs) x || t) (ne-eqb v x q) ∙ or-false (isIn (take i xs) x)))
+          ∙ ap (λ (t : Bool). cond t 1 0) (sym (among-snoc (take i xs) v x ∙ ap (λ (t : Bool). among x (take i xs) || t) (ne-eqb x v (λ e. q (sym e))) ∙ or-false (among x (take i xs))))
 
   pub marking-ends : (w : List ℕ) (k i : ℕ) → length w₀ ≡ length xs → i ≡ k → Marking xs w₀ w i → w ≡ tabulate (length xs) (marked (take k xs))
   marking-ends w k i long e s =
@@ -67,17 +68,17 @@ module _ (xs w₀ : List ℕ) where
 pub one-unmarked : (v x : ℕ) → v ≡ 0 → unmarked v x ≡ x ∷ []
 one-unmarked v x e = ap (λ (y : ℕ). unmarked y x) e
 
-pub append-marked : (v x at : ℕ) (l : List ℕ) → (v ≡ 0 → ⊥) → Written (unmarked v x) at l l at
+pub append-marked : (v x at : ℕ) (l : List ℕ) → (v ≡ 0 → ⊥) → Stored l l at at (unmarked v x)
 append-marked zero x at l h = absurd (h refl)
-append-marked (suc v) x at l h = written-none at l
+append-marked (suc v) x at l h = stored-none
 
-pub append-one : (v x at : ℕ) (l : List ℕ) → v ≡ 0 → Written (unmarked v x) at l (set l at x) (at + 1)
-append-one v x at l e = rw (one-unmarked v x e) (written-one x at l)
+pub append-one : (v x at : ℕ) (l : List ℕ) → v ≡ 0 → Stored l (set l at x) at (at + 1) (unmarked v x)
+append-one v x at l e = rw (one-unmarked v x e) (stored-one l at x)
 
 -- a number that is among xs is not among the others
 pub rest-turn : (xs : List ℕ) (x v : ℕ) → v ≡ marked xs x → rest xs (x + 1) ≡ rest xs x ++ unmarked v x
 unfolding rest
-rest-turn xs x v e = ap (rest xs) (add-one x) ∙ ap (λ (l : List ℕ). rest xs x ++ l) (go (isIn xs x) ∙ ap (λ (y : ℕ). unmarked y x) (sym e))
+rest-turn xs x v e = ap (rest xs) (add-one x) ∙ ap (λ (l : List ℕ). rest xs x ++ l) (go (among x xs) ∙ ap (λ (y : ℕ). unmarked y x) (sym e))
   where
     go : (b : Bool) → cond b [] (x ∷ []) ≡ unmarked (cond b 1 0) x
     go true = refl
@@ -85,11 +86,11 @@ rest-turn xs x v e = ap (rest xs) (add-one x) ∙ ap (λ (l : List ℕ). rest xs
 
 rest-grows : (xs : List ℕ) (a b : ℕ) → a ≤ b → length (rest xs a) ≤ length (rest xs b)
 unfolding rest
-rest-grows xs a b h = rising (λ k. length (rest xs k)) (λ k. omega (arith, length-append (rest xs k) (cond (isIn xs k) [] (k ∷ [])))) a b h
+rest-grows xs a b h = rising (λ k. length (rest xs k)) (λ k. omega (arith, length-append (rest xs k) (cond (among k xs) [] (k ∷ [])))) a b h
 
 pub record Appending (k : ℕ) (xs₀ w₀ xs w : List ℕ) (at x : ℕ) : Type 0 where
   pub clearing : Clearing w₀ w x
-  pub written : Written (rest (take k xs₀) x) k xs₀ xs at
+  pub written : Stored xs₀ xs k at (rest (take k xs₀) x)
 
 module _ (k : ℕ) (xs₀ w₀ : List ℕ) (r : AppendReady k xs₀ w₀) where
   abbrev given : List ℕ
@@ -100,7 +101,7 @@ module _ (k : ℕ) (xs₀ w₀ : List ℕ) (r : AppendReady k xs₀ w₀) where
 
   pub appending-starts : Appending k xs₀ w₀ xs₀ w₀ k 0
   unfolding rest
-  appending-starts = record { clearing = clearing-starts w₀; written = written-none k xs₀ }
+  appending-starts = record { clearing = clearing-starts w₀; written = stored-none }
 
   module _ (xs w : List ℕ) (at x : ℕ) (s : Appending k xs₀ w₀ xs w at x) where
     next : x < length w₀ → rest given (x + 1) ≡ rest given x ++ unmarked (getD w x 0) x
@@ -112,20 +113,20 @@ module _ (k : ℕ) (xs₀ w₀ : List ℕ) (r : AppendReady k xs₀ w₀) where
     appending-room h =
         omega (
           arith,
-          s .written .place,
-          written-length (s .written),
+          s .written .next-is,
+          stored-length (s .written),
           ap length (next h) ∙ length-append (rest given x) (unmarked (getD w x 0) x),
           rest-grows given (x + 1) (length xs₀) (omega (arith, marks-long)),
           r .room,
         )
 
-    pub appending-turn : (xs′ : List ℕ) (at′ : ℕ) → x < length w₀ → Written (unmarked (getD w x 0) x) at xs xs′ at′ → Appending k xs₀ w₀ xs′ (set w x 0) at′ (x + 1)
-    appending-turn xs′ at′ h d = record { clearing = clearing-turn w₀ w x h (s .clearing); written = rw (next h) (written-then (s .written) d) }
+    pub appending-turn : (xs′ : List ℕ) (at′ : ℕ) → x < length w₀ → Stored xs xs′ at at′ (unmarked (getD w x 0) x) → Appending k xs₀ w₀ xs′ (set w x 0) at′ (x + 1)
+    appending-turn xs′ at′ h d = record { clearing = clearing-turn w₀ w x h (s .clearing); written = rw (next h) (stored-then (s .written) d) }
 
     pub appending-ends : length w₀ ≤ x → Completed k xs₀ xs w
     appending-ends h =
         record {
-          order = written-end (r .room) (rw (let e : x ≡ length xs₀ = omega (arith, marks-long, s .clearing .inside) in e) at (s .written));
+          order = stored-to-end (r .room) (rw (let e : x ≡ length xs₀ = omega (arith, marks-long, s .clearing .inside) in e) at (s .written));
           cleared = clearing-ends w₀ w x h (s .clearing) ∙ ap zeros marks-long;
         }
 

@@ -1,4 +1,4 @@
-pub mod Writing
+pub mod Rising
 pub mod Completing
 pub mod Choosing
 pub mod Selecting

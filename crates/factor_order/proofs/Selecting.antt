@@ -12,7 +12,7 @@ use Rattle.lists.specs.Filled.{zeros}
 use Rattle.lists.proofs.Filled.{length-zeros}
 use Rattle.sparse.specs.Matrix.{Compressed}
 use Rattle.elimination.specs.Structural.{Pair, paired, chosen, leading}
-use Rattle.elimination.specs.Members.{In}
+use Rattle.lists.specs.Members.{Member}
 use Rattle.elimination.specs.Selection.{pairAt}
 use Rattle.factor_names.specs.Sized.{SmallMatrix}
 use Rattle.factor_names.specs.Named.{ByColumn, Named}
@@ -23,44 +23,39 @@ use Rattle.factor_order.specs.Search.{rowIn, Chosen, ChooseReady, PairsF
 
 -- ---- the pairs of the first columns
 
-in-left : (q : Pair) (xs ys : List Pair) → In q xs → In q (xs ++ ys)
-unfolding In
+in-left : (q : Pair) (xs ys : List Pair) → Member q xs → Member q (xs ++ ys)
 in-left q (x ∷ xs) ys (inl e) = inl e
 in-left q (x ∷ xs) ys (inr m) = inr (in-left q xs ys m)
 
-in-right : (q : Pair) (xs ys : List Pair) → In q ys → In q (xs ++ ys)
-unfolding In
+in-right : (q : Pair) (xs ys : List Pair) → Member q ys → Member q (xs ++ ys)
 in-right q [] ys m = m
 in-right q (x ∷ xs) ys m = inr (in-right q xs ys m)
 
-in-either : (q : Pair) (xs ys : List Pair) → In q (xs ++ ys) → In q xs ⊎ In q ys
-unfolding In
+in-either : (q : Pair) (xs ys : List Pair) → Member q (xs ++ ys) → Member q xs ⊎ Member q ys
 in-either q [] ys m = inr m
 in-either q (x ∷ xs) ys (inl e) = inl (inl e)
 in-either q (x ∷ xs) ys (inr m) = elim (in-either q xs ys m) [ inl k ↦ inl (inr k) | inr k ↦ inr k ]
 
-paired-in : (c i : ℕ) (o : Option ℕ) → o ≡ some i → In (pairAt i c) (paired c o)
-unfolding In
-paired-in c i o e = subst (λ (x : Option ℕ). In (pairAt i c) (paired c x)) (sym e) (inl refl)
+paired-in : (c i : ℕ) (o : Option ℕ) → o ≡ some i → Member (pairAt i c) (paired c o)
+paired-in c i o e = subst (λ (x : Option ℕ). Member (pairAt i c) (paired c x)) (sym e) (inl refl)
 
-in-paired : (c : ℕ) (b : Pair) (o : Option ℕ) → In b (paired c o) → (o ≡ some (b .row)) × (b .column ≡ c)
-unfolding In
+in-paired : (c : ℕ) (b : Pair) (o : Option ℕ) → Member b (paired c o) → (o ≡ some (b .row)) × (b .column ≡ c)
 in-paired c b (some i) (inl e) = (ap (λ (q : Pair). some (q .row)) (sym e), ap (λ (q : Pair). q .column) e)
 
-leading-in : (A : Compressed) (n m c i : ℕ) → c < m → chosen A c n ≡ some i → In (pairAt i c) (leading A n m)
+leading-in : (A : Compressed) (n m c i : ℕ) → c < m → chosen A c n ≡ some i → Member (pairAt i c) (leading A n m)
 unfolding leading
 leading-in A n zero c i h e = absurd (omega arith)
 leading-in A n (suc m) c i h e = go (eq-or-lt-of-le (le-of-suc-le-suc h)) (leading-in A n m c i)
   where
-    go : (c ≡ m) ⊎ (c < m) → (c < m → chosen A c n ≡ some i → In (pairAt i c) (leading A n m)) → In (pairAt i c) (leading A n m ++ paired m (chosen A m n))
-    go (inl q) ih = in-right (pairAt i c) (leading A n m) (paired m (chosen A m n)) (subst (λ (k : ℕ). In (pairAt i c) (paired k (chosen A k n))) q (paired-in c i (chosen A c n) e))
+    go : (c ≡ m) ⊎ (c < m) → (c < m → chosen A c n ≡ some i → Member (pairAt i c) (leading A n m)) → Member (pairAt i c) (leading A n m ++ paired m (chosen A m n))
+    go (inl q) ih = in-right (pairAt i c) (leading A n m) (paired m (chosen A m n)) (subst (λ (k : ℕ). Member (pairAt i c) (paired k (chosen A k n))) q (paired-in c i (chosen A c n) e))
     go (inr l) ih = in-left (pairAt i c) (leading A n m) (paired m (chosen A m n)) (ih l e)
 
-in-leading : (A : Compressed) (n m : ℕ) (b : Pair) → In b (leading A n m) → (b .column < m) × (chosen A (b .column) n ≡ some (b .row))
-unfolding leading In
+in-leading : (A : Compressed) (n m : ℕ) (b : Pair) → Member b (leading A n m) → (b .column < m) × (chosen A (b .column) n ≡ some (b .row))
+unfolding leading
 in-leading A n (suc m) b k = go (in-either b (leading A n m) (paired m (chosen A m n)) k) (in-leading A n m b)
   where
-    go : In b (leading A n m) ⊎ In b (paired m (chosen A m n)) → (In b (leading A n m) → (b .column < m) × (chosen A (b .column) n ≡ some (b .row))) → (b .column < suc m) × (chosen A (b .column) n ≡ some (b .row))
+    go : Member b (leading A n m) ⊎ Member b (paired m (chosen A m n)) → (Member b (leading A n m) → (b .column < m) × (chosen A (b .column) n ≡ some (b .row))) → (b .column < suc m) × (chosen A (b .column) n ≡ some (b .row))
     go (inl x) ih = let r = ih x in (omega (arith, r .0), r .1)
     go (inr x) ih = let r = in-paired m b (chosen A m n) x in (omega (arith, r .1), ap (λ (k : ℕ). chosen A k n) (r .1) ∙ r .0)
 

@@ -10,11 +10,11 @@ use mathlib.Core.List.{List, [], _∷_, _++_}
 use lib.ListN.{length, take}
 use Rattle.lists.specs.Filled.{zeros}
 use Rattle.lists.specs.Tabulate.{tabulate}
-use Rattle.elimination.specs.Members.{isIn}
+use Rattle.lists.specs.Tests.{among}
 use Rattle.elimination.specs.Factoring.{rest}
 
 abbrev pub marked : List ℕ → ℕ → ℕ
-marked xs x = cond (isIn xs x) 1 0
+marked xs x = cond (among x xs) 1 0
 
 abbrev pub unmarked : ℕ → ℕ → List ℕ
 unmarked zero x = x ∷ []

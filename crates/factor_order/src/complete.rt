@@ -4,7 +4,7 @@ ghost use Prim.Native.Nat.{_+_, _≤_};
 ghost use lib.ListN.{length, take};
 ghost use Rattle.lists.specs.Tabulate.{tabulate};
 ghost use Rattle.factor_order.specs.Needs.{Completable};
-ghost use Rattle.factor_order.specs.Written.{Written};
+ghost use Rattle.lists.specs.Stored.{Stored};
 ghost use Rattle.factor_order.specs.Completion.{marked, unmarked, AppendReady, Completed};
 ghost use Rattle.sparse.specs.Views.{before, after};
 use lists::index;
@@ -25,7 +25,7 @@ fn mark(k: usize, list: &[u32], marks: &mut [u64])
 // Writes x at place `at` unless it is marked; gives the next place.
 fn append(x: u32, v: u64, at: usize, list: &mut [u32]) -> usize
     requires { ⌜ at + length (unmarked v x) ≤ length (now list) ⌝ }
-    ensures { λ next. ⌜ Written (unmarked v x) at (before list) (after list) next ⌝ }
+    ensures { λ next. ⌜ Stored (before list) (after list) at next (unmarked v x) ⌝ }
 {
     if v != 0 {
         return at;

@@ -14,7 +14,7 @@ use Rattle.lists.specs.Filled.{zeros}
 use Rattle.lists.proofs.Filled.{zeros-at, length-zeros}
 use Rattle.sparse.specs.Matrix.{Compressed, matrix}
 use Rattle.elimination.specs.Structural.{Pair, leading}
-use Rattle.elimination.specs.Members.{In}
+use Rattle.lists.specs.Members.{Member}
 use Rattle.elimination.specs.Selection.{nonzero, pairAt, Apart}
 use Rattle.elimination.proofs.Members.{in-front, in-last, in-snoc, apart-same}
 use Rattle.elimination.proofs.Pairs.{leading-pairs}
@@ -25,20 +25,20 @@ use Rattle.factor_select.specs.Needs.{NameReady}
 -- ---- one pair more, by columns and by rows alike
 
 module _ (key value : Pair → ℕ) (pair : ℕ → ℕ → Pair) (ps : List Pair) (w : List ℕ) (k x : ℕ) (inside : k < length w) (unnamed : getD w k 0 ≡ 0) where
-  added-right : ((l y : ℕ) → getD w l 0 ≡ suc y → In (pair l y) ps) → (l y : ℕ) → getD (set w k (x + 1)) l 0 ≡ suc y → In (pair l y) (ps ++ (pair k x ∷ []))
+  added-right : ((l y : ℕ) → getD w l 0 ≡ suc y → Member (pair l y) ps) → (l y : ℕ) → getD (set w k (x + 1)) l 0 ≡ suc y → Member (pair l y) (ps ++ (pair k x ∷ []))
   added-right right l y e = go (ℕ-discrete l k)
     where
-      go : Dec (l ≡ k) → In (pair l y) (ps ++ (pair k x ∷ []))
+      go : Dec (l ≡ k) → Member (pair l y) (ps ++ (pair k x ∷ []))
       go (yes q) =
           let same : x ≡ y = omega (arith, getD-set-same w k (x + 1) 0 inside, sym (ap (λ (t : ℕ). getD (set w k (x + 1)) t 0) q) ∙ e) in
-          subst (λ (a : Pair). In a (ps ++ (pair k x ∷ []))) (λ t. pair (sym q t) (same t)) (in-last ps (pair k x))
+          subst (λ (a : Pair). Member a (ps ++ (pair k x ∷ []))) (λ t. pair (sym q t) (same t)) (in-last ps (pair k x))
       go (no q) = in-front ps (pair k x ∷ []) (pair l y) (right l y (sym (getD-set-other w k l (x + 1) 0 q) ∙ e))
 
-  added-all : ((b : Pair) → In b ps → getD w (key b) 0 ≡ suc (value b)) → key (pair k x) ≡ k → value (pair k x) ≡ x
-      → (b : Pair) → In b (ps ++ (pair k x ∷ [])) → getD (set w k (x + 1)) (key b) 0 ≡ suc (value b)
+  added-all : ((b : Pair) → Member b ps → getD w (key b) 0 ≡ suc (value b)) → key (pair k x) ≡ k → value (pair k x) ≡ x
+      → (b : Pair) → Member b (ps ++ (pair k x ∷ [])) → getD (set w k (x + 1)) (key b) 0 ≡ suc (value b)
   added-all all key-is value-is b h = go (in-snoc ps (pair k x) b h)
     where
-      go : In b ps ⊎ (b ≡ pair k x) → getD (set w k (x + 1)) (key b) 0 ≡ suc (value b)
+      go : Member b ps ⊎ (b ≡ pair k x) → getD (set w k (x + 1)) (key b) 0 ≡ suc (value b)
       go (inl l) = getD-set-other w k (key b) (x + 1) 0 (λ e. absurd (omega (arith, all b l, ap (λ (t : ℕ). getD w t 0) e, unnamed))) ∙ all b l
       go (inr e) =
           ap (λ (t : ℕ). getD (set w k (x + 1)) t 0) (ap key e ∙ key-is)
@@ -61,8 +61,8 @@ added-row ps v i c inside unnamed h =
 -- ---- from the columns to the rows, one column more at a time
 
 pub record NamedBelow (ps : List Pair) (v : List ℕ) (c : ℕ) : Type 0 where
-  pub right : (i d : ℕ) → getD v i 0 ≡ suc d → In (pairAt i d) ps × (d < c)
-  pub all : (b : Pair) → In b ps → b .column < c → getD v (b .row) 0 ≡ suc (b .column)
+  pub right : (i d : ℕ) → getD v i 0 ≡ suc d → Member (pairAt i d) ps × (d < c)
+  pub all : (b : Pair) → Member b ps → b .column < c → getD v (b .row) 0 ≡ suc (b .column)
 
 pub below-starts : (ps : List Pair) (n : ℕ) (v : List ℕ) → v ≡ zeros n → NamedBelow ps v 0
 below-starts ps n v z =
@@ -80,7 +80,7 @@ module _ (ps : List Pair) (w v : List ℕ) (c : ℕ) (named : ByColumn w ps) (h 
         all = λ b l s. h .all b l (lower b l s (ℕ-discrete (b .column) c));
       }
     where
-      lower : (b : Pair) → In b ps → b .column < c + 1 → Dec (b .column ≡ c) → b .column < c
+      lower : (b : Pair) → Member b ps → b .column < c + 1 → Dec (b .column ≡ c) → b .column < c
       lower b l s (yes q) = absurd (omega (arith, named .all b l, ap (λ (t : ℕ). getD w t 0) q, e))
       lower b l s (no q) = omega arith
 
@@ -92,16 +92,16 @@ module _ (ps : List Pair) (w v : List ℕ) (c : ℕ) (named : ByColumn w ps) (h 
         all = λ b l s. all b l s (ℕ-discrete (b .row) i);
       }
     where
-      pair-in : In (pairAt i c) ps
+      pair-in : Member (pairAt i c) ps
       pair-in = named .right c i e
 
-      right : (k d : ℕ) → getD (set v i (c + 1)) k 0 ≡ suc d → Dec (k ≡ i) → In (pairAt k d) ps × (d < c + 1)
+      right : (k d : ℕ) → getD (set v i (c + 1)) k 0 ≡ suc d → Dec (k ≡ i) → Member (pairAt k d) ps × (d < c + 1)
       right k d q (yes r) =
           let same : c ≡ d = omega (arith, getD-set-same v i (c + 1) 0 inside, sym (ap (λ (t : ℕ). getD (set v i (c + 1)) t 0) r) ∙ q) in
-          (subst (λ (a : Pair). In a ps) (λ t. pairAt (sym r t) (same t)) pair-in, omega (arith, same))
+          (subst (λ (a : Pair). Member a ps) (λ t. pairAt (sym r t) (same t)) pair-in, omega (arith, same))
       right k d q (no r) = let s = h .right k d (sym (getD-set-other v i k (c + 1) 0 r) ∙ q) in (s .0, omega (arith, s .1))
 
-      all : (b : Pair) → In b ps → b .column < c + 1 → Dec (b .row ≡ i) → getD (set v i (c + 1)) (b .row) 0 ≡ suc (b .column)
+      all : (b : Pair) → Member b ps → b .column < c + 1 → Dec (b .row ≡ i) → getD (set v i (c + 1)) (b .row) 0 ≡ suc (b .column)
       all b l s (yes r) =
           ap (λ (t : ℕ). getD (set v i (c + 1)) t 0) r
           ∙ omega (arith, getD-set-same v i (c + 1) 0 inside, ap (λ (a : Pair). a .column) (apart-same ps apart b (pairAt i c) l pair-in r))
@@ -111,7 +111,7 @@ module _ (ps : List Pair) (w v : List ℕ) (c : ℕ) (named : ByColumn w ps) (h 
           lower (yes q) = absurd (r (omega (arith, named .all b l, ap (λ (t : ℕ). getD w t 0) q, e)))
           lower (no q) = omega arith
 
-pub below-ends : (ps : List Pair) (v : List ℕ) (m c : ℕ) → m ≤ c → ((b : Pair) → In b ps → b .column < m) → NamedBelow ps v c → ByRow v ps
+pub below-ends : (ps : List Pair) (v : List ℕ) (m c : ℕ) → m ≤ c → ((b : Pair) → Member b ps → b .column < m) → NamedBelow ps v c → ByRow v ps
 below-ends ps v m c past inside h = record { right = λ i d e. h .right i d e .0; all = λ b l. h .all b l (omega (arith, inside b l)) }
 
 -- ---- document 01's pairs

@@ -17,7 +17,7 @@ use lib.ListN.{length, getD}
 use borrow.Author.Tests.{eqb-true, eq-eqb}
 use Rattle.sparse.specs.Matrix.{Compressed, matrix, rowOf}
 use Rattle.elimination.specs.Structural.{Pair, leading}
-use Rattle.elimination.specs.Members.{In}
+use Rattle.lists.specs.Members.{Member}
 use Rattle.elimination.specs.Chains.{one, Back, closes}
 use Rattle.elimination.specs.Selection.{nonzero, pairAt}
 use Rattle.elimination.proofs.Pairs.{leading-pairs}
@@ -32,7 +32,7 @@ use Rattle.factor_select.specs.Needs.{SearchReady}
 use Rattle.factor_select.proofs.Trails.{Got, visited-still, visited-kept}
 
 -- a way back goes on through a pivot of the column that it came to
-back-on : (has : ℕ → ℕ → Bool) (ps : List Pair) (i j : ℕ) (q : Pair) → In q ps → Back has ps i (q .column) → has (q .row) j ≡ true → Back has ps i j
+back-on : (has : ℕ → ℕ → Bool) (ps : List Pair) (i j : ℕ) (q : Pair) → Member q ps → Back has ps i (q .column) → has (q .row) j ≡ true → Back has ps i j
 back-on has ps i j q m b e =
     record {
       by = b .by;
@@ -76,7 +76,7 @@ module _ {p n i : ℕ} {A : Compressed} {w v stamps₀ queue₀ : List ℕ} {mar
       (pairs-sound n (length w) (matrix A) (leading A n (length w)) (leading-pairs p n (length w) A (h .sized .formed) (h .sized .rows)))
 
   -- a used column has a pivot
-  pivot : (c : ℕ) → Used w c → In (pairAt (rowAt w c) c) ps
+  pivot : (c : ℕ) → Used w c → Member (pairAt (rowAt w c) c) ps
   pivot c u = h .named .by-column .right c (rowAt w c) (omega arith)
 
   -- what holds of each stored column holds of each column with an entry
@@ -146,7 +146,7 @@ module _ {p n i : ℕ} {A : Compressed} {w v stamps₀ queue₀ : List ℕ} {mar
     pub next-named : 1 ≤ getD w c 0
     next-named = omega (arith, next-used)
 
-    next-pivot : In (pairAt (rowAt w c) c) ps
+    next-pivot : Member (pairAt (rowAt w c) c) ps
     next-pivot = pivot c next-used
 
     pub next-stored : RowWithin (A .starts) (A .cols) (rowAt w c)
@@ -197,7 +197,7 @@ module _ {p n i : ℕ} {A : Compressed} {w v stamps₀ queue₀ : List ℕ} {mar
 
   module _ {stamps₁ stamps queue : List ℕ} {tail head : ℕ} (g : Reaching A n i mark w stamps₁ stamps queue tail head) (over : tail ≤ head) where
     -- the column of a pivot that the row has, or that is stamped, was in the queue
-    pivot-whole : (q : Pair) → In q ps → (has i (q .column) ≡ true) ⊎ (getD stamps (q .column) 0 ≡ mark) → (j : ℕ) → has (q .row) j ≡ true → getD stamps j 0 ≡ mark
+    pivot-whole : (q : Pair) → Member q ps → (has i (q .column) ≡ true) ⊎ (getD stamps (q .column) 0 ≡ mark) → (j : ℕ) → has (q .row) j ≡ true → getD stamps j 0 ≡ mark
     pivot-whole q m d j e =
         let cell : getD w (q .column) 0 ≡ suc (q .row) = h .named .by-column .all q m in
         let used : Used w (q .column) = λ z. omega arith in

@@ -12,13 +12,12 @@ use native.Mathlib.Decide.{decLt, ℕ-discrete}
 use native.Mathlib.Omega.{arith}
 use lib.ListN.{length, getD}
 use borrow.Author.Tests.{ne-eqb}
-use Rattle.lists.specs.Tests.{first}
+use Rattle.lists.specs.Tests.{first, among}
 use Rattle.lists.proofs.Bools.{or-right}
 use Rattle.lists.proofs.Tests.{first-all, first-fails}
 use Rattle.sparse.specs.Matrix.{Compressed, matrix, rowOf}
 use Rattle.elimination.specs.Structural.{Pair}
 use Rattle.elimination.specs.Pairs.{pairColumns}
-use Rattle.elimination.specs.Members.{isIn}
 use Rattle.elimination.specs.Chains.{closes}
 use Rattle.elimination.specs.Selection.{nonzero, pairAt, unfit}
 use Rattle.elimination.specs.Rules.{pivotsTo}
@@ -34,25 +33,25 @@ use Rattle.factor_select.proofs.Reaching.{Reaching, kept-then, reaching
 module _ (has : ℕ → ℕ → Bool) (ps : List Pair) (i j : ℕ) where
   absent-unfit : has i j ≡ false → unfit has ps i j ≡ true
   unfolding unfit
-  absent-unfit e = ap (λ (t : Bool). not t || (isIn (pairColumns ps) j || closes has ps i j)) e
+  absent-unfit e = ap (λ (t : Bool). not t || (among j (pairColumns ps) || closes has ps i j)) e
 
-  pub used-unfit : isIn (pairColumns ps) j ≡ true → unfit has ps i j ≡ true
+  pub used-unfit : among j (pairColumns ps) ≡ true → unfit has ps i j ≡ true
   unfolding unfit
   used-unfit e = or-right (not (has i j)) (ap (λ (t : Bool). t || closes has ps i j) e)
 
   closing-unfit : closes has ps i j ≡ true → unfit has ps i j ≡ true
   unfolding unfit
-  closing-unfit e = or-right (not (has i j)) (or-right (isIn (pairColumns ps) j) e)
+  closing-unfit e = or-right (not (has i j)) (or-right (among j (pairColumns ps)) e)
 
-  fit-here : has i j ≡ true → isIn (pairColumns ps) j ≡ false → closes has ps i j ≡ false → unfit has ps i j ≡ false
+  fit-here : has i j ≡ true → among j (pairColumns ps) ≡ false → closes has ps i j ≡ false → unfit has ps i j ≡ false
   unfolding unfit
   fit-here e f g = λ t. not (e t) || (f t || g t)
 
 module _ (w : List ℕ) (ps : List Pair) (named : ByColumn w ps) (j : ℕ) where
-  pub column-used : Used w j → isIn (pairColumns ps) j ≡ true
+  pub column-used : Used w j → among j (pairColumns ps) ≡ true
   column-used h = in-named (λ q. q .column) ps (pairAt (getD w j 0 - 1) j) (named .right j (getD w j 0 - 1) (omega arith))
 
-  column-unused : getD w j 0 ≡ 0 → isIn (pairColumns ps) j ≡ false
+  column-unused : getD w j 0 ≡ 0 → among j (pairColumns ps) ≡ false
   column-unused e = none-named (λ q. q .column) ps j (λ q h r. omega (arith, named .all q h, ap (λ (t : ℕ). getD w t 0) r, e))
 
 module _ {p n i : ℕ} {A : Compressed} {w v stamps₀ queue₀ : List ℕ} {mark : ℕ} (h : SearchReady p n i A w v stamps₀ queue₀ mark) where

@@ -19,7 +19,7 @@ use Rattle.lists.proofs.Tests.{first-before, first-here}
 use Rattle.sparse.specs.Matrix.{Compressed, matrix}
 use Rattle.elimination.specs.Structural.{Pair, leading}
 use Rattle.elimination.specs.Pairs.{pairRows}
-use Rattle.elimination.specs.Members.{isIn}
+use Rattle.lists.specs.Tests.{among}
 use Rattle.elimination.specs.Selection.{nonzero, pairAt, unfit, extended, extendedTo}
 use Rattle.elimination.specs.Rules.{pivotsTo}
 use Rattle.elimination.proofs.Members.{in-named, none-named}
@@ -46,10 +46,10 @@ module _ (p n i : ℕ) (A : Compressed) (w v stamps₀ queue₀ : List ℕ) (rea
 
   -- ---- whether it is chosen, by its cell
 
-  row-chosen : ¬ (getD v i 0 ≡ 0) → isIn (pairRows ps) i ≡ true
+  row-chosen : ¬ (getD v i 0 ≡ 0) → among i (pairRows ps) ≡ true
   row-chosen h = in-named (λ q. q .row) ps (pairAt i (getD v i 0 - 1)) (named .by-row .right i (getD v i 0 - 1) (omega arith))
 
-  row-left : getD v i 0 ≡ 0 → isIn (pairRows ps) i ≡ false
+  row-left : getD v i 0 ≡ 0 → among i (pairRows ps) ≡ false
   row-left e = none-named (λ q. q .row) ps i (λ q h r. omega (arith, named .by-row .all q h, ap (λ (t : ℕ). getD v t 0) r, e))
 
   next : pivotsTo A n m (i + 1) ≡ extended has m ps i

@@ -1,4 +1,3 @@
 pub mod Grouping
-pub mod Members
 pub mod Repeats
 pub mod Needs

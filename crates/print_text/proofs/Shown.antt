@@ -9,7 +9,7 @@ use Rattle.refusals.specs.declared.Outcome.{Outcome}
 use Rattle.refusals.specs.declared.Outcome.the-variants.{Passed, Refused}
 use Rattle.lists.proofs.Filled.{filled-cut}
 use Rattle.refusals.proofs.Refusals.{RefusedBy}
-use Rattle.byte_buffer.specs.Stored.{Fills}
+use Rattle.byte_buffer.specs.Fills.{Fills}
 use Rattle.print_text.specs.Printed.{printed, PrintsRefusal}
 
 pub fills-shown : (b₀ b : List ℕ) (size : ℕ) (ys : List ℕ) → Fills b₀ b size ys → take size b ≡ ys

@@ -14,7 +14,7 @@ use Rattle.lists.specs.Filled.{zeros}
 use Rattle.lists.specs.Tests.{among}
 use Rattle.refusals.specs.declared.Outcome.{Outcome}
 use Rattle.refusals.specs.declared.Outcome.the-variants.{Passed, Refused}
-use Rattle.byte_buffer.specs.Stored.{Fills}
+use Rattle.byte_buffer.specs.Fills.{Fills}
 use Rattle.print_text.specs.Report.{refusalText}
 
 abbrev pub detailFromOne : (k c d : ℕ) → ℕ

@@ -1,7 +1,8 @@
 // What the program `ask` prints: the answer to a question in one line.
 ghost use Prim.Native.Nat.{_+_, _≤_};
 ghost use lib.ListN.{length};
-ghost use Rattle.byte_buffer.specs.Stored.{Stored, Fills};
+ghost use Rattle.lists.specs.Stored.{Stored};
+ghost use Rattle.byte_buffer.specs.Fills.{Fills};
 ghost use Rattle.print_text.specs.Answer.{valuesText, verdictWord, answerLine};
 use crate::number::put_labelled;
 use byte_buffer::put_bytes;

@@ -1,7 +1,7 @@
 // The lines of a report, each stored from a place on; the place after it is returned.
 ghost use Prim.Native.Nat.{_+_, _≤_};
 ghost use lib.ListN.{length};
-ghost use Rattle.byte_buffer.specs.Stored.{Stored};
+ghost use Rattle.lists.specs.Stored.{Stored};
 ghost use Rattle.print_text.specs.Lines.{sizesLine, rankLine, openLine, wordLine, openLines};
 ghost use Rattle.print_text.specs.Needs.{LineFits, LinesFit};
 use crate::number::put_labelled;

@@ -3,7 +3,7 @@ ghost use mathlib.Core.Path.{_≡_};
 ghost use Prim.Native.Nat.{_+_, _≤_};
 ghost use lib.ListN.{length};
 ghost use Rattle.text_fields.specs.Decimal.{decimal};
-ghost use Rattle.byte_buffer.specs.Stored.{Stored};
+ghost use Rattle.lists.specs.Stored.{Stored};
 ghost use Rattle.print_text.specs.Digits.{EndsWith};
 ghost use Rattle.print_text.specs.Lines.{labelled};
 use byte_buffer::put_bytes;

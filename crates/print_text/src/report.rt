@@ -2,7 +2,8 @@
 ghost use Prim.Native.Nat.{_≤_, _<_};
 ghost use mathlib.Core.Path.{_≡_};
 ghost use lib.ListN.{length};
-ghost use Rattle.byte_buffer.specs.Stored.{Stored, Fills};
+ghost use Rattle.lists.specs.Stored.{Stored};
+ghost use Rattle.byte_buffer.specs.Fills.{Fills};
 ghost use Rattle.print_text.specs.Report.{reportText, refusalText};
 ghost use Rattle.print_text.specs.Printed.{detailFromOne};
 ghost use Rattle.print_text.specs.Needs.{Printable};

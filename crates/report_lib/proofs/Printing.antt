@@ -14,7 +14,7 @@ use Rattle.refusals.specs.declared.Outcome.the-variants.{Passed, Refused}
 use Rattle.lists.proofs.Filled.{filled-whole}
 use Rattle.sparse.specs.Matrix.{Compressed}
 use Rattle.row_space.specs.Solve.{openColumns}
-use Rattle.byte_buffer.specs.Stored.{Fills}
+use Rattle.byte_buffer.specs.Fills.{Fills}
 use Rattle.limits.specs.Limits.{workLength}
 use Rattle.call_check.specs.Calls.{checkFactorsOf}
 use Rattle.call_open.specs.Calls.{Listed, listed, columnsAfter, openFactorsOf, Lists}

@@ -11,7 +11,7 @@ use mathlib.Core.List.{List}
 use lib.ListN.{length}
 use Rattle.lists.specs.Filled.{zeros}
 use Rattle.refusals.specs.Table.{storageTooShort}
-use Rattle.byte_buffer.specs.Stored.{Fills}
+use Rattle.byte_buffer.specs.Fills.{Fills}
 use Rattle.text_plan.specs.Call.{ReadAnswer}
 use Rattle.limits.specs.Limits.{workLength, printRoom}
 use Rattle.factor_all.specs.Outcome.{Outcome}

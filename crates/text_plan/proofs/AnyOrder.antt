@@ -6,7 +6,7 @@ use mathlib.Core.List.{List, [], _∷_, _++_, map, reverseAux}
 use Prim.Native.Nat.{ℕ, _+_}
 use lib.Dec.{eqb}
 use Rattle.grouping.specs.Grouping.{picked, grouped}
-use Rattle.grouping.specs.Members.{Member}
+use Rattle.lists.specs.Members.{Member}
 use Rattle.grouping.proofs.Every.{All, Pairwise, picked-all, picked-key, picked-pairwise}
 use Rattle.grouping.proofs.Groups.{picked-grouped, grouped-same}
 use Rattle.grouping.proofs.Stable.{all-member, member-left, member-right, member-split, member-picked, picked-member}

@@ -30,7 +30,7 @@ use Rattle.residue.specs.Range.{isModulus}
 use Rattle.residue.specs.Signed.{residueOf}
 use Rattle.sparse.specs.Matrix.{matrix, form}
 use Rattle.sparse.proofs.Rows.{form-paired}
-use Rattle.grouping.specs.Members.{Member}
+use Rattle.lists.specs.Members.{Member}
 use Rattle.text_judge.specs.declared.header.Header.{Header}
 use Rattle.text_judge.specs.declared.header.Header.the-variants.{Given, NotHeader}
 use Rattle.text_judge.specs.declared.line.Line.{Line}

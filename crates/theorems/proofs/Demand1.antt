@@ -39,7 +39,7 @@ use Rattle.residue.proofs.Primes.{modulus-prime, modulus-range, prime-modulus}
 use Rattle.sparse.specs.Matrix.{Compressed, matrix}
 use Rattle.sparse.specs.Set.{Set}
 use Rattle.sparse.specs.Row.{Below}
-use Rattle.grouping.specs.Members.{Member}
+use Rattle.lists.specs.Members.{Member}
 use Rattle.elimination.specs.Selection.{structural}
 use Rattle.elimination.specs.Factoring.{schedule, nothing}
 use Rattle.elimination.specs.Overflow.{Overflows}

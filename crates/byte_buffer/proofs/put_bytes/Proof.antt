@@ -5,7 +5,8 @@ use mathlib.Core.List.{List, [], _∷_, _++_}
 use native.Mathlib.Omega.{arith}
 use lib.ListN.{length, getD, drop, drop-of-length-le}
 use Rattle.lists.proofs.Steps.{drop-step}
-use Rattle.byte_buffer.proofs.Remaining.{Turns, turns-start, turn-room, turns-after, turns-end, byte-stored}
+use Rattle.lists.proofs.Stored.{stored-one}
+use Rattle.byte_buffer.proofs.Remaining.{Turns, turns-start, turn-room, turns-after, turns-end}
 use Rattle.byte_buffer.proofs.put_bytes.Statement.{statement}
 use Rattle.byte_buffer.proofs.put_bytes.Tie as tie
 
@@ -47,7 +48,7 @@ loop-less : tie.Need-loop-less Inv-loop μ-loop
 loop-less c = omega arith
 
 loop-again : tie.Need-loop-again Inv-loop μ-loop
-loop-again c = turns-after (c .before .before .loop .inv) (c .before .loop-test .taken) (step (c .before)) (byte-stored _ _ _)
+loop-again c = turns-after (c .before .before .loop .inv) (c .before .loop-test .taken) (step (c .before)) (stored-one _ _ _)
 
 same-length : tie.Need-same-length Inv-loop μ-loop
 same-length c = c .before .loop .inv .remains .long

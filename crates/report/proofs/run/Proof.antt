@@ -6,7 +6,7 @@ use native.Mathlib.Omega.{arith}
 use lib.ListN.{length}
 use lib.Seq.{length-take-le}
 use Rattle.lists.specs.Filled.{filled}
-use Rattle.byte_buffer.specs.Stored.{Fills}
+use Rattle.byte_buffer.specs.Fills.{Fills}
 use Rattle.stages.proofs.Lists.{filled-fits}
 use borrow.Author.Needs.{needs}
 use Rattle.report.proofs.run.Statement.{statement}

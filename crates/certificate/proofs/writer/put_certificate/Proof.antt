@@ -9,7 +9,7 @@ use Rattle.sparse.specs.Set.{Set, setOf}
 use Rattle.certificate.specs.Layout.{bytes, mark, version, factorNumbers, numbersOf, certificateOf}
 use Rattle.certificate.proofs.Bytes.{length-bytes}
 use Rattle.certificate.proofs.Lengths.{factorSize, length-factor, length-by-lists}
-use Rattle.byte_buffer.proofs.Storing.{ends, stored-then}
+use Rattle.lists.proofs.Stored.{ends, stored-then}
 use Rattle.certificate.proofs.Storing.{numbers-then}
 use borrow.Author.Needs.{needs}
 use Rattle.certificate.proofs.writer.put_certificate.Statement.{statement}

@@ -3,7 +3,7 @@ use mathlib.Core.List.{_++_}
 use native.Mathlib.Omega.{arith}
 use Rattle.certificate.specs.Layout.{factorNumbers}
 use Rattle.certificate.proofs.Bytes.{length-bytes}
-use Rattle.byte_buffer.proofs.Storing.{ends}
+use Rattle.lists.proofs.Stored.{ends}
 use Rattle.certificate.proofs.Storing.{numbers-then}
 use borrow.Author.Needs.{needs}
 use Rattle.certificate.proofs.writer.put_factor.Statement.{statement}

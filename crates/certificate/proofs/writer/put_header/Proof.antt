@@ -1,6 +1,6 @@
 -- `put_header` meets its contract: three runs, one after another. Assumes nothing.
 use Rattle.certificate.specs.Layout.{mark, version}
-use Rattle.byte_buffer.proofs.Storing.{stored-then}
+use Rattle.lists.proofs.Stored.{stored-then}
 use borrow.Author.Needs.{needs}
 use Rattle.certificate.proofs.writer.put_header.Statement.{statement}
 use Rattle.certificate.proofs.writer.put_header.Tie as tie

@@ -2,7 +2,7 @@
 use Prim.Native.Nat.{_-_, _<_}
 use native.Mathlib.Omega.{arith}
 use lib.ListN.{length}
-use Rattle.factor_order.proofs.Writing.{written-length}
+use Rattle.lists.proofs.Stored.{stored-length}
 use Rattle.factor_order.proofs.Completing.{Appending, marks-long, appending-starts, appending-room, appending-turn, appending-ends}
 use Rattle.factor_order.proofs.complete.append_unmarked.Statement.{statement}
 use Rattle.factor_order.proofs.complete.append_unmarked.Tie as tie
@@ -56,7 +56,7 @@ loop-again c = let l = turn c in let h = l .before .loop in
     appending-turn _ _ _ (start l .pre) (h .list) (h .marks) (h .at) (h .x) (h .inv) _ _ (inside l) (c .before .before .append .ensures)
 
 same-length : tie.Need-same-length Inv-loop μ-loop
-same-length c = written-length (c .before .loop .inv .written)
+same-length c = stored-length (c .before .loop .inv .written)
 
 same-length-2 : tie.Need-same-length-2 Inv-loop μ-loop
 same-length-2 c = c .before .loop .inv .clearing .long

@@ -3,7 +3,7 @@ use mathlib.Core.Path.{ap, sym}
 use mathlib.Core.Bool.{Bool}
 use native.Mathlib.Omega.{arith}
 use lib.ListN.{length}
-use Rattle.byte_buffer.proofs.Storing.{stored-as}
+use Rattle.lists.proofs.Stored.{stored-as}
 use Rattle.print_text.specs.Answer.{verdictWord}
 use borrow.Author.Needs.{needs}
 use Rattle.print_text.proofs.answer.put_verdict.Statement.{statement}

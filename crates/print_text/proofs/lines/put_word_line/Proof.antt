@@ -3,7 +3,7 @@ use Prim.Native.Nat.{ℕ, _+_, _≤_}
 use mathlib.Core.Path.{sym, subst}
 use mathlib.Core.List.{List}
 use lib.ListN.{length}
-use Rattle.byte_buffer.proofs.Storing.{stored-as, stored-none}
+use Rattle.lists.proofs.Stored.{stored-as, stored-none}
 use Rattle.print_text.proofs.Stepping.{word-open, word-closed}
 use borrow.Author.Needs.{needs}
 use Rattle.print_text.proofs.lines.put_word_line.Statement.{statement}

@@ -2,7 +2,7 @@
 use native.Mathlib.Omega.{arith}
 use lib.ListN.{length-append}
 use Rattle.text_fields.specs.Decimal.{decimal}
-use Rattle.byte_buffer.proofs.Storing.{ends, stored-then}
+use Rattle.lists.proofs.Stored.{ends, stored-then}
 use Rattle.print_text.specs.Lines.{labelled}
 use borrow.Author.Needs.{needs}
 use Rattle.print_text.proofs.number.put_labelled.Statement.{statement}

@@ -4,7 +4,7 @@ use mathlib.Core.Path.{_≡_, sym, subst}
 use mathlib.Core.List.{List}
 use lib.ListN.{length, take, drop}
 use Rattle.text_fields.specs.Decimal.{decimal}
-use Rattle.byte_buffer.proofs.Storing.{stored-as}
+use Rattle.lists.proofs.Stored.{stored-as}
 use borrow.Author.Needs.{needs}
 use Rattle.print_text.proofs.Ending.{digits-part}
 use Rattle.print_text.proofs.number.put_number.Statement.{statement}
