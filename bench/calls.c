@@ -14,33 +14,33 @@ enum { NO_CERTIFICATE = 10 };
 
 static uint8_t certificate[PLQ_LARGEST_CERTIFICATE];
 
+/* The seconds since `start`, of a call that must have given what is expected. */
+static double ended(double start, uint64_t result, uint64_t expected) {
+    double seconds = now() - start;
+    if (result != expected) exit(3);
+    return seconds;
+}
+
+static double checking(const struct text *plan, size_t length, uint64_t expected) {
+    double start = now();
+    uint64_t result = plq_check_certificate(plan->bytes, plan->length, certificate, length);
+    return ended(start, result, expected);
+}
+
 static double make(void *given) {
     const struct text *plan = given;
     size_t length = plq_certificate_length(certificate);
     double start = now();
     uint64_t result = plq_make_certificate(plan->bytes, plan->length, certificate, length);
-    double seconds = now() - start;
-    if (result != 0) exit(3);
-    return seconds;
+    return ended(start, result, 0);
 }
 
 static double check(void *given) {
-    const struct text *plan = given;
-    size_t length = plq_certificate_length(certificate);
-    double start = now();
-    uint64_t result = plq_check_certificate(plan->bytes, plan->length, certificate, length);
-    double seconds = now() - start;
-    if (result != 0) exit(3);
-    return seconds;
+    return checking(given, plq_certificate_length(certificate), 0);
 }
 
 static double reading(void *given) {
-    const struct text *plan = given;
-    double start = now();
-    uint64_t result = plq_check_certificate(plan->bytes, plan->length, certificate, 0);
-    double seconds = now() - start;
-    if (result != NO_CERTIFICATE) exit(3);
-    return seconds;
+    return checking(given, 0, NO_CERTIFICATE);
 }
 
 int main(int argc, char **argv) {

@@ -50,30 +50,33 @@ def _printed(command, text):
     return fault or output
 
 
-class Report:
-    """Prints the report of the plan text on standard input."""
-
-    calls = ("report",)
+class Program:
+    """Prints a line or more for a text on standard input."""
 
     def __init__(self, command):
         self.command = command
 
     def results(self, cases):
         for case in cases:
-            yield _printed(self.command, case.text)
+            yield _printed([*self.command, *self.arguments(case)], case.text)
 
 
-class Ask:
+class Report(Program):
+    """Prints the report of the plan text."""
+
+    calls = ("report",)
+
+    def arguments(self, _case):
+        return ()
+
+
+class Ask(Program):
     """Takes the question as arguments, or after the plan where there are none."""
 
     calls = ("ask",)
 
-    def __init__(self, command):
-        self.command = command
-
-    def results(self, cases):
-        for case in cases:
-            yield _printed([*self.command, *map(str, case.question)], case.text)
+    def arguments(self, case):
+        return map(str, case.question)
 
 
 class Calls:
