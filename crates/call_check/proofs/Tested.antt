@@ -118,9 +118,9 @@ checkable p n m A s w g z wide clear =
       cleared = clear;
     }
 
--- a plan and a set that are equal to such
-pub checkable-as : (p n m : ℕ) (A A′ : Compressed) (s s′ : Set) (w : List ℕ) → A ≡ A′ → s ≡ s′ → Checkable p n m A′ s′ w → Checkable p n m A s w
-checkable-as p n m A A′ s s′ w e f h = subst (λ (B : Compressed). Checkable p n m B s w) (sym e) (subst (λ (t : Set). Checkable p n m A′ t w) (sym f) h)
+-- a set that is equal to such
+pub checkable-as : (p n m : ℕ) (A : Compressed) (s s′ : Set) (w : List ℕ) → s ≡ s′ → Checkable p n m A s′ w → Checkable p n m A s w
+checkable-as p n m A s s′ w e h = subst (λ (t : Set). Checkable p n m A t w) (sym e) h
 
 pub factors-good : (p n m : ℕ) (A : Compressed) (s : Set) (w : ℕ) → factorsOutcome p n m A s w ≡ Passed → GoodPlan p n m A × Sized n m s × (w ≡ workLength)
 unfolding factorsOutcome

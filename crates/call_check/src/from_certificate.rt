@@ -74,16 +74,12 @@ pub fn check_bytes(
     let uc = places.uc;
     let uv = places.uv;
     let end = places.end;
-    let none: &[u8] = b"";
     let empty: &[u32] = &[];
     check(
         q,
         starts,
-        none,
         cols,
-        none,
         vals,
-        none,
         empty,
         &cert[ro..co],
         empty,

@@ -93,11 +93,8 @@ pub fn check_stored(
     check(
         q,
         starts,
-        none,
         cols,
-        none,
         vals,
-        none,
         ro,
         none,
         co,
