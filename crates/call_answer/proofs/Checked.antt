@@ -24,7 +24,7 @@ use Rattle.pluq.specs.Judge.{judge}
 use Rattle.certificate.specs.Layout.{Sized}
 use Rattle.certificate.specs.Reading.{headerOk, setOfCertificate}
 use Rattle.certificate.proofs.Passed.{passed-sized}
-use Rattle.answer_question.specs.Answering.{SetReady}
+use Rattle.answer_question.specs.Needs.{SetReady}
 use Rattle.answer_question.proofs.Passed.{passed-ready}
 use Rattle.call_check.specs.Calls.{factorsOutcome, certificateOutcome, checkFactorsOf, checkCertificateOf}
 use Rattle.call_check.specs.Passing.{StoredPasses, CertificatePasses}

@@ -35,7 +35,7 @@ use Rattle.sparse.specs.Matrix.{Compressed, matrix}
 use Rattle.sparse.specs.Set.{Set}
 use Rattle.pluq.specs.Judge.{Passes}
 use Rattle.row_space.specs.Question.{questionOutcome}
-use Rattle.row_space.specs.Solve.{Solved, solve, lowest}
+use Rattle.row_space.specs.Solve.{Solved, solve, remainder, lowestOf}
 use Rattle.row_space.specs.declared.Verdict.{Verdict}
 use Rattle.row_space.proofs.Theorems as sets
 use Rattle.answer_question.proofs.Passed.{question-passed}
@@ -199,7 +199,7 @@ module _ (X : Type 0) (p n m : ℕ) (A : Compressed) (s : Set) (y : List ℕ) (r
         let is-z = z-left long in
         record {
           length-z = ap length is-z ∙ long;
-          answer = subst (λ (l : List ℕ). ClosedAnswer p n m (s .r) (matrix A) (vector (s .C)) (lowest p m s (vector y)) (vector l)) (sym is-z) right;
+          answer = subst (λ (l : List ℕ). ClosedAnswer p n m (s .r) (matrix A) (vector (s .C)) (lowestOf m (remainder p s (vector y))) (vector l)) (sym is-z) right;
           differs =
               subst (λ (l : List ℕ). ¬ (dot m (vector y) (vector l) ≈⟨ p ⟩ 0)) (sym is-z)
               (sets.closed-differs (c .prime) n m A s (c .sized .row-order) (c .sized .column-order) (c .judged) y inside (closed e));

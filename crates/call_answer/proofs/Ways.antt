@@ -17,7 +17,8 @@ use Rattle.sparse.specs.Set.{Set}
 use Rattle.row_space.specs.Question.{questionOutcome}
 use Rattle.row_space.specs.Solve.{Solved, solve}
 use Rattle.row_space.specs.declared.Verdict.{Verdict}
-use Rattle.answer_question.specs.Answering.{SetReady, AnswerReady, Answered}
+use Rattle.answer_question.specs.Needs.{SetReady, AnswerReady}
+use Rattle.answer_question.specs.Answering.{Answered}
 use Rattle.call_check.specs.Calls.{Checks}
 use Rattle.call_answer.specs.Calls.{answerNumber, answerDetail, answerOf, questionLengths, questionAfter, given, Answers}
 use Rattle.call_answer.specs.declared.Answer.{Answer}

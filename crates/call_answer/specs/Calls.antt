@@ -8,7 +8,7 @@
 --   given o a                     a refusal with no list, or the answer a
 --   answerFactorsOf ..            the answer from stored factors
 --   answerCertificateOf ..        the answer from a certificate
---   AnswerPartsReady ..                 what the answer from the parts of a certificate needs
+--   AnswerPartsReady ..           what the answer from the parts of a certificate needs
 --   Answers g r x₀ x z₀ z w₀ w    the contract of such a call: its result, every cell of x and z, and the working row left all zero
 use Prim.Native.Nat.{ℕ}
 use mathlib.Core.Path.{_≡_}
@@ -26,7 +26,7 @@ use Rattle.sparse.specs.Set.{Set}
 use Rattle.row_space.specs.Solve.{Solved, solve}
 use Rattle.row_space.specs.Question.{questionOutcome}
 use Rattle.row_space.specs.declared.Verdict.{Verdict}
-use Rattle.answer_question.specs.Answering.{AnswerReady}
+use Rattle.answer_question.specs.Needs.{AnswerReady}
 use Rattle.certificate.specs.Reading.{placesIn, setOfCertificate}
 use Rattle.call_check.specs.Calls.{checkFactorsOf, checkCertificateOf}
 use Rattle.call_answer.specs.declared.Answer.{Answer}

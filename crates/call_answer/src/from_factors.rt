@@ -2,7 +2,8 @@
 ghost use lib.ListN.{length};
 ghost use Rattle.algebra.specs.Matrix.{vector};
 ghost use Rattle.row_space.specs.Solve.{solve};
-ghost use Rattle.answer_question.specs.Answering.{AnswerReady, Answered};
+ghost use Rattle.answer_question.specs.Needs.{AnswerReady};
+ghost use Rattle.answer_question.specs.Answering.{Answered};
 ghost use Rattle.call_check.specs.Calls.{checkFactorsOf, Checks};
 ghost use Rattle.call_answer.specs.Calls.{questionAfter, answerFactorsOf, Answers};
 ghost use Rattle.sparse.specs.Views.{before, after, storedBefore, setAt, setBefore};

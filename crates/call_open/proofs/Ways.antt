@@ -15,7 +15,8 @@ use Rattle.refusals.proofs.Refusals.{fails, holds}
 use Rattle.sparse.specs.Matrix.{Compressed}
 use Rattle.sparse.specs.Set.{Set}
 use Rattle.row_space.specs.Solve.{openColumns}
-use Rattle.answer_open.specs.Opening.{EchelonPassed, ColumnsListed, ColumnsReady, AllColumns}
+use Rattle.answer_open.specs.Needs.{EchelonPassed, ColumnsReady}
+use Rattle.answer_open.specs.Opening.{ColumnsListed, AllColumns}
 use Rattle.answer_open.proofs.AllColumns.{set-factor}
 use Rattle.call_check.specs.Calls.{Checks}
 use Rattle.call_answer.proofs.Checked.{Checked, checked-ready}

@@ -1,12 +1,12 @@
 -- The calls that list the open columns, in document 01's order of refusals: 9, 1, 2, 8, 10, then 11 to 14.
---   columnsAfter check m b     the outcome of a call that lists m columns in b cells: 9 for the list, then the check of the set
---   Listed                     what such a call gives: its outcome, and the list
---   listed o l                 a refusal with no list, or the list l
---   openFactorsOf ..           the open columns from stored factors
---   openCertificateOf ..       the open columns from a certificate
---   OpenPartsReady ..              what the open columns from the parts of a certificate need
---   Lists g r l₀ l w₀ w        the contract of such a call: its result, with document 01's number and detail, every cell of the list, and the
---                              working row left all zero
+--   columnsAfter check m b    the outcome of a call that lists m columns in b cells: 9 for the list, then the check of the set
+--   Listed                    what such a call gives: its outcome, and the list
+--   listed o l                a refusal with no list, or the list l
+--   openFactorsOf ..          the open columns from stored factors
+--   openCertificateOf ..      the open columns from a certificate
+--   OpenPartsReady ..         what the open columns from the parts of a certificate need
+--   Lists g r l₀ l w₀ w       the contract of such a call: its result, with document 01's number and detail, every cell of the list, and the
+--                             working row left all zero
 use Prim.Native.Nat.{ℕ}
 use mathlib.Core.Path.{_≡_}
 use mathlib.Core.List.{List, []}
@@ -20,7 +20,7 @@ use Rattle.refusals.specs.declared.Outcome.the-variants.{Passed, Refused}
 use Rattle.sparse.specs.Matrix.{Compressed}
 use Rattle.sparse.specs.Set.{Set}
 use Rattle.row_space.specs.Solve.{openColumns}
-use Rattle.answer_open.specs.Opening.{ColumnsReady}
+use Rattle.answer_open.specs.Needs.{ColumnsReady}
 use Rattle.certificate.specs.Reading.{placesIn, setOfCertificate}
 use Rattle.call_check.specs.Calls.{checkFactorsOf, checkCertificateOf}
 

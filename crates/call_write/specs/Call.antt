@@ -1,8 +1,8 @@
 -- The call that writes a certificate: the check of the stored factors first, a buffer that is too short last.
---   writeOutcome ..          9, 1, 2, 8, 11 to 14, then 9 for the buffer
---   bytesGiven o cert              what the buffer is given: the certificate where the outcome is passed, else nothing
---   WritesCertificate ..     the contract: outcome with document 01's number and detail, length, every byte of the buffer, and the working row
---                            left all zero
+--   writeOutcome ..         9, 1, 2, 8, 11 to 14, then 9 for the buffer
+--   bytesGiven o cert       what the buffer is given: the certificate where the outcome is passed, else nothing
+--   WritesCertificate ..    the contract: outcome with document 01's number and detail, length, every byte of the buffer, and the working row
+--                           left all zero
 use Prim.Native.Nat.{ℕ}
 use mathlib.Core.Path.{_≡_}
 use mathlib.Core.List.{List, []}

@@ -29,7 +29,7 @@ use Rattle.pluq.specs.Order.{below, distinct, permutation}
 use Rattle.pluq.specs.Shape.{lowerRow, lower, upperRow, upper}
 use Rattle.pluq.specs.Judge.{agrees, productOutcome, judgeFactors, judge}
 use Rattle.row_space.specs.Substitution.{backL, backU}
-use Rattle.row_space.specs.Solve.{lowest, solve}
+use Rattle.row_space.specs.Solve.{lowestOf, solve}
 use Rattle.row_space.specs.declared.Verdict.the-variants.{Open, Closed}
 use Rattle.elimination.specs.Structural.{leads, prefer, chosen, leading}
 use Rattle.elimination.specs.Chains.{chain, closes}
