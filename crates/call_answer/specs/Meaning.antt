@@ -1,15 +1,15 @@
 -- What a question and its answer mean, without an order of tests.
---   Askable p n m y a b        y holds m residues, and x and z have n and m cells
---   LeftOpen ..                open, as left in the lists: x has n residues, x A = y, x is 0 on every row that is no pivot row, and z is all zero
---   LeftClosed ..              closed, as left in the lists: z has m residues, A z = 0, y z is not 0, z is 1 at one column that is no pivot column, the
---                              lowest at which y reduced by U is not 0, and 0 at the others, and x is all zero
---   AnswersRight .. y r x z    the answer r with the lists x and z, from the set s:
+--   Askable p n m y a b         y holds m residues, and x and z have n and m cells
+--   LeftOpen ..                 open, as left in the lists: x has n residues, x A = y, x is 0 on every row that is no pivot row, and z is all zero
+--   LeftClosed ..               closed, as left in the lists: z has m residues, A z = 0, y z is not 0, z is 1 at one column that is no pivot column, the
+--                               lowest at which y reduced by U is not 0, and 0 at the others, and x is all zero
+--   AnswersRight .. y r x z     the answer r with the lists x and z, from the set s:
 --     open-exactly              r is open exactly if some x has x A = y
 --     closed-exactly            and closed exactly if none has
 --     open-left, closed-left    x and z are as described
 --     one-value                 open: two settings that give the same slots give y one value
 --     every-value               closed: for every setting and every value some setting gives the same slots and gives y that value
---   AnswerOf p n m A y r       r is the answer that some call gave to y, from stored factors or from a certificate, and did not refuse
+--   AnswerOf p n m A y r        r is the answer that some call gave to y, from stored factors or from a certificate, and did not refuse
 use Prim.Native.Nat.{ℕ}
 use mathlib.Core.Path.{_≡_}
 use mathlib.Core.Logic.{_↔_}

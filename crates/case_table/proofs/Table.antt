@@ -33,7 +33,7 @@ use Rattle.row_space.specs.Solve.{lowestOf, solve}
 use Rattle.row_space.specs.declared.Verdict.the-variants.{Open, Closed}
 use Rattle.elimination.specs.Structural.{leads, prefer, chosen, leading}
 use Rattle.elimination.specs.Chains.{chain, closes}
-use Rattle.elimination.specs.Selection.{pairAt, lowerPair as lowerOf, without, unfit, extended, extendedTo, free, lowest as lowestOf, ordered, selected, structural}
+use Rattle.elimination.specs.Selection.{pairAt, lowerPair as lowerOf, without, unfit, extended, extendedTo, free, lowest, ordered, selected, structural}
 use Rattle.elimination.specs.Pivots.{columnsOf, uppersOf, coefficients, withPivot, withDependent, placedRow, turn, turns}
 use Rattle.elimination.specs.Members.{isIn}
 use Rattle.elimination.specs.Factoring.{rest, schedule, rowsOf, lowersOf, factored, factorFrom, factor}
