@@ -7,7 +7,7 @@ use mathlib.Core.Option.{none, some}
 use lib.ListN.{take}
 use Rattle.lists.specs.Filled.{zeros}
 use Rattle.lists.specs.Tabulate.{tabulate}
-use Rattle.lists.specs.Tests.{all, first}
+use Rattle.lists.specs.Tests.{all, first, among}
 use Rattle.refusals.specs.declared.Outcome.{Outcome}
 use Rattle.refusals.specs.declared.Outcome.the-variants.{Passed, Refused}
 use Rattle.algebra.specs.Sum.{sum, dot, δ, place}
@@ -24,7 +24,6 @@ use Rattle.sparse.specs.Matrix.{matrix}
 use Rattle.sparse.specs.Form.{startsFrom, startsOk, risesFrom, rowsFrom, valuesOk, wellFormed}
 use Rattle.sparse.specs.Row.{weigh}
 use Rattle.sparse.specs.Dense.{columnsFrom, nonzeros, startsAfter, allColumns, allValues, compress}
-use Rattle.lists.specs.Tests.{among}
 use Rattle.pluq.specs.Order.{below, distinct, permutation}
 use Rattle.pluq.specs.Shape.{lowerRow, lower, upperRow, upper}
 use Rattle.pluq.specs.Judge.{agrees, productOutcome, judgeFactors, judge}
