@@ -16,7 +16,7 @@ use Rattle.algebra.proofs.Dot.{δ-other}
 use Rattle.sparse.specs.Row.{Below}
 use Rattle.sparse.specs.Matrix.{Compressed, matrix}
 use Rattle.sparse.proofs.Subtraction.{below-set}
-use Rattle.row_space.specs.Substitution.{residues}
+use Rattle.row_space.specs.Solving.{residues}
 use Rattle.row_space.proofs.Substitutions.{δ-small}
 use Rattle.answer_question.specs.Reducing.{Eliminated, Remains}
 use Rattle.row_space.specs.Solve.{lowestOf}

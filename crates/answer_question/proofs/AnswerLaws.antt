@@ -20,7 +20,8 @@ use Rattle.sparse.specs.Row.{Below}
 use Rattle.sparse.specs.Matrix.{Compressed, matrix}
 use Rattle.sparse.specs.Set.{Set}
 use Rattle.sparse.proofs.Subtraction.{below-set}
-use Rattle.row_space.specs.Substitution.{backU, throughL, throughU, residues}
+use Rattle.row_space.specs.Substitution.{backU, throughL, throughU}
+use Rattle.row_space.specs.Solving.{residues}
 use Rattle.row_space.specs.Solve.{remainder, multiplesOf, lowestOf, opened, closed, solve}
 use Rattle.row_space.specs.Needs.{LowerOrder, UpperReady}
 use Rattle.row_space.proofs.LowerLoop.{backL-ext}

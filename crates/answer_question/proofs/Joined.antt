@@ -15,7 +15,8 @@ use Rattle.sparse.specs.Row.{Below}
 use Rattle.sparse.specs.Matrix.{matrix}
 use Rattle.sparse.specs.Set.{Set}
 use Rattle.pluq.proofs.Orders.{permutation-means}
-use Rattle.row_space.specs.Substitution.{throughL, throughU, residues}
+use Rattle.row_space.specs.Substitution.{throughL, throughU}
+use Rattle.row_space.specs.Solving.{residues}
 use Rattle.row_space.specs.Solve.{multiplesOf, remainder, lowestOf, solve}
 use Rattle.row_space.specs.declared.Verdict.the-variants.{Open, Closed}
 use Rattle.answer_question.specs.Needs.{QuestionReady, OpenReady, ClosedReady, AnswerReady}

@@ -1,4 +1,5 @@
 pub mod Substitution
 pub mod Solve
 pub mod Question
+pub mod Solving
 pub mod Needs

@@ -1,7 +1,8 @@
 // x by substitution through L, from its last pivot row up.
 ghost use lib.ListN.{length};
 ghost use Rattle.sparse.specs.Views.{before, after, viewAt, viewedAt, viewedBefore, vectorBefore, matrixBefore};
-ghost use Rattle.row_space.specs.Substitution.{throughL, residues, QuotientTaken, Placed};
+ghost use Rattle.row_space.specs.Substitution.{throughL};
+ghost use Rattle.row_space.specs.Solving.{residues, QuotientTaken, Placed};
 ghost use Rattle.row_space.specs.Needs.{LowerRowReady, LowerOrder};
 use lists::clear_row;
 use lists::index;
