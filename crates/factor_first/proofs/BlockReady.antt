@@ -15,9 +15,11 @@ use Rattle.elimination.specs.Factoring.{entries}
 use Rattle.elimination.proofs.Room.{entries-append}
 use Rattle.elimination.specs.Invariant.{Echelon}
 use Rattle.elimination.proofs.Invariant.{uppers-many}
-use Rattle.factor_row.specs.Gathering.{cut, GatherReadyFrom}
+use Rattle.factor_row.specs.Gathering.{cut}
+use Rattle.factor_row.specs.Entries.{entryListsOf}
+use Rattle.factor_row.specs.Needs.{GatherReadyFrom}
 use Rattle.factor_dense.specs.Block.{LeftColumns, BlockHolds, Upper}
-use Rattle.factor_dense.specs.Turn.{DenseReady}
+use Rattle.factor_dense.specs.Needs.{DenseReady}
 use Rattle.factor_dense.proofs.Growing.{holds-same}
 use Rattle.factor_turn.specs.declared.turn.Progress.{Progress}
 use Rattle.factor_turn.specs.State.{State}
@@ -117,7 +119,7 @@ module _ (p i s first width : ℕ) (js ks : List ℕ) (block : List (List ℕ)) 
       (holds-same s (rankOf f - s) width (vector js) (vector ks) (vector (columnsOf f)) (vector (columnsOf f)) (upperOf f) (matrix (compress (uppersOf f))) block (λ t b. refl)
       (λ t j b. sym (compress-matrix (uppersOf f) (s + t) j)) (h .state .holds)))
 
-  pub dense-ready : DenseReady p i s first r at l total A C (U .starts) js width ks block w (L .cols) (L .vals) (U .cols) (U .vals)
+  pub dense-ready : DenseReady p i s first r at l total A C (U .starts) js width ks block w (entryListsOf (L .cols) (L .vals) (U .cols) (U .vals))
   dense-ready =
       record {
         prime = h .turn .lent .prime;

@@ -6,7 +6,7 @@
 --   DenseFrom p A h from f        the lists hold what is found, f, where the factoring is as far as `from`
 --   TurnsLeave p m A .. f ts h to the lists hold what the turns ts find after f, unless the entries of a row did not fit: then that row is the first such
 --   RowsTaken p s A h₀ h from to  so it is of the turns of the rows of h₀ after the first s, for every f that its lists may hold; and the working row is all zero
-use Prim.Native.Nat.{ℕ, _+_, _-_, _≤_}
+use Prim.Native.Nat.{ℕ, _-_, _≤_}
 use mathlib.Core.Path.{_≡_}
 use mathlib.Core.Bool.{true, false, cond, _&&_}
 use mathlib.Core.List.{List, map}

@@ -24,7 +24,8 @@ use Rattle.elimination.proofs.Invariant.{uppers-many}
 use Rattle.elimination.proofs.Theorem.{lowers-many, rank-rows, row-combines}
 use Rattle.elimination.proofs.Again.{columns-again, values-again}
 use Rattle.factor_row.specs.Storage.{Holds}
-use Rattle.factor_row.specs.Gathering.{cut, multiplesBy, remainderBy, RowGathered}
+use Rattle.factor_reduce.specs.declared.gather.Gathered.{Gathered}
+use Rattle.factor_row.specs.Gathering.{reductionBy, cut, RowGathered}
 use Rattle.factor_row.proofs.Storage.{begins-long, holds-more, holds-filled}
 use Rattle.factor_turn.specs.State.{pivotLowers}
 use Rattle.factor_turn.specs.Filling.{LowerStored, FillFrom, FillDone}
@@ -36,14 +37,14 @@ use Rattle.factor_turn.proofs.TurnedRows.{multiples-found}
 
 -- ---- one row
 
-pub lower-stored : (p i r at l : ℕ) (A : Compressed) (columns us uc uv w lc lv : List ℕ) → FillRowReady p i r at l A columns us uc uv w lc lv → (lc′ lv′ w₁ w₂ : List ℕ) (over : Bool) (next : ℕ)
-    → RowGathered p (length w) l l (multiplesBy p r columns (cut r at us uc uv) (matrix A i)) (remainderBy p r columns (cut r at us uc uv) (matrix A i)) lc lv lc′ lv′ w₁ over next
-    → length w₁ ≡ length w → w₂ ≡ zeros (length w₁) → LowerStored p i r at l A columns us uc uv (length w) lc lv lc′ lv′ w₂ next
-lower-stored p i r at l A columns us uc uv w lc lv h lc′ lv′ w₁ w₂ over next g long clear =
-    record { stored = g .stored (fitted over (sym (g .fit) ∙ le-leb (l + length (nonzeros cs)) (length lc) (h .room))); clear = clear ∙ ap zeros long }
+pub lower-stored : (p i r at l : ℕ) (A : Compressed) (columns us uc uv w lc lv : List ℕ) → FillRowReady p i r at l A columns us uc uv w lc lv → (lc′ lv′ w₁ w₂ : List ℕ) (o : Gathered)
+    → RowGathered p l l (reductionBy p (length w) r (take r columns) (cut r at us uc uv) (matrix A i)) lc lv lc′ lv′ w₁ o
+    → length w₁ ≡ length w → w₂ ≡ zeros (length w₁) → LowerStored p i r at l A columns us uc uv (length w) lc lv lc′ lv′ w₂ (o .next)
+lower-stored p i r at l A columns us uc uv w lc lv h lc′ lv′ w₁ w₂ o g long clear =
+    record { stored = g .stored (fitted (o .over) (sym (g .fit) ∙ le-leb (l + length (nonzeros cs)) (length lc) (h .room))); clear = clear ∙ ap zeros long }
   where
     cs : List ℕ
-    cs = multiplesBy p r columns (cut r at us uc uv) (matrix A i)
+    cs = reductionBy p (length w) r (take r columns) (cut r at us uc uv) (matrix A i) .multiples
 
     fitted : (b : Bool) → not b ≡ true → b ≡ false
     fitted true e = absurd (true≢false (sym e))
@@ -115,7 +116,7 @@ module _ (p : ℕ) (A : Compressed) (R C : List ℕ) (L U : Compressed) (w : Lis
       small j h = form-below p (length w) (A .starts) (A .cols) (A .vals) (lent .formed) (getD R k 0) j (omega (arith, lent .prime .two))
 
       abbrev taken : List ℕ
-      taken = multiplesBy p r C (cut r at (U .starts) (U .cols) (U .vals)) (matrix A (getD R k 0))
+      taken = reductionBy p (length w) r (take r C) (cut r at (U .starts) (U .cols) (U .vals)) (matrix A (getD R k 0)) .multiples
 
       taken-is : taken ≡ coefficients p f (matrix A (getD R k 0))
       taken-is = multiples-found p (length w) (matrix A) (getD R k 0) false f R C L U r at l total (g .state) (λ e. absurd (true≢false (sym e)))

@@ -15,15 +15,16 @@ use Rattle.sparse.specs.Dense.{compress}
 use Rattle.sparse.proofs.DenseLaws.{compress-matrix, compress-lengths}
 use Rattle.sparse.proofs.DenseForm.{compress-form}
 use Rattle.sparse.proofs.Rows.{form-below}
-use Rattle.factor_reduce.specs.InPlace.{EchelonReady}
+use Rattle.factor_reduce.specs.Needs.{EchelonReady}
 use Rattle.elimination.specs.Pivots.{Found, columnsOf, uppersOf, rankOf, turn}
 use Rattle.elimination.specs.Factoring.{entries}
 use Rattle.elimination.specs.Invariant.{Invariant, Echelon}
 use Rattle.elimination.proofs.Invariant.{uppers-many}
 use Rattle.elimination.proofs.Echelon.{echelon-distinct}
 use Rattle.elimination.proofs.Turns.{other-holds, pair-holds}
-use Rattle.factor_row.specs.Gathering.{cut, GatherReadyFrom}
-use Rattle.factor_row.specs.PivotRow.{ListsReady}
+use Rattle.factor_row.specs.Gathering.{cut}
+use Rattle.factor_row.specs.Entries.{entryListsOf}
+use Rattle.factor_row.specs.Needs.{GatherReadyFrom, ListsReady}
 use Rattle.factor_row.proofs.Storage.{holds-cut}
 use Rattle.factor_turn.specs.declared.turn.Progress.{Progress}
 use Rattle.factor_turn.specs.State.{State, turnOf}
@@ -97,7 +98,7 @@ module _ (p : ℕ) (A : Compressed) (R C : List ℕ) (L U : Compressed) (w : Lis
 -- ---- the turn
 
 module _ (p i : ℕ) (paired : Bool) (A : Compressed) (R C : List ℕ) (L U : Compressed) (w : List ℕ) (from : Progress) (h : TurnReady p i paired A (storageOf R C L U w) from) where
-  pub lists-ready : ListsReady (length w) (from .r) (from .at) (from .l) (from .total) (L .cols) (L .vals) (U .cols) (U .vals)
+  pub lists-ready : ListsReady (length w) (from .r) (from .at) (from .l) (from .total) (entryListsOf (L .cols) (L .vals) (U .cols) (U .vals))
   lists-ready =
       record {
         narrow = h .lent .m-narrow;
@@ -109,7 +110,7 @@ module _ (p i : ℕ) (paired : Bool) (A : Compressed) (R C : List ℕ) (L U : Co
         U-room = h .U-room;
       }
 
-  pub turn-find : FindReady p i paired (from .r) (from .at) (from .l) (from .total) A C (U .starts) w (L .cols) (L .vals) (U .cols) (U .vals)
+  pub turn-find : FindReady p i paired (from .r) (from .at) (from .l) (from .total) A C (U .starts) w (entryListsOf (L .cols) (L .vals) (U .cols) (U .vals))
   turn-find =
       record {
         inside = λ e. omega (arith, h .pair e .inside, h .lent .columns);

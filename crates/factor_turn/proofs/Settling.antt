@@ -6,7 +6,6 @@ use Prim.Native.Nat.{ℕ, _+_}
 use lib.Dec.{eqb}
 use lib.ListN.{set}
 use Rattle.factor_row.specs.declared.pivot_row.Step.{Step}
-use Rattle.factor_turn.specs.declared.turn.Progress.{Progress}
 use Rattle.factor_turn.specs.Turning.{Settled}
 use Rattle.factor_turn.proofs.Finding.{stays-false}
 

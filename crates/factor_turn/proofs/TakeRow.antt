@@ -13,11 +13,12 @@ use Rattle.sparse.specs.Set.{storageOf}
 use Rattle.elimination.specs.Pivots.{Found, rankOf, turn}
 use Rattle.elimination.specs.Invariant.{Invariant}
 use Rattle.factor_row.specs.Gathering.{cut}
+use Rattle.factor_row.specs.Entries.{entryListsOf}
 use Rattle.factor_row.specs.Taking.{RowFound}
 use Rattle.factor_row.specs.declared.pivot_row.Step.{Step}
 use Rattle.factor_turn.specs.declared.turn.Progress.{Progress}
 use Rattle.factor_turn.specs.State.{turnOf}
-use Rattle.factor_turn.specs.Turning.{lowerOf, remainderOf, columnOf, Settled, TurnLeaves}
+use Rattle.factor_turn.specs.Turning.{turnReduction, Settled, TurnLeaves}
 use Rattle.factor_turn.specs.Needs.{Enterable, SettleReady, TurnReady}
 use Rattle.factor_turn.proofs.Finding.{stays-true, stays-false}
 use Rattle.factor_turn.proofs.Sizes.{rank-most, U-most, L-most}
@@ -62,12 +63,12 @@ module _ (p i : ℕ) (paired : Bool) (A : Compressed) (R C : List ℕ) (L U : Co
   paired-inside : paired ≡ true → getD C r 0 < m
   paired-inside e = h .pair e .column
 
-  module _ (t : RowFound p m at l total (lowerOf p paired r C cutU (matrix A i)) (remainderOf p paired r C cutU (matrix A i)) (columnOf p m paired r C cutU (matrix A i)) (L .cols) (L .vals) (U .cols) (U .vals) lc lv uc uv work over column at′ l′ total′) where
+  module _ (t : RowFound p at l total (turnReduction p m paired r C cutU (matrix A i)) (entryListsOf (L .cols) (L .vals) (U .cols) (U .vals)) (entryListsOf lc lv uc uv) work step) where
     row-stays : (over || eqb column m) ≡ true → TurnLeaves p i paired A (storageOf R C L U w) (storageOf R C (compressed (L .starts) lc lv) (compressed (U .starts) uc uv) work) from
         (record { over = over; r = r; at = at′; l = l′; total = total′ })
     row-stays e =
         record {
-          turned = λ f s. turned-stays p m (matrix A) i paired f R C L U r at l total s paired-inside (h .lent .L-paired) (h .lent .U-paired) (h .U-room) lc lv uc uv work over column at′ l′ total′ t
+          turned = λ f s. turned-stays p m (matrix A) i paired f R C L U r at l total s paired-inside (h .lent .L-paired) (h .lent .U-paired) (h .U-room) lc lv uc uv work step t
               (λ q. stays-true over true column m (sym e) refl q);
           ahead = refl;
           columns = λ q. refl;
@@ -87,10 +88,10 @@ module _ (p i : ℕ) (paired : Bool) (A : Compressed) (R C : List ℕ) (L U : Co
       holds = turn-holds p i paired A R C L U w from h
 
       column-below : column < m
-      column-below = column-inside p m (matrix A) i paired (h .f) R C L U r at l total (h .state) paired-inside (h .lent .L-paired) (h .lent .U-paired) (h .U-room) lc lv uc uv work over column at′ l′ total′ t fitted apart
+      column-below = column-inside p m (matrix A) i paired (h .f) R C L U r at l total (h .state) paired-inside (h .lent .L-paired) (h .lent .U-paired) (h .U-room) lc lv uc uv work step t fitted apart
 
       rank-is : r + 1 ≡ rankOf found
-      rank-is = rank-found p m (matrix A) i paired (h .f) R C L U r at l total (h .state) paired-inside (h .lent .L-paired) (h .lent .U-paired) (h .U-room) lc lv uc uv work over column at′ l′ total′ t fitted apart
+      rank-is = rank-found p m (matrix A) i paired (h .f) R C L U r at l total (h .state) paired-inside (h .lent .L-paired) (h .lent .U-paired) (h .U-room) lc lv uc uv work step t fitted apart
 
       bounded : rankOf found * m < 2 ^ 32
       bounded = let le : rankOf found ≤ length R = omega (arith, rank-is, h .more) in omega (arith, h .lent .small, mul-le-mul-right {m = rankOf found} {n = length R} m le)
@@ -100,7 +101,7 @@ module _ (p i : ℕ) (paired : Bool) (A : Compressed) (R C : List ℕ) (L U : Co
         arith,
         bounded,
         U-most p (length R) m (matrix A) found holds,
-        at-found p m (matrix A) i paired (h .f) R C L U r at l total (h .state) paired-inside (h .lent .L-paired) (h .lent .U-paired) (h .U-room) lc lv uc uv work over column at′ l′ total′ t fitted apart,
+        at-found p m (matrix A) i paired (h .f) R C L U r at l total (h .state) paired-inside (h .lent .L-paired) (h .lent .U-paired) (h .U-room) lc lv uc uv work step t fitted apart,
       )
 
       l-fits : l′ < 2 ^ 32
@@ -108,7 +109,7 @@ module _ (p i : ℕ) (paired : Bool) (A : Compressed) (R C : List ℕ) (L U : Co
         arith,
         bounded,
         L-most p (length R) m (matrix A) found holds,
-        l-found p m (matrix A) i paired (h .f) R C L U r at l total (h .state) paired-inside (h .lent .L-paired) (h .lent .U-paired) (h .U-room) lc lv uc uv work over column at′ l′ total′ t fitted apart,
+        l-found p m (matrix A) i paired (h .f) R C L U r at l total (h .state) paired-inside (h .lent .L-paired) (h .lent .U-paired) (h .U-room) lc lv uc uv work step t fitted apart,
       )
 
       rank-inside : r < length C
@@ -131,13 +132,13 @@ module _ (p i : ℕ) (paired : Bool) (A : Compressed) (R C : List ℕ) (L U : Co
           (record { over = false; r = r + 1; at = at′; l = l′; total = total′ })
       row-enters =
           record {
-            turned = λ f s. turned-enters p m (matrix A) i paired f R C L U r at l total s paired-inside (h .lent .L-paired) (h .lent .U-paired) (h .U-room) lc lv uc uv work over column at′ l′ total′ t fitted apart
+            turned = λ f s. turned-enters p m (matrix A) i paired f R C L U r at l total s paired-inside (h .lent .L-paired) (h .lent .U-paired) (h .U-room) lc lv uc uv work step t fitted apart
                 (h .more) rank-inside (omega (arith, h .more, h .lent .L-starts)) (omega (arith, h .more, h .lent .U-starts));
             ahead = drop-set-lt (r + 1) R r i (omega arith);
             columns = λ q. ap (set C r) (t .column fitted ∙ own q) ∙ set-getD C r 0;
           }
         where
-          own : paired ≡ true → columnOf p m paired r C cutU (matrix A i) ≡ getD C r 0
+          own : paired ≡ true → turnReduction p m paired r C cutU (matrix A i) .column ≡ getD C r 0
           own q = rw q
 
     pub settle-ready : (wide : ℕ) → wide ≡ m → SettleReady step r wide R C (L .starts) (U .starts)

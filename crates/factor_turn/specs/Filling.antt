@@ -5,7 +5,7 @@
 use Prim.Native.Nat.{ℕ, _≤_}
 use mathlib.Core.Path.{_≡_}
 use mathlib.Core.List.{List}
-use lib.ListN.{length}
+use lib.ListN.{length, take}
 use Rattle.lists.specs.Filled.{zeros, filled}
 use Rattle.sparse.specs.Matrix.{Compressed, matrix}
 use Rattle.sparse.specs.Set.{Storage}
@@ -14,11 +14,11 @@ use Rattle.sparse.specs.Storing.{DenseStored}
 use Rattle.elimination.specs.Pivots.{Found}
 use Rattle.elimination.specs.Factoring.{rowsOf, lowersOf}
 use Rattle.elimination.specs.Invariant.{Invariant}
-use Rattle.factor_row.specs.Gathering.{cut, multiplesBy}
+use Rattle.factor_row.specs.Gathering.{reductionBy, cut}
 use Rattle.factor_turn.specs.State.{State}
 
 pub record LowerStored (p i r at l : ℕ) (A : Compressed) (columns us uc uv : List ℕ) (m : ℕ) (lc₀ lv₀ lc lv w : List ℕ) (next : ℕ) : Type 0 where
-  pub stored : DenseStored 0 l (multiplesBy p r columns (cut r at us uc uv) (matrix A i)) lc₀ lv₀ lc lv next
+  pub stored : DenseStored 0 l (reductionBy p m r (take r columns) (cut r at us uc uv) (matrix A i) .multiples) lc₀ lv₀ lc lv next
   pub clear : w ≡ zeros m
 
 pub record FillFrom (p : ℕ) (A : Compressed) (h : Storage) (m r at l total : ℕ) (f : Found) : Type 0 where

@@ -26,8 +26,9 @@ use Rattle.elimination.specs.Pivots.{Found}
 use Rattle.elimination.specs.Factoring.{rest}
 use Rattle.elimination.specs.Invariant.{Invariant}
 use Rattle.factor_row.specs.declared.pivot_row.Step.{Step}
-use Rattle.factor_row.specs.Gathering.{cut, multiplesBy, GatherReadyFrom}
-use Rattle.factor_row.specs.Taking.{PairReady, OtherReady}
+use Rattle.factor_row.specs.Gathering.{reductionBy, cut}
+use Rattle.factor_row.specs.Entries.{EntryLists}
+use Rattle.factor_row.specs.Needs.{GatherReadyFrom, PairReady, OtherReady}
 use Rattle.factor_turn.specs.declared.turn.Progress.{Progress}
 use Rattle.factor_turn.specs.State.{StateOf}
 use Rattle.factor_turn.specs.Passing.{pairsOf, Cleared}
@@ -35,10 +36,10 @@ use Rattle.factor_turn.specs.Filling.{FillFrom}
 
 -- ---- one turn
 
-pub record FindReady (p i : ℕ) (paired : Bool) (r at l total : ℕ) (A : Compressed) (columns us w lc lv uc uv : List ℕ) : Type 0 where
+pub record FindReady (p i : ℕ) (paired : Bool) (r at l total : ℕ) (A : Compressed) (columns us w : List ℕ) (e : EntryLists) : Type 0 where
   pub inside : paired ≡ true → r < length columns
-  pub pair : paired ≡ true → PairReady p i (getD columns r 0) r at l total A w lc lv uc uv
-  pub other : paired ≡ false → OtherReady p i r at l total A columns us w lc lv uc uv
+  pub pair : paired ≡ true → PairReady p i (getD columns r 0) r at l total A w e
+  pub other : paired ≡ false → OtherReady p i r at l total A columns us w e
 
 pub record Enterable (step : Step) (r : ℕ) (R C ls us : List ℕ) : Type 0 where
   pub column : step .column < 2 ^ 32
@@ -87,7 +88,7 @@ pub record TurnReady (p i : ℕ) (paired : Bool) (A : Compressed) (h : Storage) 
 
 pub record FillRowReady (p i r at l : ℕ) (A : Compressed) (columns us uc uv w lc lv : List ℕ) : Type 0 where
   pub row : GatherReadyFrom p i r at l l A columns us uc uv w lc lv
-  pub room : l + length (nonzeros (multiplesBy p r columns (cut r at us uc uv) (matrix A i))) ≤ length lc
+  pub room : l + length (nonzeros (reductionBy p (length w) r (take r columns) (cut r at us uc uv) (matrix A i) .multiples)) ≤ length lc
 
 pub record FillReady (p : ℕ) (A : Compressed) (h : Storage) (r at l : ℕ) : Type 0 where
   pub lent : Lent p A h

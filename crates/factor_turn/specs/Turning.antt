@@ -1,6 +1,5 @@
 -- One turn: what it leaves.
---   lowerOf, remainderOf, columnOf           the multiples taken away from a row, what remains of it, and its pivot column (m where nothing remains):
---                                            a paired row is taken as it stands, with its own column
+--   turnReduction p m paired r C U y         what the row y comes to: as it stands, with column C[r], where it is paired, otherwise reduced by r rows of U
 --   Settled step i r m ..                    row i is entered as pivot row r after a turn that came to `step`, or all is as it was, where its entries did not fit
 --                                            or its column is none of the m
 --   TurnLeaves p i paired A h₀ h from to     row i was taken, as the definition's turn says; the rows ahead in R are as they were, and C too where it was paired
@@ -9,26 +8,21 @@ use mathlib.Core.Path.{_≡_}
 use mathlib.Core.Bool.{Bool, true, false, cond, _||_}
 use mathlib.Core.List.{List}
 use lib.Dec.{eqb}
-use lib.ListN.{length, getD, drop, set}
+use lib.ListN.{length, getD, take, drop, set}
 use Rattle.lists.specs.Filled.{zeros}
-use Rattle.lists.specs.Tests.{first}
 use Rattle.algebra.specs.Matrix.{Vector}
 use Rattle.sparse.specs.Matrix.{Compressed, matrix}
 use Rattle.sparse.specs.Set.{Storage}
 use Rattle.elimination.specs.Pivots.{Found, turn}
 use Rattle.factor_row.specs.declared.pivot_row.Step.{Step}
-use Rattle.factor_row.specs.Gathering.{multiplesBy, remainderBy}
+use Rattle.factor_row.specs.Gathering.{Reduction, reductionOf, reductionBy}
 use Rattle.factor_turn.specs.declared.turn.Progress.{Progress}
 use Rattle.factor_turn.specs.State.{StateOf, turnOf, AfterTurn}
 
-abbrev pub lowerOf : ℕ → Bool → ℕ → List ℕ → Compressed → Vector → List ℕ
-lowerOf p paired r C U y = cond paired (zeros r) (multiplesBy p r C U y)
-
-abbrev pub remainderOf : ℕ → Bool → ℕ → List ℕ → Compressed → Vector → Vector
-remainderOf p paired r C U y = cond paired y (remainderBy p r C U y)
-
-abbrev pub columnOf : ℕ → ℕ → Bool → ℕ → List ℕ → Compressed → Vector → ℕ
-columnOf p m paired r C U y = cond paired (getD C r 0) (first m (λ j. eqb (remainderBy p r C U y j) 0))
+abbrev pub turnReduction : ℕ → ℕ → Bool → ℕ → List ℕ → Compressed → Vector → Reduction
+turnReduction p m paired r C U y =
+    reductionOf m (cond paired (zeros r) (reductionBy p m r (take r C) U y .multiples)) (cond paired y (reductionBy p m r (take r C) U y .remainder))
+    (cond paired (getD C r 0) (reductionBy p m r (take r C) U y .column))
 
 pub record Settled (step : Step) (i r m : ℕ) (R₀ C₀ ls₀ us₀ R C ls us : List ℕ) (to : Progress) : Type 0 where
   pub same : (to .over ≡ step .over) × (to .at ≡ step .at) × (to .l ≡ step .l) × (to .total ≡ step .total)

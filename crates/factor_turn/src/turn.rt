@@ -4,11 +4,10 @@ ghost use mathlib.Core.Bool.{_||_};
 ghost use Prim.Native.Nat.{_+_, _<_};
 ghost use lib.Dec.{eqb};
 ghost use lib.ListN.{length, set};
-ghost use Rattle.sparse.specs.Matrix.{matrix};
 ghost use Rattle.sparse.specs.Views.{before, after, storedAt, storedBefore, storageAt, storageBefore, storageAfter};
-ghost use Rattle.factor_row.specs.Gathering.{cut};
+ghost use Rattle.factor_row.specs.Entries.{entriesAt, entriesBefore, entriesAfter, rowBefore, cutBefore};
 ghost use Rattle.factor_row.specs.Taking.{RowFound};
-ghost use Rattle.factor_turn.specs.Turning.{lowerOf, remainderOf, columnOf, Settled, TurnLeaves};
+ghost use Rattle.factor_turn.specs.Turning.{turnReduction, Settled, TurnLeaves};
 ghost use Rattle.factor_turn.specs.Needs.{FindReady, SettleReady, TurnReady};
 use factor_row::pivot_row::Step;
 use factor_row::taking::take_other;
@@ -52,8 +51,8 @@ fn find(
     uv: &mut [u32],
     work: &mut [u64],
 ) -> Step
-    requires { ⌜ FindReady (q .p) i paired r at l total (storedAt starts cols vals) (now co) (now us) (now work) (now lc) (now lv) (now uc) (now uv) ⌝ }
-    ensures { λ s. ⌜ RowFound (q .p) (length (before work)) at l total (lowerOf (q .p) paired r (before co) (cut r at (before us) (before uc) (before uv)) (matrix (storedBefore starts cols vals) i)) (remainderOf (q .p) paired r (before co) (cut r at (before us) (before uc) (before uv)) (matrix (storedBefore starts cols vals) i)) (columnOf (q .p) (length (before work)) paired r (before co) (cut r at (before us) (before uc) (before uv)) (matrix (storedBefore starts cols vals) i)) (before lc) (before lv) (before uc) (before uv) (after lc) (after lv) (after uc) (after uv) (after work) (s .over) (s .column) (s .at) (s .l) (s .total) ⌝ }
+    requires { ⌜ FindReady (q .p) i paired r at l total (storedAt starts cols vals) (now co) (now us) (now work) (entriesAt lc lv uc uv) ⌝ }
+    ensures { λ s. ⌜ RowFound (q .p) at l total (turnReduction (q .p) (length (before work)) paired r (before co) (cutBefore r at us uc uv) (rowBefore starts cols vals i)) (entriesBefore lc lv uc uv) (entriesAfter lc lv uc uv) (after work) s ⌝ }
 {
     if paired {
         let c = index(co[r]);
