@@ -1,5 +1,5 @@
 -- A row reduced by the rows of a block, row after row.
-use mathlib.Core.Path.{_≡_, refl, sym, ap, _∙_}
+use mathlib.Core.Path.{_≡_, refl, ap, _∙_}
 use mathlib.Core.List.{List}
 use Prim.Native.Nat.{ℕ, suc, _+_, _*_, _%_, _≤_, _<_}
 use native.Mathlib.Decide.{ℕ-discrete}
@@ -7,15 +7,15 @@ use native.Mathlib.Omega.{arith}
 use lib.ListN.{length, getD, take, set, length-set}
 use lib.Seq.{getD-set-same, getD-set-other, getD-take, length-take-le}
 use Rattle.lists.proofs.Tabulate.{tabulated}
-use Rattle.algebra.specs.Matrix.{Vector, Matrix, vector}
+use Rattle.algebra.specs.Matrix.{vector}
 use Rattle.algebra.specs.Reduction.{reduced}
 use Rattle.residue.specs.Arithmetic.{Residue}
-use Rattle.sparse.specs.Row.{Below}
 use Rattle.sparse.specs.WorkingRow.{Subtracted}
 use Rattle.factor_reduce.specs.InPlace.{RemainderRow, multiples}
 use Rattle.factor_reduce.proofs.Multiples.{reduced-next}
 use Rattle.factor_dense.specs.Block.{cellsOf}
-use Rattle.factor_dense.specs.Taking.{residuesOf, BlockReduceReady, BlockReduced}
+use Rattle.factor_dense.specs.Taking.{residuesOf, BlockReduced}
+use Rattle.factor_dense.specs.Needs.{BlockReduceReady}
 
 pub record Going (p b : ℕ) (ks : List ℕ) (block : List (List ℕ)) (row₀ row xs : List ℕ) (t : ℕ) : Type 0 where
   pub inside : t ≤ b

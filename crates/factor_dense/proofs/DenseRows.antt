@@ -24,13 +24,17 @@ use Rattle.sparse.specs.Storing.{DenseStored}
 use Rattle.sparse.proofs.Nonzeros.{count-append, nonzeros-one, stored-then, stored-columns, stored-values}
 use Rattle.sparse.proofs.Rows.{form-below}
 use Rattle.factor_reduce.specs.InPlace.{multiples}
-use Rattle.factor_row.specs.Gathering.{cut, multiplesBy, remainderBy}
+use Rattle.factor_row.specs.Gathering.{Reduction, reductionBy, cut}
+use Rattle.factor_row.specs.Entries.{entryListsOf}
 use Rattle.factor_row.specs.Taking.{nextUpperRow}
 use Rattle.factor_row.proofs.GatheredRows.{same-room}
 use Rattle.factor_row.proofs.TakenRows.{first-most}
+use Rattle.factor_dense.specs.declared.taking.LeftRow.{LeftRow}
+use Rattle.factor_dense.specs.declared.taking.UpperRow.{UpperRow}
 use Rattle.factor_dense.specs.Block.{cellsOf, Upper, whereNonzero}
 use Rattle.factor_dense.specs.Taking.{residuesOf, BlockReduced}
-use Rattle.factor_dense.specs.Turn.{LeftRowReady, LeftRowFound, DenseLowerReady, LowerFound, DenseUpperReady, UpperFound, NextRow, DenseReady, DenseTaken}
+use Rattle.factor_dense.specs.Turn.{LeftRowFound, LowerFound, UpperFound, NextRow, DenseTaken}
+use Rattle.factor_dense.specs.Needs.{LeftRowReady, DenseLowerReady, DenseUpperReady, DenseReady}
 use Rattle.factor_dense.proofs.Reduction.{tabulate-add}
 use Rattle.factor_dense.proofs.InBlock.{Begun, block-cell, lower-stored, lower-count, found-within, block-pivot, block-dependent, scaled-cell, scaled-past, upper-columns, upper-values}
 
@@ -79,7 +83,7 @@ multiples-long p r C U y = length-tabulate r (λ k. reduced p C U k y (C k))
 -- ---- the row
 
 module _ (p i s front r at l total : ℕ) (A : Compressed) (columns us js : List ℕ) (width : ℕ) (ks : List ℕ) (block : List (List ℕ)) (w lc lv uc uv : List ℕ)
-    (h : DenseReady p i s front r at l total A columns us js width ks block w lc lv uc uv) where
+    (h : DenseReady p i s front r at l total A columns us js width ks block w (entryListsOf lc lv uc uv)) where
   abbrev m : ℕ
   m = length w
 
@@ -93,21 +97,24 @@ module _ (p i s front r at l total : ℕ) (A : Compressed) (columns us js : List
   y = matrix A i
 
   -- its row of L, what remains of it, and its lowest-numbered column that is not 0, or m
+  abbrev reduction : Reduction
+  reduction = reductionBy p m r (take r columns) (cut r at us uc uv) y
+
   abbrev cs : List ℕ
-  cs = multiplesBy p r columns (cut r at us uc uv) y
+  cs = reduction .multiples
 
   abbrev rest : Vector
-  rest = remainderBy p r columns (cut r at us uc uv) y
+  rest = reduction .remainder
 
   abbrev c : ℕ
-  c = first m (λ j. eqb (rest j) 0)
+  c = reduction .column
 
   -- the same by the first s rows
-  abbrev cs₀ : List ℕ
-  cs₀ = multiplesBy p s columns (cut s front us uc uv) y
+  abbrev reduction₀ : Reduction
+  reduction₀ = reductionBy p m s (take s columns) (cut s front us uc uv) y
 
-  abbrev rest₀ : Vector
-  rest₀ = remainderBy p s columns (cut s front us uc uv) y
+  abbrev cs₀ : List ℕ
+  cs₀ = reduction₀ .multiples
 
   whole : s + (r - s) ≡ r
   whole = omega (arith, h .low)
@@ -126,7 +133,7 @@ module _ (p i s front r at l total : ℕ) (A : Compressed) (columns us js : List
 
   -- its row of L does not fit
   too-many : length lc < total + length (nonzeros cs) → (lc′ lv′ uc′ uv′ work′ : List ℕ) (found at′ l′ total′ place : ℕ) (row′ : List ℕ)
-      → DenseTaken p i r at l total A columns us js width m lc lv uc uv lc′ lv′ uc′ uv′ work′ true found at′ l′ total′ place row′
+      → DenseTaken p at l total reduction width js (entryListsOf lc lv uc uv) (entryListsOf lc′ lv′ uc′ uv′) work′ (record { step = record { over = true; column = found; at = at′; l = l′; total = total′ }; place = place; row = row′ })
   too-many few lc′ lv′ uc′ uv′ work′ found at′ l′ total′ place row′ =
       record {
         taken = record {
@@ -152,10 +159,16 @@ module _ (p i s front r at l total : ℕ) (A : Compressed) (columns us js : List
 
   -- ---- reduced by the first s rows
 
-  module _ (lc₁ lv₁ work₁ : List ℕ) (over₁ : Bool) (next₁ : ℕ) (row₀ : List ℕ) (g : LeftRowFound p m l total cs₀ rest₀ width js lc lv lc₁ lv₁ work₁ over₁ next₁ row₀) where
+  module _ (lc₁ lv₁ work₁ : List ℕ) (left : LeftRow) (g : LeftRowFound p l total reduction₀ width js lc lv lc₁ lv₁ work₁ left) where
+    abbrev next₁ : ℕ
+    next₁ = left .next
+
+    abbrev row₀ : List ℕ
+    row₀ = left .row
+
     -- its first multiples do not fit
-    pub first-over : over₁ ≡ true → (lc′ lv′ uc′ uv′ work′ : List ℕ) (found at′ l′ total′ place : ℕ) (row′ : List ℕ)
-        → DenseTaken p i r at l total A columns us js width m lc lv uc uv lc′ lv′ uc′ uv′ work′ true found at′ l′ total′ place row′
+    pub first-over : left .over ≡ true → (lc′ lv′ uc′ uv′ work′ : List ℕ) (found at′ l′ total′ place : ℕ) (row′ : List ℕ)
+        → DenseTaken p at l total reduction width js (entryListsOf lc lv uc uv) (entryListsOf lc′ lv′ uc′ uv′) work′ (record { step = record { over = true; column = found; at = at′; l = l′; total = total′ }; place = place; row = row′ })
     first-over e =
         let few : length lc < total + length (nonzeros cs₀) = leb-false (total + length (nonzeros cs₀)) (length lc) (g .fit ∙ ap not e) in
         too-many (omega (arith, ap (λ (z : List ℕ). length (nonzeros z)) begins, fewer-rows))
@@ -163,7 +176,7 @@ module _ (p i s front r at l total : ℕ) (A : Compressed) (columns us js : List
         fewer-rows : length (nonzeros (multiples p s C U y)) ≤ length (nonzeros cs)
         fewer-rows = rw whole at (fewer p s (r - s) C U y)
 
-    module _ (e : over₁ ≡ false) where
+    module _ (e : left .over ≡ false) where
       stored₁ : DenseStored 0 l cs₀ lc lv lc₁ lv₁ next₁
       stored₁ = g .stored e
 
@@ -214,7 +227,13 @@ module _ (p i s front r at l total : ℕ) (A : Compressed) (columns us js : List
               };
             }
 
-        module _ (lc₂ lv₂ : List ℕ) (over₂ : Bool) (next₂ : ℕ) (row₁ : List ℕ) (d : LowerFound p s (r - s) next₁ limit ks block row₀ lc₁ lv₁ lc₂ lv₂ over₂ next₂ row₁) where
+        module _ (lc₂ lv₂ : List ℕ) (lower : LeftRow) (d : LowerFound p s (r - s) next₁ limit ks block row₀ lc₁ lv₁ lc₂ lv₂ lower) where
+          abbrev next₂ : ℕ
+          next₂ = lower .next
+
+          abbrev row₁ : List ℕ
+          row₁ = lower .row
+
           abbrev ms : List ℕ
           ms = multiples p (r - s) (vector ks) (cellsOf block) (residuesOf p row₀)
 
@@ -228,13 +247,13 @@ module _ (p i s front r at l total : ℕ) (A : Compressed) (columns us js : List
               ∙ (λ t. length (nonzeros (sym begins t)) + length (nonzeros (done .taken t)))
 
           -- the multiples of the block's rows do not fit
-          pub block-over : over₂ ≡ true → (lc′ lv′ uc′ uv′ work′ : List ℕ) (found at′ l′ total′ place : ℕ) (row′ : List ℕ)
-              → DenseTaken p i r at l total A columns us js width m lc lv uc uv lc′ lv′ uc′ uv′ work′ true found at′ l′ total′ place row′
+          pub block-over : lower .over ≡ true → (lc′ lv′ uc′ uv′ work′ : List ℕ) (found at′ l′ total′ place : ℕ) (row′ : List ℕ)
+              → DenseTaken p at l total reduction width js (entryListsOf lc lv uc uv) (entryListsOf lc′ lv′ uc′ uv′) work′ (record { step = record { over = true; column = found; at = at′; l = l′; total = total′ }; place = place; row = row′ })
           block-over e₂ =
               let few : limit < next₁ + length (nonzeros ms) = leb-false (next₁ + length (nonzeros ms)) limit (d .taken .fit ∙ ap not e₂) in
               too-many (omega (arith, count, stored₁ .place, enough₁, long-columns))
 
-          module _ (e₂ : over₂ ≡ false) where
+          module _ (e₂ : lower .over ≡ false) where
             stored₂ : DenseStored 0 l cs lc lv lc₂ lv₂ next₂
             stored₂ =
                 let a : DenseStored 0 l (multiples p s C U y) lc lv lc₁ lv₁ next₁ = rw begins at stored₁ in
@@ -254,7 +273,7 @@ module _ (p i s front r at l total : ℕ) (A : Compressed) (columns us js : List
             module _ (k : ℕ) (ek : k ≡ first 32 (λ t. eqb (getD row₁ t 0 % p) 0)) where
               -- nothing remains
               pub block-nothing : k ≡ 32 → (found total′ : ℕ) → found ≡ length work₁ → total′ ≡ total + (next₂ - l) → (place : ℕ) (row′ : List ℕ)
-                  → DenseTaken p i r at l total A columns us js width m lc lv uc uv lc₂ lv₂ uc uv work₁ false found at l total′ place row′
+                  → DenseTaken p at l total reduction width js (entryListsOf lc lv uc uv) (entryListsOf lc₂ lv₂ uc uv) work₁ (record { step = record { over = false; column = found; at = at; l = l; total = total′ }; place = place; row = row′ })
               block-nothing e₃ found total′ ef et place row′ =
                   record {
                     taken = record {
@@ -290,7 +309,7 @@ module _ (p i s front r at l total : ℕ) (A : Compressed) (columns us js : List
                     rw ek
                     (found-within p m s (r - s) width (vector js) C ks U block y row₀ row₁ ms all-rows small (h .left) (h .narrow) (h .holds) begun done (rw ek at inside))
 
-                pub upper-ready : DenseUpperReady p r k at next₂ limit width js row₁ lc₂ lv₂ uc uv
+                pub upper-ready : DenseUpperReady p r k at next₂ limit width js row₁ (entryListsOf lc₂ lv₂ uc uv)
                 upper-ready =
                     record {
                       prime = h .prime;
@@ -325,8 +344,11 @@ module _ (p i s front r at l total : ℕ) (A : Compressed) (columns us js : List
                 unfolding nonzeros
                 one-more = count-append cs (rest c ∷ []) ∙ ap (λ (n : ℕ). length (nonzeros cs) + n) (nonzeros-one (rest c) [] (λ z. upper-ready .here (value ∙ z)))
 
-                module _ (lc₃ lv₃ uc₃ uv₃ : List ℕ) (over₃ : Bool) (at₃ l₃ : ℕ) (new : List ℕ)
-                    (u : UpperFound p r k at next₂ limit width js row₁ lc₂ lv₂ uc uv lc₃ lv₃ uc₃ uv₃ over₃ at₃ l₃ new) where
+                module _ (lc₃ lv₃ uc₃ uv₃ : List ℕ) (upper : UpperRow)
+                    (u : UpperFound p r k at next₂ limit width js row₁ (entryListsOf lc₂ lv₂ uc uv) (entryListsOf lc₃ lv₃ uc₃ uv₃) upper) where
+                  abbrev new : List ℕ
+                  new = upper .row
+
                   abbrev v : ℕ
                   v = invMod p (getD row₁ k 0 % p)
 
@@ -373,13 +395,13 @@ module _ (p i s front r at l total : ℕ) (A : Compressed) (columns us js : List
                           (scaled-cell p m s (r - s) width (vector js) C ks U block y row₀ row₁ ms all-rows small (h .left) (h .narrow) (h .holds) begun done v new (u .scaled) t a)
 
                   pub block-pivot-row : length js ≡ 32 → (found total′ : ℕ) → found ≡ getD js k 0 → total′ ≡ total + (next₂ - l) + 1
-                      → DenseTaken p i r at l total A columns us js width m lc lv uc uv lc₃ lv₃ uc₃ uv₃ work₁ over₃ found at₃ l₃ total′ k new
+                      → DenseTaken p at l total reduction width js (entryListsOf lc lv uc uv) (entryListsOf lc₃ lv₃ uc₃ uv₃) work₁ (record { step = record { over = upper .over; column = found; at = upper .at; l = upper .l; total = total′ }; place = k; row = new })
                   block-pivot-row long found total′ ef et =
                       record {
                         taken = record {
                           pivot = λ z. record {
                             fit = ap₂ (λ (a b : Bool). a && b) room-of-L (ap (λ (z : List ℕ). leb (at + length z) (length uc)) values-of-U) ∙ u .fit;
-                            lower = λ z. stored-then 0 l cs (rest c ∷ []) lc lv lc₂ lv₂ lc₃ lv₃ next₂ l₃ stored₂ (last (u .lower z));
+                            lower = λ z. stored-then 0 l cs (rest c ∷ []) lc lv lc₂ lv₂ lc₃ lv₃ next₂ (upper .l) stored₂ (last (u .lower z));
                             upper = λ z. record {
                               place = u .upper z .place ∙ ap (λ (z : List ℕ). at + length z) (sym values-of-U);
                               columns = rw (columns-of-U long) (u .upper z .columns);
@@ -402,5 +424,5 @@ module _ (p i s front r at l total : ℕ) (A : Compressed) (columns us js : List
                           sym (same-room l total (length (nonzeros (cs ++ (rest c ∷ [])))) (length lc) (h .lists .L-room))
                           ∙ ap₂ leb (sym places) (ap (λ (n : ℕ). l + (n - total)) (sym long-columns) ∙ sym el)
 
-                      last : DenseStored r next₂ (getD row₁ k 0 % p ∷ []) lc₂ lv₂ lc₃ lv₃ l₃ → DenseStored (0 + length cs) next₂ (rest c ∷ []) lc₂ lv₂ lc₃ lv₃ l₃
+                      last : DenseStored r next₂ (getD row₁ k 0 % p ∷ []) lc₂ lv₂ lc₃ lv₃ (upper .l) → DenseStored (0 + length cs) next₂ (rest c ∷ []) lc₂ lv₂ lc₃ lv₃ (upper .l)
                       last z = rw (zero-add, multiples-long p r C U y, sym value) z

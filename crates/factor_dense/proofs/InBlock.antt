@@ -1,8 +1,8 @@
 -- A row reduced by the first s rows of U and then in the block is the row reduced by s + b rows of U: its row of L, its pivot column, and what is stored of it.
-use mathlib.Core.Path.{_≡_, refl, sym, ap, ap₂, _∙_}
+use mathlib.Core.Path.{_≡_, sym, ap, _∙_}
 use mathlib.Core.Bool.{Bool, true, false, true≢false}
-use mathlib.Core.List.{List, [], _∷_, _++_}
-use Prim.Native.Nat.{ℕ, zero, suc, _+_, _*_, _%_, _≤_, _<_}
+use mathlib.Core.List.{List, _++_}
+use Prim.Native.Nat.{ℕ, _+_, _*_, _%_, _≤_, _<_}
 use native.Mathlib.Decide.{decLt}
 use native.Mathlib.Nat.{zero-mod, zero-add}
 use native.Mathlib.Omega.{arith}
@@ -20,7 +20,7 @@ use Rattle.sparse.specs.Dense.{columnsFrom, nonzeros}
 use Rattle.sparse.specs.Storing.{DenseStored}
 use Rattle.sparse.proofs.Nonzeros.{count-append, stored-then}
 use Rattle.factor_reduce.specs.InPlace.{multiples, RemainderRow}
-use Rattle.factor_dense.specs.Block.{cellsOf, LeftColumns, BlockHolds, Upper, whereNonzero}
+use Rattle.factor_dense.specs.Block.{LeftColumns, BlockHolds, Upper, whereNonzero}
 use Rattle.factor_dense.specs.Taking.{residuesOf, LeftCells, BlockReduced}
 use Rattle.factor_dense.specs.Storing.{RowScaled}
 use Rattle.factor_dense.proofs.Reduction.{reduced-block, reduced-past, multiples-block}

@@ -1,12 +1,12 @@
 -- The cells of the working row copied one after another.
-use mathlib.Core.Path.{_≡_, refl, sym, ap, _∙_}
+use mathlib.Core.Path.{_≡_, refl, _∙_}
 use mathlib.Core.List.{List}
 use Prim.Native.Nat.{ℕ, zero, suc, _+_, _≤_, _<_}
 use native.Mathlib.Decide.{ℕ-discrete}
 use native.Mathlib.Omega.{arith}
 use lib.ListN.{length, getD, set, length-set, replicate}
 use lib.Seq.{getD-set-same, getD-set-other}
-use Rattle.factor_dense.specs.Taking.{CellsReady, LeftCells}
+use Rattle.factor_dense.specs.Taking.{LeftCells}
 
 pub record Copying (width : ℕ) (js w out : List ℕ) (l : ℕ) : Type 0 where
   pub inside : l ≤ width

@@ -1,5 +1,5 @@
 -- The cells of a block row stored one after another, each under its own column.
-use mathlib.Core.Path.{_≡_, refl, sym, ap, ap₂, _∙_}
+use mathlib.Core.Path.{_≡_, refl, sym, ap, _∙_}
 use mathlib.Core.Bool.{Bool, true, false, not, true≢false}
 use mathlib.Core.List.{List, [], _∷_, _++_}
 use Prim.Native.Nat.{ℕ, zero, suc, _+_, _≤_, _<_}
@@ -9,10 +9,10 @@ use lib.Seq.{sets, length-sets, length-take-le, take-suc}
 use borrow.Author.Tests.{leb-true, leb-false, le-leb, lt-leb}
 use Rattle.lists.proofs.Steps.{sets-append}
 use Rattle.sparse.specs.Dense.{nonzeros, columnsFrom}
-use Rattle.sparse.specs.Storing.{DenseStored}
 use Rattle.sparse.proofs.Nonzeros.{count-append, nonzeros-append}
 use Rattle.factor_dense.specs.Block.{whereNonzero}
-use Rattle.factor_dense.specs.Storing.{PlaceReady, EntryStored, LeftReady, ChosenStored, LeftStored}
+use Rattle.factor_dense.specs.Storing.{EntryStored, ChosenStored, LeftStored}
+use Rattle.factor_dense.specs.Needs.{PlaceReady, LeftReady}
 use Rattle.factor_dense.proofs.StoringSteps.{count-take}
 
 -- ---- in parts

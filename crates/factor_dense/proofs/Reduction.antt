@@ -1,6 +1,6 @@
 -- Reduction by the block is reduction by the rows of U that it holds.
-use mathlib.Core.Path.{_≡_, refl, sym, ap, ap₂, _∙_}
-use mathlib.Core.List.{List, [], _∷_, _++_}
+use mathlib.Core.Path.{_≡_, refl, sym, ap, _∙_}
+use mathlib.Core.List.{List, _∷_, _++_}
 use Prim.Native.Nat.{ℕ, zero, suc, _+_, _-_, _*_, _%_, _≤_, _<_}
 use native.Mathlib.Nat.{zero-mod, zero-add, add-zero}
 use native.Mathlib.Omega.{arith}
@@ -8,7 +8,6 @@ use Rattle.lists.specs.Tabulate.{tabulate}
 use Rattle.lists.proofs.Tabulate.{tabulate-ext}
 use Rattle.algebra.specs.Matrix.{Vector, Matrix}
 use Rattle.algebra.specs.Reduction.{reduced}
-use Rattle.algebra.proofs.Reduction.{reduced-pivot}
 use Rattle.factor_reduce.specs.InPlace.{multiples}
 use Rattle.factor_dense.specs.Block.{cellsOf, BlockHolds}
 

@@ -1,10 +1,9 @@
 -- The multiples stored one after another, and the cells of a row scaled one after another.
-use mathlib.Core.Path.{_≡_, refl, sym, ap, _∙_}
+use mathlib.Core.Path.{_≡_, sym, ap, _∙_}
 use mathlib.Core.Bool.{Bool, true, false, not, true≢false}
 use mathlib.Core.List.{List, [], _∷_, _++_}
 use Prim.Native.Nat.{ℕ, zero, suc, _+_, _*_, _%_, _≤_, _<_}
 use native.Mathlib.Decide.{ℕ-discrete}
-use native.Mathlib.Numerals.{add-one}
 use native.Mathlib.Omega.{arith}
 use lib.ListN.{length, getD, take, set, length-set}
 use lib.Seq.{getD-set-same, getD-set-other, length-take-le, take-suc}
@@ -13,7 +12,8 @@ use Rattle.sparse.specs.Dense.{nonzeros}
 use Rattle.sparse.specs.Storing.{DenseStored}
 use Rattle.sparse.proofs.Nonzeros.{count-append, nonzeros-zero, nonzeros-one, stored-none, stored-zero, stored-one, stored-then, stored-columns, stored-values}
 use Rattle.residue.specs.Arithmetic.{Residue}
-use Rattle.factor_dense.specs.Storing.{PlaceReady, EntryStored, StoreMultiplesReady, MultiplesStored, RowScaled}
+use Rattle.factor_dense.specs.Storing.{EntryStored, MultiplesStored, RowScaled}
+use Rattle.factor_dense.specs.Needs.{PlaceReady, StoreMultiplesReady}
 
 -- ---- one entry
 

@@ -10,10 +10,12 @@ use Rattle.residue.specs.Arithmetic.{Residue}
 use Rattle.residue.specs.Inverse.{invMod, Invertible}
 use Rattle.sparse.specs.Dense.{nonzeros}
 use Rattle.sparse.proofs.Nonzeros.{nonzeros-one}
-use Rattle.factor_dense.specs.Storing.{PlaceReady, EntryStored, LeftReady, LeftStored, RowScaled}
-use Rattle.factor_dense.specs.Turn.{DenseUpperReady, UpperFound}
+use Rattle.factor_row.specs.Entries.{entryListsOf}
+use Rattle.factor_dense.specs.Storing.{EntryStored, LeftStored, RowScaled}
+use Rattle.factor_dense.specs.Turn.{UpperFound}
+use Rattle.factor_dense.specs.Needs.{PlaceReady, LeftReady, DenseUpperReady}
 
-module _ (p r k at next limit width : ℕ) (js row lc₀ lv₀ uc₀ uv₀ : List ℕ) (h : DenseUpperReady p r k at next limit width js row lc₀ lv₀ uc₀ uv₀) where
+module _ (p r k at next limit width : ℕ) (js row lc₀ lv₀ uc₀ uv₀ : List ℕ) (h : DenseUpperReady p r k at next limit width js row (entryListsOf lc₀ lv₀ uc₀ uv₀)) where
   pub entry-ready : PlaceReady r next limit lc₀ lv₀
   entry-ready = record { narrow = h .rank; lists = h .lower }
 
@@ -39,7 +41,7 @@ module _ (p r k at next limit width : ℕ) (js row lc₀ lv₀ uc₀ uv₀ : Lis
       first : leb (next + 1) limit ≡ not full
       first = ap (λ (n : ℕ). leb (next + n) limit) (sym one) ∙ e .fit
 
-      pub upper-full : full ≡ true → (lc′ lv′ uc uv : List ℕ) (at′ l′ : ℕ) → UpperFound p r k at next limit width js row lc₀ lv₀ uc₀ uv₀ lc′ lv′ uc uv true at′ l′ new
+      pub upper-full : full ≡ true → (lc′ lv′ uc uv : List ℕ) (at′ l′ : ℕ) → UpperFound p r k at next limit width js row (entryListsOf lc₀ lv₀ uc₀ uv₀) (entryListsOf lc′ lv′ uc uv) (record { over = true; at = at′; l = l′; row = new })
       upper-full o lc′ lv′ uc uv at′ l′ =
           record {
             scaled = scaled;
@@ -49,7 +51,7 @@ module _ (p r k at next limit width : ℕ) (js row lc₀ lv₀ uc₀ uv₀ : Lis
           }
 
       pub upper-stored : full ≡ false → (uc uv : List ℕ) (over : Bool) (at′ : ℕ) → LeftStored at (length uc₀) (take width js) (take width new) uc₀ uv₀ uc uv over at′
-          → UpperFound p r k at next limit width js row lc₀ lv₀ uc₀ uv₀ lc lv uc uv over at′ l new
+          → UpperFound p r k at next limit width js row (entryListsOf lc₀ lv₀ uc₀ uv₀) (entryListsOf lc lv uc uv) (record { over = over; at = at′; l = l; row = new })
       upper-stored o uc uv over at′ u =
           record {
             scaled = scaled;

@@ -1,13 +1,10 @@
 -- The multiples of the rows of a block stored as the end of a row of L, and the row of U under its own columns.
---   PlaceReady k at limit lc lv       an entry at column k can be stored at place `at`, if that is below the limit
 --   EntryStored k x at limit ..       it is, unless it is 0 or there is no room
---   StoreMultiplesReady s b l limit ..     the first b numbers of a block row of multiples can be stored, that of row t at column s + t
 --   MultiplesStored s l limit xs ..   they are, zeros left out, unless they do not fit
---   LeftReady width l limit js ..     the first cells of a block row can be stored under the columns js
 --   ChosenStored at cs vs ..          the numbers of vs that are not 0 stand at place `at`, each under its column in cs; `next` is the place after them
 --   LeftStored l limit cs vs ..       they do, unless they do not fit
 --   RowScaled p c row r               r is the residues that the cells of `row` stand for, each times c
-use Prim.Native.Nat.{ℕ, _+_, _*_, _%_, _^_, _≤_, _<_}
+use Prim.Native.Nat.{ℕ, _+_, _*_, _%_, _<_}
 use mathlib.Core.Path.{_≡_}
 use mathlib.Core.Bool.{Bool, false, not}
 use mathlib.Core.List.{List, [], _∷_}
@@ -16,21 +13,11 @@ use lib.ListN.{length, getD}
 use lib.Seq.{sets}
 use Rattle.sparse.specs.Dense.{nonzeros}
 use Rattle.sparse.specs.Storing.{DenseStored}
-use Rattle.factor_reduce.specs.Gathering.{RoomTo}
 use Rattle.factor_dense.specs.Block.{whereNonzero}
-
-pub record PlaceReady (k at limit : ℕ) (lc lv : List ℕ) : Type 0 where
-  pub narrow : k < 2 ^ 32
-  pub lists : RoomTo at limit lc lv
 
 pub record EntryStored (k x at limit : ℕ) (lc₀ lv₀ lc lv : List ℕ) (over : Bool) (next : ℕ) : Type 0 where
   pub fit : leb (at + length (nonzeros (x ∷ []))) limit ≡ not over
   pub stored : over ≡ false → DenseStored k at (x ∷ []) lc₀ lv₀ lc lv next
-
-pub record StoreMultiplesReady (s b l limit : ℕ) (lc lv : List ℕ) : Type 0 where
-  pub rows : b ≤ 32
-  pub narrow : s + b ≤ 2 ^ 32
-  pub lists : RoomTo l limit lc lv
 
 pub record MultiplesStored (s l limit : ℕ) (xs lc₀ lv₀ lc lv : List ℕ) (over : Bool) (next : ℕ) : Type 0 where
   pub fit : leb (l + length (nonzeros xs)) limit ≡ not over
@@ -40,11 +27,6 @@ pub record RowScaled (p c : ℕ) (row r : List ℕ) : Type 0 where
   pub long : length r ≡ 32
   pub cells : (l : ℕ) → l < 32 → getD r l 0 ≡ c * (getD row l 0 % p) % p
   pub below : (l : ℕ) → l < 32 → getD r l 0 < p
-
-pub record LeftReady (width l limit : ℕ) (js lc lv : List ℕ) : Type 0 where
-  pub rows : width ≤ 32
-  pub narrow : (t : ℕ) → t < width → getD js t 0 < 2 ^ 32
-  pub lists : RoomTo l limit lc lv
 
 pub record ChosenStored (at : ℕ) (cs vs lc₀ lv₀ lc lv : List ℕ) (next : ℕ) : Type 0 where
   pub place : next ≡ at + length (nonzeros vs)

@@ -1,42 +1,21 @@
 -- A row of 32 cells less multiples of the rows of a block. The row stands for the residues of its cells, which are below p * p.
 --   residuesOf p row             the vector that the cells stand for
---   CellsReady width js w        the first columns of js are inside the working row
 --   LeftCells width js w r       r has the cells of the working row at the first columns of js, and 0 past them
---   TakeReady p t c block row    what taking row t of the block away c times needs
---   BlockReduceReady p b ks ..        what reducing a row by the first b rows of the block needs; ks has the place of each row's pivot
 --   BlockReduced p b ks ..       the cells stand for what remains, and xs begins with the multiples that were taken away
-use Prim.Native.Nat.{ℕ, _*_, _%_, _≤_, _<_}
+use Prim.Native.Nat.{ℕ, _%_, _≤_, _<_}
 use mathlib.Core.Path.{_≡_}
 use mathlib.Core.List.{List}
 use lib.ListN.{length, getD, take}
 use Rattle.algebra.specs.Matrix.{Vector, vector}
-use Rattle.sparse.specs.Row.{Below}
 use Rattle.factor_reduce.specs.InPlace.{RemainderRow, multiples}
 use Rattle.factor_dense.specs.Block.{cellsOf}
 
 abbrev pub residuesOf : ℕ → List ℕ → Vector
 residuesOf p row = λ l. getD row l 0 % p
 
-pub record TakeReady (p t c : ℕ) (block : List (List ℕ)) (row : List ℕ) : Type 0 where
-  pub place : t < 32
-  pub residue : c < p
-  pub cells : (l : ℕ) → l < 32 → cellsOf block t l < p
-  pub below : Below (p * p) row
-
-pub record BlockReduceReady (p b : ℕ) (ks : List ℕ) (block : List (List ℕ)) (row : List ℕ) : Type 0 where
-  pub positive : 0 < p
-  pub rows : b ≤ 32
-  pub places : (t : ℕ) → t < b → getD ks t 0 < 32
-  pub cells : (t l : ℕ) → t < b → l < 32 → cellsOf block t l < p
-  pub below : Below (p * p) row
-
 pub record BlockReduced (p b : ℕ) (ks : List ℕ) (block : List (List ℕ)) (row₀ row xs : List ℕ) : Type 0 where
   pub remainder : RemainderRow p 32 b (vector ks) (cellsOf block) (residuesOf p row₀) row
   pub taken : take b xs ≡ multiples p b (vector ks) (cellsOf block) (residuesOf p row₀)
-
-pub record CellsReady (width : ℕ) (js w : List ℕ) : Type 0 where
-  pub rows : width ≤ 32
-  pub inside : (l : ℕ) → l < width → getD js l 0 < length w
 
 pub record LeftCells (width : ℕ) (js w r : List ℕ) : Type 0 where
   pub long : length r ≡ 32

@@ -1,10 +1,11 @@
 // One row that has no structural pivot, taken in the block: what is done in the working row is its reduction by the rows of U
 // that the block does not hold.
 ghost use lib.ListN.{length};
-ghost use Rattle.sparse.specs.Matrix.{matrix};
-ghost use Rattle.sparse.specs.Views.{before, after, storedAt, storedBefore};
-ghost use Rattle.factor_row.specs.Gathering.{cut, multiplesBy, remainderBy};
-ghost use Rattle.factor_dense.specs.Turn.{LeftRowReady, LeftRowFound, DenseLowerReady, LowerFound, DenseUpperReady, UpperFound, DenseReady, DenseTaken};
+ghost use Rattle.sparse.specs.Views.{before, after, storedAt};
+ghost use Rattle.factor_row.specs.Gathering.{reductionBy};
+ghost use Rattle.factor_row.specs.Entries.{entriesAt, entriesBefore, entriesAfter, rowBefore, frontBefore, cutBefore};
+ghost use Rattle.factor_dense.specs.Turn.{LeftRowFound, LowerFound, UpperFound, DenseTaken};
+ghost use Rattle.factor_dense.specs.Needs.{LeftRowReady, DenseLowerReady, DenseUpperReady, DenseReady};
 use crate::block::left_cells;
 use crate::block::reduce_in_block;
 use crate::storing::first_left;
@@ -25,7 +26,7 @@ pub struct LeftRow {
 }
 
 // A row stored as a row of U: whether it did not fit, where U and L end, and the row divided by its pivot.
-pub struct PivotStored {
+pub struct UpperRow {
     pub over: bool,
     pub at: usize,
     pub l: usize,
@@ -62,7 +63,7 @@ fn reduce_left(
     work: &mut [u64],
 ) -> LeftRow
     requires { ⌜ LeftRowReady (q .p) i s first l total (storedAt starts cols vals) (now co) (now us) (now uc) (now uv) js width (now work) (now lc) (now lv) ⌝ }
-    ensures { λ d. ⌜ LeftRowFound (q .p) (length (before work)) l total (multiplesBy (q .p) s (before co) (cut s first (before us) (before uc) (before uv)) (matrix (storedBefore starts cols vals) i)) (remainderBy (q .p) s (before co) (cut s first (before us) (before uc) (before uv)) (matrix (storedBefore starts cols vals) i)) width js (before lc) (before lv) (after lc) (after lv) (after work) (d .over) (d .next) (d .row) ⌝ }
+    ensures { λ d. ⌜ LeftRowFound (q .p) l total (reductionBy (q .p) (length (before work)) s (frontBefore s co) (cutBefore s first us uc uv) (rowBefore starts cols vals i)) width js (before lc) (before lv) (after lc) (after lv) (after work) d ⌝ }
 {
     let g = gather_row(
         q,
@@ -105,7 +106,7 @@ fn lower_left(
     lv: &mut [u32],
 ) -> LeftRow
     requires { ⌜ DenseLowerReady (q .p) s b next limit (now ks) (now block) row (now lc) (now lv) ⌝ }
-    ensures { λ d. ⌜ LowerFound (q .p) s b next limit (before ks) (before block) row (before lc) (before lv) (after lc) (after lv) (d .over) (d .next) (d .row) ⌝ }
+    ensures { λ d. ⌜ LowerFound (q .p) s b next limit (before ks) (before block) row (before lc) (before lv) (after lc) (after lv) d ⌝ }
 {
     let done = reduce_in_block(q, block, ks, b, row);
     let xs = done.multiples;
@@ -133,16 +134,16 @@ fn upper_left(
     lv: &mut [u32],
     uc: &mut [u32],
     uv: &mut [u32],
-) -> PivotStored
-    requires { ⌜ DenseUpperReady (q .p) r k at next limit width js row (now lc) (now lv) (now uc) (now uv) ⌝ }
-    ensures { λ d. ⌜ UpperFound (q .p) r k at next limit width js row (before lc) (before lv) (before uc) (before uv) (after lc) (after lv) (after uc) (after uv) (d .over) (d .at) (d .l) (d .row) ⌝ }
+) -> UpperRow
+    requires { ⌜ DenseUpperReady (q .p) r k at next limit width js row (entriesAt lc lv uc uv) ⌝ }
+    ensures { λ d. ⌜ UpperFound (q .p) r k at next limit width js row (entriesBefore lc lv uc uv) (entriesAfter lc lv uc uv) d ⌝ }
 {
     let v = q.reduce_cell(row[k]);
     let new = scale_row(q, q.invert(v), row);
     let e = store_entry(r, v, next, limit, lc, lv);
     let l = e.next;
     if e.over {
-        return PivotStored {
+        return UpperRow {
             over: true,
             at: at,
             l: l,
@@ -150,7 +151,7 @@ fn upper_left(
         };
     }
     let u = store_left(js, new, width, at, uc.len(), uc, uv);
-    PivotStored {
+    UpperRow {
         over: u.over,
         at: u.next,
         l: l,
@@ -184,8 +185,8 @@ pub fn take_dense(
     uv: &mut [u32],
     work: &mut [u64],
 ) -> DenseStep
-    requires { ⌜ DenseReady (q .p) i s first r at l total (storedAt starts cols vals) (now co) (now us) js width (now ks) (now block) (now work) (now lc) (now lv) (now uc) (now uv) ⌝ }
-    ensures { λ d. ⌜ DenseTaken (q .p) i r at l total (storedBefore starts cols vals) (before co) (before us) js width (length (before work)) (before lc) (before lv) (before uc) (before uv) (after lc) (after lv) (after uc) (after uv) (after work) (d .step .over) (d .step .column) (d .step .at) (d .step .l) (d .step .total) (d .place) (d .row) ⌝ }
+    requires { ⌜ DenseReady (q .p) i s first r at l total (storedAt starts cols vals) (now co) (now us) js width (now ks) (now block) (now work) (entriesAt lc lv uc uv) ⌝ }
+    ensures { λ d. ⌜ DenseTaken (q .p) at l total (reductionBy (q .p) (length (before work)) r (frontBefore r co) (cutBefore r at us uc uv) (rowBefore starts cols vals i)) width js (entriesBefore lc lv uc uv) (entriesAfter lc lv uc uv) (after work) d ⌝ }
 {
     let left = reduce_left(
         q,

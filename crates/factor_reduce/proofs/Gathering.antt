@@ -17,7 +17,8 @@ use Rattle.sparse.specs.Dense.{nonzeros}
 use Rattle.sparse.specs.Storing.{DenseStored}
 use Rattle.sparse.proofs.Nonzeros.{count-append, nonzeros-zero, nonzeros-one, stored-none, stored-zero, stored-one, stored-then, stored-columns, stored-values}
 use Rattle.factor_reduce.specs.InPlace.{multiples, RemainderRow, MultipleTaken}
-use Rattle.factor_reduce.specs.Gathering.{EntryReady, EntryGathered, GatherReady, MultiplesGathered}
+use Rattle.factor_reduce.specs.Gathering.{EntryGathered, MultiplesGathered}
+use Rattle.factor_reduce.specs.Needs.{EntryReady, GatherReady}
 use Rattle.factor_reduce.proofs.Multiples.{nothing-taken, reduced-next}
 
 -- ---- the multiples as a dense row

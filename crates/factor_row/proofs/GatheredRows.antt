@@ -10,13 +10,15 @@ use lib.Seq.{slice, length-take-le}
 use borrow.Author.Tests.{leb-true, leb-false, le-leb, lt-leb}
 use Rattle.lists.specs.Tabulate.{tabulate}
 use Rattle.algebra.specs.Matrix.{vector}
-use Rattle.algebra.specs.Reduction.{reduced}
 use Rattle.sparse.specs.Matrix.{Compressed, compressed, matrix}
 use Rattle.sparse.specs.Dense.{nonzeros}
-use Rattle.factor_reduce.specs.Gathering.{GatherReady, MultiplesGathered}
+use Rattle.factor_reduce.specs.Gathering.{MultiplesGathered}
+use Rattle.factor_reduce.specs.Needs.{GatherReady}
 use Rattle.factor_reduce.proofs.Remainder.{gathered-ext}
-use Rattle.factor_row.specs.Loading.{multiples}
-use Rattle.factor_row.specs.Gathering.{cut, multiplesBy, remainderBy, GatherRowReady, GatherReadyFrom, RowGathered}
+use Rattle.factor_reduce.specs.declared.gather.Gathered.{Gathered}
+use Rattle.factor_reduce.specs.InPlace.{multiples}
+use Rattle.factor_row.specs.Gathering.{reductionBy, cut, RowGathered}
+use Rattle.factor_row.specs.Needs.{GatherRowReady, GatherReadyFrom}
 use Rattle.factor_row.proofs.LoadedRows.{loaded-long, loaded-cell, upper-loaded}
 
 -- n entries fit from place l on, where those up to `total` are counted, exactly if all are no more than the lists hold
@@ -37,10 +39,10 @@ module _ (p i l total : ℕ) (A : Compressed) (C : List ℕ) (U : Compressed) (w
         lists = record { place = low; room = high; paired = h .paired };
       }
 
-  pub gathered-done : (limit : ℕ) → limit ≡ l + (length lc - total) → (lc′ lv′ w₂ : List ℕ) (over : Bool) (next : ℕ)
-      → MultiplesGathered p (length w₁) C U (λ j. getD w₁ j 0 % p) l limit lc lv lc′ lv′ w₂ over next
-      → RowGathered p (length w) l total (multiples p (length C) (vector C) (matrix U) (matrix A i)) (reduced p (vector C) (matrix U) (length C) (matrix A i)) lc lv lc′ lv′ w₂ over next
-  gathered-done limit el lc′ lv′ w₂ over next d =
+  pub gathered-done : (limit : ℕ) → limit ≡ l + (length lc - total) → (lc′ lv′ w₂ : List ℕ) (g : Gathered)
+      → MultiplesGathered p (length w₁) C U (λ j. getD w₁ j 0 % p) l limit lc lv lc′ lv′ w₂ (g .over) (g .next)
+      → RowGathered p l total (reductionBy p (length w) (length C) C U (matrix A i)) lc lv lc′ lv′ w₂ g
+  gathered-done limit el lc′ lv′ w₂ g d =
       record {
         fit = sym (ap (leb (l + count)) el ∙ same-room l total count (length lc) (h .room)) ∙ q .fit;
         stored = q .stored;
@@ -54,10 +56,10 @@ module _ (p i l total : ℕ) (A : Compressed) (C : List ℕ) (U : Compressed) (w
       long : length w₁ ≡ length w
       long = loaded-long p i A C U w (h .row) w₁ e
 
-      q : MultiplesGathered p (length w₁) C U (matrix A i) l limit lc lv lc′ lv′ w₂ over next
+      q : MultiplesGathered p (length w₁) C U (matrix A i) l limit lc lv lc′ lv′ w₂ (g .over) (g .next)
       q =
           gathered-ext p (length w₁) C U (λ j. getD w₁ j 0 % p) (matrix A i) (upper-loaded p i A C U w (h .row) w₁ e .columns .below) (loaded-cell p i A C U w (h .row) w₁ e)
-          l limit lc lv lc′ lv′ w₂ over next d
+          l limit lc lv lc′ lv′ w₂ (g .over) (g .next) d
 
 -- ---- by lists that are cut first
 
@@ -66,10 +68,10 @@ module _ (p i r at l total : ℕ) (A : Compressed) (columns us uc uv w lc lv : L
   pub cut-ready : GatherRowReady p i l total A C (compressed us₁ uc₁ uv₁) w lc lv
   cut-ready = rw (eC, es, ec, ev) (h .row)
 
-  pub cut-done : (lc′ lv′ w₂ : List ℕ) (over : Bool) (next : ℕ)
-      → RowGathered p (length w) l total (multiples p (length C) (vector C) (matrix (compressed us₁ uc₁ uv₁)) (matrix A i)) (reduced p (vector C) (matrix (compressed us₁ uc₁ uv₁)) (length C) (matrix A i)) lc lv lc′ lv′ w₂ over next
-      → RowGathered p (length w) l total (multiplesBy p r columns (cut r at us uc uv) (matrix A i)) (remainderBy p r columns (cut r at us uc uv) (matrix A i)) lc lv lc′ lv′ w₂ over next
-  cut-done lc′ lv′ w₂ over next d =
-      subst (λ (n : ℕ). RowGathered p (length w) l total (multiples p n (vector (take r columns)) (matrix (cut r at us uc uv)) (matrix A i)) (reduced p (vector (take r columns)) (matrix (cut r at us uc uv)) n (matrix A i)) lc lv lc′ lv′ w₂ over next)
+  pub cut-done : (lc′ lv′ w₂ : List ℕ) (g : Gathered)
+      → RowGathered p l total (reductionBy p (length w) (length C) C (compressed us₁ uc₁ uv₁) (matrix A i)) lc lv lc′ lv′ w₂ g
+      → RowGathered p l total (reductionBy p (length w) r (take r columns) (cut r at us uc uv) (matrix A i)) lc lv lc′ lv′ w₂ g
+  cut-done lc′ lv′ w₂ g d =
+      subst (λ (n : ℕ). RowGathered p l total (reductionBy p (length w) n (take r columns) (cut r at us uc uv) (matrix A i)) lc lv lc′ lv′ w₂ g)
       (length-take-le r columns (h .rank))
       (rw (eC, es, ec, ev) at d)

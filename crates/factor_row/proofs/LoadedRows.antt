@@ -15,8 +15,8 @@ use Rattle.sparse.specs.Storing.{LoadReady}
 use Rattle.sparse.proofs.Rows.{form-row, form-starts, form-paired, form-below}
 use Rattle.sparse.proofs.WordLaws.{view-list}
 use Rattle.sparse.proofs.DenseSteps.{loaded-below}
-use Rattle.factor_reduce.specs.InPlace.{EchelonReady}
-use Rattle.factor_row.specs.Loading.{RowLoadable, RowReduceReady}
+use Rattle.factor_reduce.specs.Needs.{EchelonReady}
+use Rattle.factor_row.specs.Needs.{RowLoadable, RowReduceReady}
 
 module _ (p i : ℕ) (A : Compressed) (w : List ℕ) (h : RowLoadable p i A w) where
   -- where row i lies in the lists

@@ -24,8 +24,11 @@ use Rattle.sparse.proofs.Entries.{entry-below, row-values}
 use Rattle.sparse.proofs.Nonzeros.{count-append, nonzeros-one, stored-then, stored-one}
 use Rattle.sparse.proofs.Rows.{form-row}
 use Rattle.sparse.proofs.SparseDense.{nonzeros-zeros, columns-zeros, multiple-count, copied-stored}
-use Rattle.factor_row.specs.PivotCopy.{PivotCopyReady}
-use Rattle.factor_row.specs.Taking.{nextUpperRow, PivotFound, RowFound, PairReady}
+use Rattle.factor_row.specs.declared.pivot_row.Step.{Step}
+use Rattle.factor_row.specs.Gathering.{asItStands}
+use Rattle.factor_row.specs.Entries.{entryListsOf}
+use Rattle.factor_row.specs.Taking.{nextUpperRow, PivotFound, RowFound}
+use Rattle.factor_row.specs.Needs.{PivotCopyReady, PairReady}
 use Rattle.factor_row.proofs.PivotRows.{inverse-invertible}
 
 -- ---- zeros of L are not stored
@@ -40,7 +43,7 @@ stored-zeros l r lc lv =
 
 -- ---- a stored row is copied
 
-module _ (p m c r at l total : ℕ) (cols vals lc lv uc uv : List ℕ) (h : PivotCopyReady p m c r at l total cols vals lc lv uc uv) where
+module _ (p m c r at l total : ℕ) (cols vals lc lv uc uv : List ℕ) (h : PivotCopyReady p m c r at l total cols vals (entryListsOf lc lv uc uv)) where
   abbrev v : ℕ
   v = entry cols vals c
 
@@ -70,7 +73,7 @@ module _ (p m c r at l total : ℕ) (cols vals lc lv uc uv : List ℕ) (h : Pivo
     tested : (leb (total + length (nonzeros (zeros r ++ (v ∷ [])))) (length lc) && leb (at + length (nonzeros (nextUpperRow p m c (entry cols vals)))) (length uc)) ≡ b
     tested = (λ t. leb (total + entries-of-L t) (length lc) && leb (at + entries-of-U t) (length uc)) ∙ sym eb
 
-    pub copy-over : b ≡ false → (at′ l′ total′ : ℕ) → PivotFound p m at l total (zeros r) (entry cols vals) c lc lv uc uv lc lv uc uv true at′ l′ total′
+    pub copy-over : b ≡ false → (at′ l′ total′ : ℕ) → PivotFound p at l total (asItStands m r c (entry cols vals)) (entryListsOf lc lv uc uv) (entryListsOf lc lv uc uv) (record { over = true; column = c; at = at′; l = l′; total = total′ })
     copy-over e at′ l′ total′ =
         record { fit = tested ∙ e; lower = λ z. absurd (true≢false z); upper = λ z. absurd (true≢false z); count = λ z. absurd (true≢false z) }
 
@@ -89,7 +92,7 @@ module _ (p m c r at l total : ℕ) (cols vals lc lv uc uv : List ℕ) (h : Pivo
           }
 
       pub copy-done : (x i : ℕ) → x ≡ v → i ≡ invMod p x → (uc′ uv′ : List ℕ) (at′ : ℕ) → Copied p i at cols vals uc uv uc′ uv′ at′
-          → PivotFound p m at l total (zeros r) (entry cols vals) c lc lv uc uv (set lc l r) (set lv l x) uc′ uv′ false at′ (l + 1) (total + 1)
+          → PivotFound p at l total (asItStands m r c (entry cols vals)) (entryListsOf lc lv uc uv) (entryListsOf (set lc l r) (set lv l x) uc′ uv′) (record { over = false; column = c; at = at′; l = l + 1; total = total + 1 })
       unfolding nextUpperRow
       copy-done x i ex ei uc′ uv′ at′ d =
           record {
@@ -104,7 +107,7 @@ module _ (p m c r at l total : ℕ) (cols vals lc lv uc uv : List ℕ) (h : Pivo
 
 -- ---- row i of the matrix, as a part of its lists
 
-module _ (p i c r at l total : ℕ) (A : Compressed) (w lc lv uc uv : List ℕ) (h : PairReady p i c r at l total A w lc lv uc uv)
+module _ (p i c r at l total : ℕ) (A : Compressed) (w lc lv uc uv : List ℕ) (h : PairReady p i c r at l total A w (entryListsOf lc lv uc uv))
     (a e : ℕ) (ea : a ≡ getD (A .starts) i 0) (ee : e ≡ getD (A .starts) (i + 1) 0) (cs vs : List ℕ) (ec : cs ≡ slice a e (A .cols)) (ev : vs ≡ slice a e (A .vals)) where
   columns-are : cs ≡ rowOf (A .starts) i (A .cols)
   columns-are = ec ∙ (λ t. slice (ea t) (ee t) (A .cols))
@@ -115,7 +118,7 @@ module _ (p i c r at l total : ℕ) (A : Compressed) (w lc lv uc uv : List ℕ) 
   entries-are : entry cs vs ≡ matrix A i
   entries-are t = entry (columns-are t) (values-are t)
 
-  pub pair-ready : PivotCopyReady p (length w) c r at l total cs vs lc lv uc uv
+  pub pair-ready : PivotCopyReady p (length w) c r at l total cs vs (entryListsOf lc lv uc uv)
   pair-ready =
       record {
         prime = h .prime;
@@ -125,12 +128,12 @@ module _ (p i c r at l total : ℕ) (A : Compressed) (w lc lv uc uv : List ℕ) 
         lists = h .lists;
       }
 
-  pub pair-taken : (lc′ lv′ uc′ uv′ : List ℕ) (over : Bool) (found at′ l′ total′ : ℕ) → found ≡ c
-      → PivotFound p (length w) at l total (zeros r) (entry cs vs) c lc lv uc uv lc′ lv′ uc′ uv′ over at′ l′ total′
-      → RowFound p (length w) at l total (zeros r) (matrix A i) c lc lv uc uv lc′ lv′ uc′ uv′ w over found at′ l′ total′
-  pair-taken lc′ lv′ uc′ uv′ over found at′ l′ total′ column d =
+  pub pair-taken : (lc′ lv′ uc′ uv′ : List ℕ) (s : Step) → s .column ≡ c
+      → PivotFound p at l total (asItStands (length w) r c (entry cs vs)) (entryListsOf lc lv uc uv) (entryListsOf lc′ lv′ uc′ uv′) s
+      → RowFound p at l total (asItStands (length w) r c (matrix A i)) (entryListsOf lc lv uc uv) (entryListsOf lc′ lv′ uc′ uv′) w s
+  pair-taken lc′ lv′ uc′ uv′ s column d =
       record {
-        pivot = λ b. subst (λ (y : Vector). PivotFound p (length w) at l total (zeros r) y c lc lv uc uv lc′ lv′ uc′ uv′ over at′ l′ total′) entries-are d;
+        pivot = λ b. subst (λ (y : Vector). PivotFound p at l total (asItStands (length w) r c y) (entryListsOf lc lv uc uv) (entryListsOf lc′ lv′ uc′ uv′) s) entries-are d;
         dependent = λ b. absurd (omega (arith, h .column));
         column = λ z. column;
         clear = λ z. h .row .clear;

@@ -17,7 +17,9 @@ use Rattle.residue.proofs.Inverse.{Inverse, invMod-inverse}
 use Rattle.sparse.specs.Dense.{nonzeros, scaled}
 use Rattle.sparse.specs.Storing.{StoreReady, RowStored}
 use Rattle.sparse.proofs.Nonzeros.{count-scaled}
-use Rattle.factor_row.specs.PivotRow.{PivotReady, PivotOutcome}
+use Rattle.factor_row.specs.Entries.{entryListsOf}
+use Rattle.factor_row.specs.PivotRow.{PivotOutcome}
+use Rattle.factor_row.specs.Needs.{PivotReady}
 
 -- ---- the test
 
@@ -60,7 +62,7 @@ inverse-invertible p v i = record { prime = i .prime; nonzero = go (ℕ-discrete
 
 -- ---- before and after the store
 
-module _ (p c r at l total : ℕ) (w lc lv uc uv : List ℕ) (h : PivotReady p c r at l total w lc lv uc uv) where
+module _ (p c r at l total : ℕ) (w lc lv uc uv : List ℕ) (h : PivotReady p c r at l total w (entryListsOf lc lv uc uv)) where
   abbrev v : ℕ
   v = getD w c 0 % p
 
@@ -76,7 +78,7 @@ module _ (p c r at l total : ℕ) (w lc lv uc uv : List ℕ) (h : PivotReady p c
     tested : (leb (total + 1) (length lc) && leb (at + length (nonzeros (scaled p 1 w))) (length uc)) ≡ b
     tested = ap (λ (n : ℕ). leb (total + 1) (length lc) && leb (at + n) (length uc)) (sym ek) ∙ sym eb
 
-    pub pivot-over : b ≡ false → (at′ l′ total′ : ℕ) → PivotOutcome p c r at l total w lc lv uc uv w lc lv uc uv true at′ l′ total′
+    pub pivot-over : b ≡ false → (at′ l′ total′ : ℕ) → PivotOutcome p c r at l total w (entryListsOf lc lv uc uv) w (entryListsOf lc lv uc uv) (record { over = true; column = c; at = at′; l = l′; total = total′ })
     pivot-over e at′ l′ total′ = record { fit = tested ∙ e; put = λ q. absurd (true≢false q) }
 
     module _ (e : b ≡ true) where
@@ -99,7 +101,7 @@ module _ (p c r at l total : ℕ) (w lc lv uc uv : List ℕ) (h : PivotReady p c
           }
 
       pub pivot-done : (x i : ℕ) → x ≡ v → i ≡ invMod p x → (w′ uc′ uv′ : List ℕ) (at′ : ℕ) → RowStored p i at w uc uv w′ uc′ uv′ at′
-          → PivotOutcome p c r at l total w lc lv uc uv w′ (set lc l r) (set lv l x) uc′ uv′ false at′ (l + 1) (total + 1)
+          → PivotOutcome p c r at l total w (entryListsOf lc lv uc uv) w′ (entryListsOf (set lc l r) (set lv l x) uc′ uv′) (record { over = false; column = c; at = at′; l = l + 1; total = total + 1 })
       pivot-done x i ex ei w′ uc′ uv′ at′ d =
           record {
             fit = tested ∙ e;

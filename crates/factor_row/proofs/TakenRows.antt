@@ -8,7 +8,7 @@ use native.Mathlib.Decide.{ℕ-discrete}
 use native.Mathlib.Omega.{arith}
 use lib.Dec.{leb, eqb}
 use borrow.Author.Tests.{leb-true, leb-false, lt-leb, eqb-false}
-use lib.ListN.{length, getD}
+use lib.ListN.{length, getD, take}
 use Rattle.lists.specs.Filled.{zeros}
 use Rattle.lists.specs.Tabulate.{tabulate}
 use Rattle.lists.specs.Tests.{first}
@@ -21,10 +21,14 @@ use Rattle.sparse.specs.Matrix.{Compressed, matrix}
 use Rattle.sparse.specs.Dense.{nonzeros, scaled}
 use Rattle.sparse.specs.Storing.{DenseStored}
 use Rattle.sparse.proofs.Nonzeros.{count-append, nonzeros-one, stored-then, stored-one, stored-columns, stored-values, scaled-tabulate, count-scaled}
-use Rattle.factor_row.specs.Loading.{StandsFor, multiples}
-use Rattle.factor_row.specs.Gathering.{cut, multiplesBy, remainderBy, RowGathered}
-use Rattle.factor_row.specs.PivotRow.{PivotReady, PivotStored, PivotOutcome}
-use Rattle.factor_row.specs.Taking.{nextUpperRow, PivotFound, RowFound, OtherReady}
+use Rattle.factor_reduce.specs.declared.gather.Gathered.{Gathered}
+use Rattle.factor_reduce.specs.InPlace.{multiples}
+use Rattle.factor_row.specs.declared.pivot_row.Step.{Step}
+use Rattle.factor_row.specs.Gathering.{Reduction, reductionOf, reductionBy, cut, StandsFor, RowGathered}
+use Rattle.factor_row.specs.Entries.{entryListsOf}
+use Rattle.factor_row.specs.PivotRow.{PivotStored, PivotOutcome}
+use Rattle.factor_row.specs.Taking.{nextUpperRow, PivotFound, RowFound}
+use Rattle.factor_row.specs.Needs.{PivotReady, OtherReady}
 use Rattle.factor_row.proofs.PivotRows.{inverse-invertible}
 
 -- ---- the first that fails a test
@@ -75,14 +79,14 @@ module _ (p m r at l total : ℕ) (cs : List ℕ) (w : Vector) (c : ℕ) (lc₀ 
   unfolding nonzeros
   entries-of-L = count-append cs (w c ∷ []) ∙ ap (λ (n : ℕ). length (nonzeros cs) + n) (nonzeros-one (w c) [] here)
 
-  pub pivot-taken : (total₁ : ℕ) → total₁ ≡ total + length (nonzeros cs) → (row′ lc lv uc uv : List ℕ) (over : Bool) (at′ l′ total′ : ℕ)
-      → PivotOutcome p c r at l₁ total₁ row lc₁ lv₁ uc₀ uv₀ row′ lc lv uc uv over at′ l′ total′
-      → PivotFound p m at l total cs w c lc₀ lv₀ uc₀ uv₀ lc lv uc uv over at′ l′ total′
-  pivot-taken total₁ et row′ lc lv uc uv over at′ l′ total′ h =
+  pub pivot-taken : (total₁ : ℕ) → total₁ ≡ total + length (nonzeros cs) → (row′ lc lv uc uv : List ℕ) (o : Step)
+      → PivotOutcome p c r at l₁ total₁ row (entryListsOf lc₁ lv₁ uc₀ uv₀) row′ (entryListsOf lc lv uc uv) o
+      → PivotFound p at l total (reductionOf m cs w c) (entryListsOf lc₀ lv₀ uc₀ uv₀) (entryListsOf lc lv uc uv) o
+  pivot-taken total₁ et row′ lc lv uc uv o h =
       record {
         fit = (λ t. leb (all t) (same t) && leb (at + sym entries-of-U t) (length uc₀)) ∙ h .fit;
         lower = λ e. let q = h .put e in
-            stored-then 0 l cs (w c ∷ []) lc₀ lv₀ lc₁ lv₁ lc lv l₁ l′ d (last q);
+            stored-then 0 l cs (w c ∷ []) lc₀ lv₀ lc₁ lv₁ lc lv l₁ (o .l) d (last q);
         upper = λ e. let q = h .put e .upper .stored in rw row-of-U at q;
         count = λ e. let q = h .put e in omega (arith, q .count, entries-of-L);
       }
@@ -93,32 +97,35 @@ module _ (p m r at l total : ℕ) (cs : List ℕ) (w : Vector) (c : ℕ) (lc₀ 
       same : length lc₀ ≡ length lc₁
       same = sym (stored-columns 0 l cs lc₀ lv₀ lc₁ lv₁ l₁ d)
 
-      last : PivotStored p c r at l₁ total₁ row lc₁ lv₁ uc₀ uv₀ row′ lc lv uc uv at′ l′ total′ → DenseStored (0 + length cs) l₁ (w c ∷ []) lc₁ lv₁ lc lv l′
+      last : PivotStored p c r at l₁ total₁ row (entryListsOf lc₁ lv₁ uc₀ uv₀) row′ (entryListsOf lc lv uc uv) o → DenseStored (0 + length cs) l₁ (w c ∷ []) lc₁ lv₁ lc lv (o .l)
       last q = rw (q .column, q .value, value, q .place, sym long, zero-add) (stored-one (length cs) l₁ (w c) lc₁ lv₁ here)
 
 -- ---- a row that is reduced first
 
-module _ (p i r at l total : ℕ) (A : Compressed) (columns us w lc lv uc uv : List ℕ) (h : OtherReady p i r at l total A columns us w lc lv uc uv) where
+module _ (p i r at l total : ℕ) (A : Compressed) (columns us w lc lv uc uv : List ℕ) (h : OtherReady p i r at l total A columns us w (entryListsOf lc lv uc uv)) where
   abbrev m : ℕ
   m = length w
 
+  abbrev reduction : Reduction
+  reduction = reductionBy p m r (take r columns) (cut r at us uc uv) (matrix A i)
+
   abbrev cs : List ℕ
-  cs = multiplesBy p r columns (cut r at us uc uv) (matrix A i)
+  cs = reduction .multiples
 
   abbrev rest : Vector
-  rest = remainderBy p r columns (cut r at us uc uv) (matrix A i)
+  rest = reduction .remainder
 
   -- its lowest-numbered column that is not 0, or m
   abbrev c : ℕ
-  c = first m (λ j. eqb (rest j) 0)
+  c = reduction .column
 
   cs-long : length cs ≡ r
   unfolding multiples
   cs-long = length-tabulate r _
 
-  module _ (lc₁ lv₁ row : List ℕ) (over : Bool) (next : ℕ) (g : RowGathered p m l total cs rest lc lv lc₁ lv₁ row over next) where
+  module _ (lc₁ lv₁ row : List ℕ) (o : Gathered) (g : RowGathered p l total reduction lc lv lc₁ lv₁ row o) where
     -- its multiples do not fit
-    pub other-over : over ≡ true → (uc′ uv′ row′ : List ℕ) (found at′ l′ total′ : ℕ) → RowFound p m at l total cs rest c lc lv uc uv lc₁ lv₁ uc′ uv′ row′ true found at′ l′ total′
+    pub other-over : o .over ≡ true → (uc′ uv′ row′ : List ℕ) (found at′ l′ total′ : ℕ) → RowFound p at l total reduction (entryListsOf lc lv uc uv) (entryListsOf lc₁ lv₁ uc′ uv′) row′ (record { over = true; column = found; at = at′; l = l′; total = total′ })
     other-over e uc′ uv′ row′ found at′ l′ total′ =
         record {
           pivot = λ b. record {
@@ -142,14 +149,14 @@ module _ (p i r at l total : ℕ) (A : Compressed) (columns us w lc lv uc uv : L
         few : length lc < total + length (nonzeros cs)
         few = leb-false (total + length (nonzeros cs)) (length lc) (g .fit ∙ ap not e)
 
-    module _ (e : over ≡ false) where
-      stored : DenseStored 0 l cs lc lv lc₁ lv₁ next
+    module _ (e : o .over ≡ false) where
+      stored : DenseStored 0 l cs lc lv lc₁ lv₁ (o .next)
       stored = g .stored e
 
       pub enough : total + length (nonzeros cs) ≤ length lc
       enough = leb-true (total + length (nonzeros cs)) (length lc) (g .fit ∙ ap not e)
 
-      pub next-place : next ≡ l + length (nonzeros cs)
+      pub next-place : (o .next) ≡ l + length (nonzeros cs)
       next-place = stored .place
 
       module _ (found : ℕ) (ef : found ≡ first (length row) (λ j. eqb (getD row j 0 % p) 0)) where
@@ -160,8 +167,8 @@ module _ (p i r at l total : ℕ) (A : Compressed) (columns us w lc lv uc uv : L
             ∙ first-ext m (λ j. eqb (getD row j 0 % p) 0) (λ j. eqb (rest j) 0) (λ j b. ap (λ (x : ℕ). eqb x 0) (g .remainder e .cells j b))
 
         -- nothing remains
-        pub other-dependent : found ≡ length row → (row′ : List ℕ) → row′ ≡ zeros (length row) → (total′ : ℕ) → total′ ≡ total + (next - l)
-            → RowFound p m at l total cs rest c lc lv uc uv lc₁ lv₁ uc uv row′ false found at l total′
+        pub other-dependent : found ≡ length row → (row′ : List ℕ) → row′ ≡ zeros (length row) → (total′ : ℕ) → total′ ≡ total + ((o .next) - l)
+            → RowFound p at l total reduction (entryListsOf lc lv uc uv) (entryListsOf lc₁ lv₁ uc uv) row′ (record { over = false; column = found; at = at; l = l; total = total′ })
         other-dependent ec row′ er total′ et =
             record {
               pivot = λ b. absurd (omega (arith, ec, found-is, g .remainder e .long));
@@ -187,7 +194,7 @@ module _ (p i r at l total : ℕ) (A : Compressed) (columns us w lc lv uc uv : L
           here : ¬ (rest c ≡ 0)
           here = eqb-false (rest c) 0 (first-here m (λ j. eqb (rest j) 0) inside)
 
-          pub other-pivot : (total₁ : ℕ) → total₁ ≡ total + (next - l) → PivotReady p found r at next total₁ row lc₁ lv₁ uc uv
+          pub other-pivot : (total₁ : ℕ) → total₁ ≡ total + ((o .next) - l) → PivotReady p found r at (o .next) total₁ row (entryListsOf lc₁ lv₁ uc uv)
           other-pivot total₁ et =
               record {
                 prime = h .prime;
@@ -196,21 +203,21 @@ module _ (p i r at l total : ℕ) (A : Compressed) (columns us w lc lv uc uv : L
                 lists = record {
                   narrow = omega (arith, h .lists .narrow, g .remainder e .long);
                   rank = h .lists .rank;
-                  L-paired = stored-columns 0 l cs lc lv lc₁ lv₁ next stored ∙ h .lists .L-paired ∙ sym (stored-values 0 l cs lc lv lc₁ lv₁ next stored);
+                  L-paired = stored-columns 0 l cs lc lv lc₁ lv₁ (o .next) stored ∙ h .lists .L-paired ∙ sym (stored-values 0 l cs lc lv lc₁ lv₁ (o .next) stored);
                   U-paired = h .lists .U-paired;
                   L-place = omega (arith, next-place, h .lists .L-place);
-                  L-room = omega (arith, next-place, enough, stored-columns 0 l cs lc lv lc₁ lv₁ next stored);
+                  L-room = omega (arith, next-place, enough, stored-columns 0 l cs lc lv lc₁ lv₁ (o .next) stored);
                   U-room = h .lists .U-room;
                 };
               }
 
           -- something remains
-          pub other-taken : (total₁ : ℕ) → total₁ ≡ total + (next - l) → (row′ lc′ lv′ uc′ uv′ : List ℕ) (over′ : Bool) (found′ at′ l′ total′ : ℕ) → found′ ≡ found
-              → PivotOutcome p found r at next total₁ row lc₁ lv₁ uc uv row′ lc′ lv′ uc′ uv′ over′ at′ l′ total′
-              → RowFound p m at l total cs rest c lc lv uc uv lc′ lv′ uc′ uv′ row′ over′ found′ at′ l′ total′
-          other-taken total₁ et row′ lc′ lv′ uc′ uv′ over′ found′ at′ l′ total′ ec d =
+          pub other-taken : (total₁ : ℕ) → total₁ ≡ total + ((o .next) - l) → (row′ lc′ lv′ uc′ uv′ : List ℕ) (s : Step) → s .column ≡ found
+              → PivotOutcome p found r at (o .next) total₁ row (entryListsOf lc₁ lv₁ uc uv) row′ (entryListsOf lc′ lv′ uc′ uv′) s
+              → RowFound p at l total reduction (entryListsOf lc lv uc uv) (entryListsOf lc′ lv′ uc′ uv′) row′ s
+          other-taken total₁ et row′ lc′ lv′ uc′ uv′ s ec d =
               record {
-                pivot = λ b. pivot-taken p m r at l total cs rest c lc lv uc uv row lc₁ lv₁ next (h .prime) cs-long inside here (g .remainder e) stored total₁ (omega (arith, next-place)) row′ lc′ lv′ uc′ uv′ over′ at′ l′ total′ (rw found-is at d);
+                pivot = λ b. pivot-taken p m r at l total cs rest c lc lv uc uv row lc₁ lv₁ (o .next) (h .prime) cs-long inside here (g .remainder e) stored total₁ (omega (arith, next-place)) row′ lc′ lv′ uc′ uv′ s (rw found-is at d);
                 dependent = λ b. absurd (omega (arith, inside));
                 column = λ z. ec ∙ found-is;
                 clear = λ z. d .put z .upper .cleared ∙ ap zeros (g .remainder e .long);

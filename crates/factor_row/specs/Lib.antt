@@ -1,6 +1,6 @@
 pub mod Storage
-pub mod Loading
-pub mod PivotRow
-pub mod PivotCopy
-pub mod Taking
 pub mod Gathering
+pub mod Entries
+pub mod PivotRow
+pub mod Taking
+pub mod Needs

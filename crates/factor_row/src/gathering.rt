@@ -1,11 +1,9 @@
 // The row of L of a row of the matrix.
 ghost use lib.ListN.{length};
-ghost use Rattle.algebra.specs.Matrix.{vector};
-ghost use Rattle.algebra.specs.Reduction.{reduced};
-ghost use Rattle.sparse.specs.Matrix.{matrix};
 ghost use Rattle.sparse.specs.Views.{before, after, storedAt, storedBefore};
-ghost use Rattle.factor_row.specs.Loading.{multiples};
-ghost use Rattle.factor_row.specs.Gathering.{cut, multiplesBy, remainderBy, GatherRowReady, RowGathered, GatherReadyFrom};
+ghost use Rattle.factor_row.specs.Gathering.{reductionBy, RowGathered};
+ghost use Rattle.factor_row.specs.Entries.{rowBefore, frontBefore, cutBefore};
+ghost use Rattle.factor_row.specs.Needs.{GatherRowReady, GatherReadyFrom};
 use crate::loading::load_row;
 use factor_reduce::gather::Gathered;
 use factor_reduce::gather::gather_multiples;
@@ -31,7 +29,7 @@ fn gather_cut(
     work: &mut [u64],
 ) -> Gathered
     requires { ⌜ GatherRowReady (q .p) i l total (storedAt starts cols vals) (now co) (storedAt us uc uv) (now work) (now lc) (now lv) ⌝ }
-    ensures { λ g. ⌜ RowGathered (q .p) (length (before work)) l total (multiples (q .p) (length (before co)) (vector (before co)) (matrix (storedBefore us uc uv)) (matrix (storedBefore starts cols vals) i)) (reduced (q .p) (vector (before co)) (matrix (storedBefore us uc uv)) (length (before co)) (matrix (storedBefore starts cols vals) i)) (before lc) (before lv) (after lc) (after lv) (after work) (g .over) (g .next) ⌝ }
+    ensures { λ g. ⌜ RowGathered (q .p) l total (reductionBy (q .p) (length (before work)) (length (before co)) (before co) (storedBefore us uc uv) (rowBefore starts cols vals i)) (before lc) (before lv) (after lc) (after lv) (after work) g ⌝ }
 {
     load_row(starts, cols, vals, i, q.p, work);
     // `total` counts the entries of dependent rows too, which are stored later: their places are not free.
@@ -59,7 +57,7 @@ pub fn gather_row(
     work: &mut [u64],
 ) -> Gathered
     requires { ⌜ GatherReadyFrom (q .p) i r at l total (storedAt starts cols vals) (now co) (now us) (now uc) (now uv) (now work) (now lc) (now lv) ⌝ }
-    ensures { λ g. ⌜ RowGathered (q .p) (length (before work)) l total (multiplesBy (q .p) r (before co) (cut r at (before us) (before uc) (before uv)) (matrix (storedBefore starts cols vals) i)) (remainderBy (q .p) r (before co) (cut r at (before us) (before uc) (before uv)) (matrix (storedBefore starts cols vals) i)) (before lc) (before lv) (after lc) (after lv) (after work) (g .over) (g .next) ⌝ }
+    ensures { λ g. ⌜ RowGathered (q .p) l total (reductionBy (q .p) (length (before work)) r (frontBefore r co) (cutBefore r at us uc uv) (rowBefore starts cols vals i)) (before lc) (before lv) (after lc) (after lv) (after work) g ⌝ }
 {
     gather_cut(
         q,

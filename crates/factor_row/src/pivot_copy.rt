@@ -1,10 +1,11 @@
 // A stored row becomes a pivot row as it stands: it is copied entry by entry, and no working row is gone through.
 ghost use mathlib.Core.Path.{_≡_};
-ghost use Rattle.lists.specs.Filled.{zeros};
 ghost use Rattle.sparse.specs.Row.{entry};
-ghost use Rattle.sparse.specs.Views.{before, after};
-ghost use Rattle.factor_row.specs.PivotCopy.{PivotCopyReady};
+ghost use Rattle.sparse.specs.Views.{before};
+ghost use Rattle.factor_row.specs.Gathering.{asItStands};
+ghost use Rattle.factor_row.specs.Entries.{entriesAt, entriesBefore, entriesAfter};
 ghost use Rattle.factor_row.specs.Taking.{PivotFound};
+ghost use Rattle.factor_row.specs.Needs.{PivotCopyReady};
 use crate::pivot_row::Step;
 use crate::pivot_row::fits;
 use residue::Modulus;
@@ -28,8 +29,8 @@ pub fn copy_pivot(
     uc: &mut [u32],
     uv: &mut [u32],
 ) -> Step
-    requires { ⌜ PivotCopyReady (q .p) m c r at l total (now cols) (now vals) (now lc) (now lv) (now uc) (now uv) ⌝ }
-    ensures { λ s. ⌜ (s .column ≡ c) × PivotFound (q .p) m at l total (zeros r) (entry (before cols) (before vals)) c (before lc) (before lv) (before uc) (before uv) (after lc) (after lv) (after uc) (after uv) (s .over) (s .at) (s .l) (s .total) ⌝ }
+    requires { ⌜ PivotCopyReady (q .p) m c r at l total (now cols) (now vals) (entriesAt lc lv uc uv) ⌝ }
+    ensures { λ s. ⌜ (s .column ≡ c) × PivotFound (q .p) at l total (asItStands m r c (entry (before cols) (before vals))) (entriesBefore lc lv uc uv) (entriesAfter lc lv uc uv) s ⌝ }
 {
     if !fits(lc.len(), total, uc.len(), at, cols.len()) {
         return Step {

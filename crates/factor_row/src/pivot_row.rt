@@ -3,7 +3,9 @@ ghost use mathlib.Core.Path.{_≡_};
 ghost use mathlib.Core.Bool.{_&&_};
 ghost use Prim.Native.Nat.{_+_, _≤_};
 ghost use lib.Dec.{leb};
-ghost use Rattle.factor_row.specs.PivotRow.{PivotReady, PivotOutcome};
+ghost use Rattle.factor_row.specs.Entries.{entriesAt, entriesBefore, entriesAfter};
+ghost use Rattle.factor_row.specs.PivotRow.{PivotOutcome};
+ghost use Rattle.factor_row.specs.Needs.{PivotReady};
 ghost use Rattle.sparse.specs.Views.{before, after};
 use residue::Modulus;
 use sparse::dense::count_nonzero;
@@ -44,8 +46,8 @@ pub fn store_pivot(
     uv: &mut [u32],
     work: &mut [u64],
 ) -> Step
-    requires { ⌜ PivotReady (q .p) c r at l total (now work) (now lc) (now lv) (now uc) (now uv) ⌝ }
-    ensures { λ s. ⌜ (s .column ≡ c) × PivotOutcome (q .p) c r at l total (before work) (before lc) (before lv) (before uc) (before uv) (after work) (after lc) (after lv) (after uc) (after uv) (s .over) (s .at) (s .l) (s .total) ⌝ }
+    requires { ⌜ PivotReady (q .p) c r at l total (now work) (entriesAt lc lv uc uv) ⌝ }
+    ensures { λ s. ⌜ (s .column ≡ c) × PivotOutcome (q .p) c r at l total (before work) (entriesBefore lc lv uc uv) (after work) (entriesAfter lc lv uc uv) s ⌝ }
 {
     let k = count_nonzero(q, work);
     if !fits(lc.len(), total, uc.len(), at, k) {

@@ -1,12 +1,10 @@
 // One row of the matrix is taken.
-ghost use lib.Dec.{eqb};
 ghost use lib.ListN.{length};
-ghost use Rattle.lists.specs.Filled.{zeros};
-ghost use Rattle.lists.specs.Tests.{first};
-ghost use Rattle.sparse.specs.Matrix.{matrix};
-ghost use Rattle.sparse.specs.Views.{before, after, storedAt, storedBefore};
-ghost use Rattle.factor_row.specs.Gathering.{cut, multiplesBy, remainderBy};
-ghost use Rattle.factor_row.specs.Taking.{PairReady, OtherReady, RowFound};
+ghost use Rattle.sparse.specs.Views.{before, after, storedAt};
+ghost use Rattle.factor_row.specs.Gathering.{reductionBy, asItStands};
+ghost use Rattle.factor_row.specs.Entries.{entriesAt, entriesBefore, entriesAfter, rowBefore, frontBefore, cutBefore};
+ghost use Rattle.factor_row.specs.Taking.{RowFound};
+ghost use Rattle.factor_row.specs.Needs.{PairReady, OtherReady};
 use crate::gathering::gather_row;
 use crate::pivot_copy::copy_pivot;
 use crate::pivot_row::Step;
@@ -35,8 +33,8 @@ pub fn take_pair(
     uv: &mut [u32],
     work: &mut [u64],
 ) -> Step
-    requires { ⌜ PairReady (q .p) i c r at l total (storedAt starts cols vals) (now work) (now lc) (now lv) (now uc) (now uv) ⌝ }
-    ensures { λ s. ⌜ RowFound (q .p) (length (before work)) at l total (zeros r) (matrix (storedBefore starts cols vals) i) c (before lc) (before lv) (before uc) (before uv) (after lc) (after lv) (after uc) (after uv) (after work) (s .over) (s .column) (s .at) (s .l) (s .total) ⌝ }
+    requires { ⌜ PairReady (q .p) i c r at l total (storedAt starts cols vals) (now work) (entriesAt lc lv uc uv) ⌝ }
+    ensures { λ s. ⌜ RowFound (q .p) at l total (asItStands (length (before work)) r c (rowBefore starts cols vals i)) (entriesBefore lc lv uc uv) (entriesAfter lc lv uc uv) (after work) s ⌝ }
 {
     let a = index(starts[i]);
     let e = index(starts[i + 1]);
@@ -77,8 +75,8 @@ pub fn take_other(
     uv: &mut [u32],
     work: &mut [u64],
 ) -> Step
-    requires { ⌜ OtherReady (q .p) i r at l total (storedAt starts cols vals) (now co) (now us) (now work) (now lc) (now lv) (now uc) (now uv) ⌝ }
-    ensures { λ s. ⌜ RowFound (q .p) (length (before work)) at l total (multiplesBy (q .p) r (before co) (cut r at (before us) (before uc) (before uv)) (matrix (storedBefore starts cols vals) i)) (remainderBy (q .p) r (before co) (cut r at (before us) (before uc) (before uv)) (matrix (storedBefore starts cols vals) i)) (first (length (before work)) (λ j. eqb (remainderBy (q .p) r (before co) (cut r at (before us) (before uc) (before uv)) (matrix (storedBefore starts cols vals) i) j) 0)) (before lc) (before lv) (before uc) (before uv) (after lc) (after lv) (after uc) (after uv) (after work) (s .over) (s .column) (s .at) (s .l) (s .total) ⌝ }
+    requires { ⌜ OtherReady (q .p) i r at l total (storedAt starts cols vals) (now co) (now us) (now work) (entriesAt lc lv uc uv) ⌝ }
+    ensures { λ s. ⌜ RowFound (q .p) at l total (reductionBy (q .p) (length (before work)) r (frontBefore r co) (cutBefore r at us uc uv) (rowBefore starts cols vals i)) (entriesBefore lc lv uc uv) (entriesAfter lc lv uc uv) (after work) s ⌝ }
 {
     let g = gather_row(
         q,

@@ -4,15 +4,16 @@ use mathlib.Core.Bool.{Bool, true, false, _||_, true≢false}
 use mathlib.Core.List.{List}
 use Prim.Native.Nat.{ℕ}
 use lib.Dec.{eqb}
-use lib.ListN.{getD}
+use lib.ListN.{getD, take}
 use borrow.Author.Tests.{eqb-true, eqb-false}
-use Rattle.lists.specs.Filled.{zeros}
-use Rattle.lists.specs.Tests.{first}
 use Rattle.algebra.specs.Matrix.{Vector}
 use Rattle.sparse.specs.Matrix.{Compressed}
-use Rattle.factor_row.specs.Gathering.{multiplesBy, remainderBy}
-use Rattle.factor_row.specs.Taking.{PairReady, RowFound}
-use Rattle.factor_turn.specs.Turning.{lowerOf, remainderOf, columnOf}
+use Rattle.factor_row.specs.declared.pivot_row.Step.{Step}
+use Rattle.factor_row.specs.Gathering.{reductionBy, asItStands}
+use Rattle.factor_row.specs.Entries.{EntryLists}
+use Rattle.factor_row.specs.Taking.{RowFound}
+use Rattle.factor_row.specs.Needs.{PairReady}
+use Rattle.factor_turn.specs.Turning.{turnReduction}
 
 -- ---- a row stays out of the orders
 
@@ -29,14 +30,12 @@ stays-false false b c m e f = (refl, eqb-false c m (sym e ∙ f))
 
 -- ---- which way it was taken
 
-pub pair-at : (p i c k r at l total : ℕ) (A : Compressed) (w lc lv uc uv : List ℕ) → c ≡ k → PairReady p i k r at l total A w lc lv uc uv → PairReady p i c r at l total A w lc lv uc uv
-pair-at p i c k r at l total A w lc lv uc uv e h = rw e h
+pub pair-at : (p i c k r at l total : ℕ) (A : Compressed) (w : List ℕ) (e : EntryLists) → c ≡ k → PairReady p i k r at l total A w e → PairReady p i c r at l total A w e
+pair-at p i c k r at l total A w e q h = rw q h
 
-module _ (p m : ℕ) (paired : Bool) (r at l total : ℕ) (C : List ℕ) (U : Compressed) (y : Vector) (lc₀ lv₀ uc₀ uv₀ lc lv uc uv work : List ℕ) (over : Bool) (found at′ l′ total′ : ℕ) where
-  pub found-pair : paired ≡ true → (c : ℕ) → c ≡ getD C r 0 → RowFound p m at l total (zeros r) y c lc₀ lv₀ uc₀ uv₀ lc lv uc uv work over found at′ l′ total′
-      → RowFound p m at l total (lowerOf p paired r C U y) (remainderOf p paired r C U y) (columnOf p m paired r C U y) lc₀ lv₀ uc₀ uv₀ lc lv uc uv work over found at′ l′ total′
-  found-pair e c ec t = rw (e, sym ec) t
+module _ (p m : ℕ) (paired : Bool) (r at l total : ℕ) (C : List ℕ) (U : Compressed) (y : Vector) (e₀ e : EntryLists) (work : List ℕ) (s : Step) where
+  pub found-pair : paired ≡ true → (c : ℕ) → c ≡ getD C r 0 → RowFound p at l total (asItStands m r c y) e₀ e work s → RowFound p at l total (turnReduction p m paired r C U y) e₀ e work s
+  found-pair q c ec t = rw (q, sym ec) t
 
-  pub found-other : paired ≡ false → RowFound p m at l total (multiplesBy p r C U y) (remainderBy p r C U y) (first m (λ j. eqb (remainderBy p r C U y j) 0)) lc₀ lv₀ uc₀ uv₀ lc lv uc uv work over found at′ l′ total′
-      → RowFound p m at l total (lowerOf p paired r C U y) (remainderOf p paired r C U y) (columnOf p m paired r C U y) lc₀ lv₀ uc₀ uv₀ lc lv uc uv work over found at′ l′ total′
-  found-other e t = rw e t
+  pub found-other : paired ≡ false → RowFound p at l total (reductionBy p m r (take r C) U y) e₀ e work s → RowFound p at l total (turnReduction p m paired r C U y) e₀ e work s
+  found-other q t = rw q t

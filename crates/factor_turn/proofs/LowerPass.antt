@@ -11,6 +11,7 @@ use borrow.Author.Tests.{le-leb}
 use Rattle.lists.specs.Filled.{zeros}
 use Rattle.elimination.proofs.Room.{entries-append}
 use Rattle.sparse.specs.Matrix.{Compressed, compressed, matrix}
+use Rattle.sparse.specs.Set.{storageOf}
 use Rattle.sparse.specs.Dense.{columnsFrom, nonzeros, compress}
 use Rattle.sparse.specs.Storing.{DenseStored}
 use Rattle.sparse.proofs.Rows.{form-below}
@@ -23,11 +24,12 @@ use Rattle.elimination.proofs.Invariant.{uppers-many}
 use Rattle.elimination.proofs.Theorem.{lowers-many, rank-rows, row-combines}
 use Rattle.elimination.proofs.Again.{columns-again, values-again}
 use Rattle.factor_row.specs.Storage.{Holds}
-use Rattle.factor_row.specs.Gathering.{cut, multiplesBy, remainderBy, RowGathered}
+use Rattle.factor_reduce.specs.declared.gather.Gathered.{Gathered}
+use Rattle.factor_row.specs.Gathering.{reductionBy, cut, RowGathered}
 use Rattle.factor_row.proofs.Storage.{begins-long, holds-more, holds-filled}
 use Rattle.factor_turn.specs.State.{pivotLowers}
-use Rattle.factor_turn.specs.Turning.{Lent}
-use Rattle.factor_turn.specs.Filling.{FillRowReady, LowerStored, FillFrom, FillReady, FillDone}
+use Rattle.factor_turn.specs.Filling.{LowerStored, FillFrom, FillDone}
+use Rattle.factor_turn.specs.Needs.{Lent, FillRowReady, FillReady}
 use Rattle.factor_turn.proofs.Steps.{entries-values, lowers-split}
 use Rattle.factor_turn.proofs.Sizes.{rank-most, entries-most}
 use Rattle.factor_turn.proofs.Readiness.{gather-ready}
@@ -35,14 +37,14 @@ use Rattle.factor_turn.proofs.TurnedRows.{multiples-found}
 
 -- ---- one row
 
-pub lower-stored : (p i r at l : ℕ) (A : Compressed) (columns us uc uv w lc lv : List ℕ) → FillRowReady p i r at l A columns us uc uv w lc lv → (lc′ lv′ w₁ w₂ : List ℕ) (over : Bool) (next : ℕ)
-    → RowGathered p (length w) l l (multiplesBy p r columns (cut r at us uc uv) (matrix A i)) (remainderBy p r columns (cut r at us uc uv) (matrix A i)) lc lv lc′ lv′ w₁ over next
-    → length w₁ ≡ length w → w₂ ≡ zeros (length w₁) → LowerStored p i r at l A columns us uc uv (length w) lc lv lc′ lv′ w₂ next
-lower-stored p i r at l A columns us uc uv w lc lv h lc′ lv′ w₁ w₂ over next g long clear =
-    record { stored = g .stored (fitted over (sym (g .fit) ∙ le-leb (l + length (nonzeros cs)) (length lc) (h .room))); clear = clear ∙ ap zeros long }
+pub lower-stored : (p i r at l : ℕ) (A : Compressed) (columns us uc uv w lc lv : List ℕ) → FillRowReady p i r at l A columns us uc uv w lc lv → (lc′ lv′ w₁ w₂ : List ℕ) (o : Gathered)
+    → RowGathered p l l (reductionBy p (length w) r (take r columns) (cut r at us uc uv) (matrix A i)) lc lv lc′ lv′ w₁ o
+    → length w₁ ≡ length w → w₂ ≡ zeros (length w₁) → LowerStored p i r at l A columns us uc uv (length w) lc lv lc′ lv′ w₂ (o .next)
+lower-stored p i r at l A columns us uc uv w lc lv h lc′ lv′ w₁ w₂ o g long clear =
+    record { stored = g .stored (fitted (o .over) (sym (g .fit) ∙ le-leb (l + length (nonzeros cs)) (length lc) (h .room))); clear = clear ∙ ap zeros long }
   where
     cs : List ℕ
-    cs = multiplesBy p r columns (cut r at us uc uv) (matrix A i)
+    cs = reductionBy p (length w) r (take r columns) (cut r at us uc uv) (matrix A i) .multiples
 
     fitted : (b : Bool) → not b ≡ true → b ≡ false
     fitted true e = absurd (true≢false (sym e))
@@ -76,11 +78,11 @@ module _ (p : ℕ) (A : Compressed) (R C : List ℕ) (L U : Compressed) (w : Lis
     pub lc-long : length (L′ .cols) ≡ length (L .cols)
     pub lv-long : length (L′ .vals) ≡ length (L .vals)
     pub clear : w′ ≡ zeros (length w)
-    pub each : (f : Found) (total : ℕ) → FillFrom p A R C L U (length w) r at l total f → FilledTo f total k L′ next
+    pub each : (f : Found) (total : ℕ) → FillFrom p A (storageOf R C L U w) (length w) r at l total f → FilledTo f total k L′ next
 
   -- ---- of one f
 
-  module _ (lent : Lent p A R C L U w) (f : Found) (total : ℕ) (g : FillFrom p A R C L U (length w) r at l total f) where
+  module _ (lent : Lent p A (storageOf R C L U w)) (f : Found) (total : ℕ) (g : FillFrom p A (storageOf R C L U w) (length w) r at l total f) where
     abbrev rows : List (List ℕ)
     rows = lowersOf f
 
@@ -114,7 +116,7 @@ module _ (p : ℕ) (A : Compressed) (R C : List ℕ) (L U : Compressed) (w : Lis
       small j h = form-below p (length w) (A .starts) (A .cols) (A .vals) (lent .formed) (getD R k 0) j (omega (arith, lent .prime .two))
 
       abbrev taken : List ℕ
-      taken = multiplesBy p r C (cut r at (U .starts) (U .cols) (U .vals)) (matrix A (getD R k 0))
+      taken = reductionBy p (length w) r (take r C) (cut r at (U .starts) (U .cols) (U .vals)) (matrix A (getD R k 0)) .multiples
 
       taken-is : taken ≡ coefficients p f (matrix A (getD R k 0))
       taken-is = multiples-found p (length w) (matrix A) (getD R k 0) false f R C L U r at l total (g .state) (λ e. absurd (true≢false (sym e)))
@@ -177,7 +179,7 @@ module _ (p : ℕ) (A : Compressed) (R C : List ℕ) (L U : Compressed) (w : Lis
 
   -- ---- the loop
 
-  module _ (h : FillReady p A R C L U w r at l) where
+  module _ (h : FillReady p A (storageOf R C L U w) r at l) where
     pub filling-starts : Filling L w r l
     filling-starts =
         record {
@@ -232,5 +234,5 @@ module _ (p : ℕ) (A : Compressed) (R C : List ℕ) (L U : Compressed) (w : Lis
                 each = λ f total g. filled-turn (h .lent) f total g k b L′ next (t .each f total g) (t .ls-long) (t .lc-long) (t .lv-long) lc lv next′ (d .stored);
               }
 
-      pub filling-ends : length R ≤ k → (f : Found) (total : ℕ) → FillFrom p A R C L U (length w) r at l total f → FillDone f L′
+      pub filling-ends : length R ≤ k → (f : Found) (total : ℕ) → FillFrom p A (storageOf R C L U w) (length w) r at l total f → FillDone f L′
       filling-ends b f total g = filled-ends (h .lent) f total g k next L′ b (t .each f total g)

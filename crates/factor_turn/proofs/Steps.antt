@@ -20,6 +20,9 @@ use Rattle.elimination.proofs.Listed.{snoc-length, map-append}
 use Rattle.elimination.proofs.Invariant.{uppers-many}
 use Rattle.elimination.proofs.Room.{entries-stored, entries-append}
 use Rattle.factor_row.specs.Storage.{Holds}
+use Rattle.factor_row.specs.declared.pivot_row.Step.{Step}
+use Rattle.factor_row.specs.Gathering.{reductionOf}
+use Rattle.factor_row.specs.Entries.{entryListsOf}
 use Rattle.factor_row.specs.Taking.{nextUpperRow, PivotFound, DependentFound}
 use Rattle.factor_row.proofs.Storage.{holds-more, holds-same}
 use Rattle.factor_turn.specs.State.{pivotRows, pivotLowers, State}
@@ -114,9 +117,9 @@ front-more xs l r x e h = ap (λ (k : ℕ). take k (set l r x)) (add-one r) ∙ 
 
 module _ (f : Found) (R C : List ℕ) (L U : Compressed) (r at l total : ℕ) (s : State f R C L U r at l total) (L-paired : length (L .cols) ≡ length (L .vals)) (U-paired : length (U .cols) ≡ length (U .vals)) where
   -- it is a pivot row
-  module _ (p m i c : ℕ) (cs : List ℕ) (w : Vector) (lc lv uc uv : List ℕ) (over : Bool) (at′ l′ total′ : ℕ)
-      (t : PivotFound p m at l total cs w c (L .cols) (L .vals) (U .cols) (U .vals) lc lv uc uv over at′ l′ total′) where
-    pub pivot-fits : fits (length (L .cols)) (length (U .cols)) (withPivot p m f i c cs w) ≡ not over
+  module _ (p m i c : ℕ) (cs : List ℕ) (w : Vector) (lc lv uc uv : List ℕ) (step : Step)
+      (t : PivotFound p at l total (reductionOf m cs w c) (entryListsOf (L .cols) (L .vals) (U .cols) (U .vals)) (entryListsOf lc lv uc uv) step) where
+    pub pivot-fits : fits (length (L .cols)) (length (U .cols)) (withPivot p m f i c cs w) ≡ not (step .over)
     unfolding fits
     pivot-fits =
         ap₂ (λ (a b : ℕ). leb a (length (L .cols)) && leb b (length (U .cols)))
@@ -124,7 +127,7 @@ module _ (f : Found) (R C : List ℕ) (L U : Compressed) (r at l total : ℕ) (s
         (pivot-U-entries p m f i c cs w ∙ ap (λ (n : ℕ). n + length (nonzeros (nextUpperRow p m c w))) (sym (s .U-entries)))
         ∙ t .fit
 
-    module _ (e : over ≡ false) where
+    module _ (e : step .over ≡ false) where
       abbrev L-more : ℕ
       L-more = total + length (nonzeros (cs ++ (w c ∷ [])))
 
@@ -137,20 +140,20 @@ module _ (f : Found) (R C : List ℕ) (L U : Compressed) (r at l total : ℕ) (s
       U-room : U-more ≤ length (U .cols)
       U-room = leb-true U-more (length (U .cols)) (and-right (leb L-more (length (L .cols))) (leb U-more (length (U .cols))) (t .fit ∙ ap not e))
 
-      upper-after : r + 1 < length (U .starts) → Holds (uppersOf f ++ (nextUpperRow p m c w ∷ [])) at′ (compressed (set (U .starts) (r + 1) at′) uc uv)
+      upper-after : r + 1 < length (U .starts) → Holds (uppersOf f ++ (nextUpperRow p m c w ∷ [])) (step .at) (compressed (set (U .starts) (r + 1) (step .at)) uc uv)
       upper-after h =
-          holds-more (uppersOf f) at U (s .upper) (nextUpperRow p m c w) uc uv at at′ at′ (s .U-entries ∙ entries-values (uppersOf f)) (t .upper e)
+          holds-more (uppersOf f) at U (s .upper) (nextUpperRow p m c w) uc uv at (step .at) (step .at) (s .U-entries ∙ entries-values (uppersOf f)) (t .upper e)
           (omega arith) (omega (arith, t .upper e .place)) (omega (arith, t .upper e .place, U-room)) (omega (arith, t .upper e .place, U-room))
           (r + 1) (omega (arith, s .rank, uppers-many f)) h
 
-      lower-after : r + 1 < length (L .starts) → Holds (pivotLowers f ++ ((cs ++ (w c ∷ [])) ∷ [])) total′ (compressed (set (L .starts) (r + 1) l′) lc lv)
+      lower-after : r + 1 < length (L .starts) → Holds (pivotLowers f ++ ((cs ++ (w c ∷ [])) ∷ [])) (step .total) (compressed (set (L .starts) (r + 1) (step .l)) lc lv)
       lower-after h =
-          holds-more (pivotLowers f) total L (s .lower) (cs ++ (w c ∷ [])) lc lv l l′ total′ (s .pivot-entries ∙ entries-values (pivotLowers f)) (t .lower e)
+          holds-more (pivotLowers f) total L (s .lower) (cs ++ (w c ∷ [])) lc lv l (step .l) (step .total) (s .pivot-entries ∙ entries-values (pivotLowers f)) (t .lower e)
           (omega (arith, t .lower e .place, t .count e, s .pivot-entries, s .L-entries, pivots-less f)) (omega (arith, t .count e)) (omega (arith, t .count e, L-room)) (omega (arith, t .count e, L-room))
           (r + 1) (omega (arith, s .rank, lowers-many f)) h
 
       pub pivot-state : r < length R → r < length C → r + 1 < length (L .starts) → r + 1 < length (U .starts)
-          → State (withPivot p m f i c cs w) (set R r i) (set C r c) (compressed (set (L .starts) (r + 1) l′) lc lv) (compressed (set (U .starts) (r + 1) at′) uc uv) (r + 1) at′ l′ total′
+          → State (withPivot p m f i c cs w) (set R r i) (set C r c) (compressed (set (L .starts) (r + 1) (step .l)) lc lv) (compressed (set (U .starts) (r + 1) (step .at)) uc uv) (r + 1) (step .at) (step .l) (step .total)
       pivot-state hR hC hL hU =
           record {
             rank = omega (arith, s .rank, rank-more p m f i c cs w);
@@ -164,21 +167,21 @@ module _ (f : Found) (R C : List ℕ) (L U : Compressed) (r at l total : ℕ) (s
           }
 
   -- it is dependent
-  module _ (i : ℕ) (cs lc lv uc uv : List ℕ) (over : Bool) (at′ l′ total′ : ℕ) (t : DependentFound at l total cs (L .cols) (L .vals) (U .cols) (U .vals) lc lv uc uv over at′ l′ total′)
+  module _ (m i c : ℕ) (cs : List ℕ) (w : Vector) (lc lv uc uv : List ℕ) (step : Step) (t : DependentFound at l total (reductionOf m cs w c) (entryListsOf (L .cols) (L .vals) (U .cols) (U .vals)) (entryListsOf lc lv uc uv) step)
       (U-fits : at ≤ length (U .cols)) where
-    pub dependent-fits : fits (length (L .cols)) (length (U .cols)) (withDependent f i cs) ≡ not over
+    pub dependent-fits : fits (length (L .cols)) (length (U .cols)) (withDependent f i cs) ≡ not (step .over)
     unfolding fits withDependent uppersOf
     dependent-fits =
         ap₂ (λ (a b : Bool). a && b)
         (ap (λ (n : ℕ). leb n (length (L .cols))) (dependent-L-entries f i cs ∙ ap (λ (n : ℕ). n + length (nonzeros cs)) (sym (s .L-entries))) ∙ t .fit)
         (le-leb (entries (uppersOf f)) (length (U .cols)) (omega (arith, s .U-entries)))
-        ∙ and-true (not over)
+        ∙ and-true (not (step .over))
       where
         and-true : (b : Bool) → (b && true) ≡ b
         and-true true = refl
         and-true false = refl
 
-    pub dependent-state : over ≡ false → State (withDependent f i cs) R C (compressed (L .starts) lc lv) (compressed (U .starts) uc uv) r at′ l′ total′
+    pub dependent-state : step .over ≡ false → State (withDependent f i cs) R C (compressed (L .starts) lc lv) (compressed (U .starts) uc uv) r (step .at) (step .l) (step .total)
     unfolding withDependent pivotRows pivotLowers columnsOf uppersOf
     dependent-state e =
         record {
@@ -189,7 +192,7 @@ module _ (f : Found) (R C : List ℕ) (L U : Compressed) (r at l total : ℕ) (s
           rows = s .rows;
           columns = s .columns;
           upper = rw (t .place e .0, t .upper e .0, t .upper e .1) (s .upper);
-          lower = holds-same (pivotLowers f) total L (s .lower) cs lc lv l (l + length (nonzeros cs)) total′ (s .pivot-entries ∙ entries-values (pivotLowers f)) (t .lower e)
+          lower = holds-same (pivotLowers f) total L (s .lower) cs lc lv l (l + length (nonzeros cs)) (step .total) (s .pivot-entries ∙ entries-values (pivotLowers f)) (t .lower e)
               (omega (arith, t .count e, s .pivot-entries, s .L-entries, pivots-less f)) (omega (arith, t .count e)) (omega (arith, t .count e, room)) (omega (arith, t .count e, room));
         }
       where

@@ -14,15 +14,18 @@ use Rattle.lists.specs.Tests.{first}
 use Rattle.algebra.specs.Matrix.{Vector, Matrix, vector}
 use Rattle.algebra.specs.Reduction.{reduced}
 use Rattle.sparse.specs.Matrix.{Compressed, compressed, matrix}
+use Rattle.sparse.specs.Set.{storageOf}
 use Rattle.sparse.proofs.DenseLaws.{compress-matrix}
 use Rattle.elimination.specs.Pivots.{Found, uppersOf, upperOf, rankOf, reducedBy, coefficients, withPivot, withDependent, placedRow, turn}
 use Rattle.elimination.specs.Factoring.{entries, fits}
-use Rattle.factor_row.specs.Loading.{multiples}
-use Rattle.factor_row.specs.Gathering.{cut, multiplesBy, remainderBy}
+use Rattle.factor_reduce.specs.InPlace.{multiples}
+use Rattle.factor_row.specs.declared.pivot_row.Step.{Step}
+use Rattle.factor_row.specs.Gathering.{Reduction, reductionBy, cut}
+use Rattle.factor_row.specs.Entries.{entryListsOf}
 use Rattle.factor_row.specs.Taking.{RowFound}
 use Rattle.factor_row.proofs.TakenRows.{first-most}
 use Rattle.factor_turn.specs.State.{pivotLowers, State, turnOf, AfterTurn}
-use Rattle.factor_turn.specs.Turning.{lowerOf, remainderOf, columnOf}
+use Rattle.factor_turn.specs.Turning.{turnReduction}
 use Rattle.factor_turn.proofs.Steps.{rank-more, pivot-U-entries, pivot-lower-entries, pivot-fits, pivot-state, dependent-fits, dependent-state}
 use Rattle.factor_turn.proofs.Readiness.{cut-found}
 
@@ -30,6 +33,9 @@ module _ (p m : ℕ) (A : Matrix) (i : ℕ) (paired : Bool) (f : Found) (R C : L
     (pair : paired ≡ true → getD C r 0 < m) where
   abbrev cutU : Compressed
   cutU = cut r at (U .starts) (U .cols) (U .vals)
+
+  abbrev reduction : Bool → Reduction
+  reduction b = turnReduction p m b r C cutU (A i)
 
   -- ---- the reduction by the lists is that by the rows found
 
@@ -39,23 +45,23 @@ module _ (p m : ℕ) (A : Matrix) (i : ℕ) (paired : Bool) (f : Found) (R C : L
   reduced-found : (k : ℕ) → reduced p (vector (take r C)) (matrix cutU) k (A i) ≡ reducedBy p f k (A i)
   reduced-found k t = reduced p (vector (s .columns t)) (matrices t) k (A i)
 
-  pub multiples-found : multiplesBy p r C cutU (A i) ≡ coefficients p f (A i)
+  pub multiples-found : reductionBy p m r (take r C) cutU (A i) .multiples ≡ coefficients p f (A i)
   unfolding multiples coefficients
   multiples-found t = tabulate (s .rank t) (λ k. reduced p (vector (s .columns t)) (matrices t) k (A i) (vector (s .columns t) k))
 
-  remainder-found : remainderBy p r C cutU (A i) ≡ reducedBy p f (rankOf f) (A i)
+  remainder-found : reductionBy p m r (take r C) cutU (A i) .remainder ≡ reducedBy p f (rankOf f) (A i)
   remainder-found t = reduced p (vector (s .columns t)) (matrices t) (s .rank t) (A i)
 
   -- ---- the turn
 
   abbrev cs : List ℕ
-  cs = lowerOf p paired r C cutU (A i)
+  cs = reduction paired .multiples
 
   abbrev w : Vector
-  w = remainderOf p paired r C cutU (A i)
+  w = reduction paired .remainder
 
   abbrev c : ℕ
-  c = columnOf p m paired r C cutU (A i)
+  c = reduction paired .column
 
   abbrev found : Found
   found = turn p m A f (turnOf paired i (getD C r 0))
@@ -64,7 +70,7 @@ module _ (p m : ℕ) (A : Matrix) (i : ℕ) (paired : Bool) (f : Found) (R C : L
   unfolding turn placedRow
   turn-placed = go paired pair
     where
-      go : (b : Bool) → (b ≡ true → getD C r 0 < m) → turn p m A f (turnOf b i (getD C r 0)) ≡ placedRow p m f i (lowerOf p b r C cutU (A i)) (remainderOf p b r C cutU (A i)) (columnOf p m b r C cutU (A i))
+      go : (b : Bool) → (b ≡ true → getD C r 0 < m) → turn p m A f (turnOf b i (getD C r 0)) ≡ placedRow p m f i (reduction b .multiples) (reduction b .remainder) (reduction b .column)
       go true h =
           ap (λ (k : ℕ). withPivot p m f i (getD C r 0) (zeros k) (A i)) (sym (s .rank))
           ∙ ap (λ (b : Bool). cond b (withDependent f i (zeros r)) (withPivot p m f i (getD C r 0) (zeros r) (A i))) (sym (lt-leb m (getD C r 0) (h refl)))
@@ -73,9 +79,9 @@ module _ (p m : ℕ) (A : Matrix) (i : ℕ) (paired : Bool) (f : Found) (R C : L
   column-most : c ≤ m
   column-most = go paired pair
     where
-      go : (b : Bool) → (b ≡ true → getD C r 0 < m) → columnOf p m b r C cutU (A i) ≤ m
+      go : (b : Bool) → (b ≡ true → getD C r 0 < m) → reduction b .column ≤ m
       go true h = omega (arith, h refl)
-      go false h = first-most m (λ j. eqb (remainderBy p r C cutU (A i) j) 0)
+      go false h = first-most m (λ j. eqb (reductionBy p m r (take r C) cutU (A i) .remainder j) 0)
 
   pub dependent-is : m ≤ c → found ≡ withDependent f i cs
   unfolding placedRow
@@ -88,33 +94,34 @@ module _ (p m : ℕ) (A : Matrix) (i : ℕ) (paired : Bool) (f : Found) (R C : L
   -- ---- after it
 
   module _ (L-paired : length (L .cols) ≡ length (L .vals)) (U-paired : length (U .cols) ≡ length (U .vals)) (U-fits : at ≤ length (U .cols))
-      (lc lv uc uv work : List ℕ) (over : Bool) (column at′ l′ total′ : ℕ)
-      (t : RowFound p m at l total cs w c (L .cols) (L .vals) (U .cols) (U .vals) lc lv uc uv work over column at′ l′ total′) where
-    taken-fits : fits (length (L .cols)) (length (U .cols)) found ≡ not over
+      (lc lv uc uv work : List ℕ) (step : Step)
+      (t : RowFound p at l total (reduction paired) (entryListsOf (L .cols) (L .vals) (U .cols) (U .vals)) (entryListsOf lc lv uc uv) work step) where
+    taken-fits : fits (length (L .cols)) (length (U .cols)) found ≡ not (step .over)
     taken-fits = go (decLt c m)
       where
-        go : Dec (c < m) → fits (length (L .cols)) (length (U .cols)) found ≡ not over
-        go (yes h) = ap (fits (length (L .cols)) (length (U .cols))) (pivot-is h) ∙ pivot-fits f R C L U r at l total s L-paired U-paired p m i c cs w lc lv uc uv over at′ l′ total′ (t .pivot h)
+        go : Dec (c < m) → fits (length (L .cols)) (length (U .cols)) found ≡ not (step .over)
+        go (yes h) = ap (fits (length (L .cols)) (length (U .cols))) (pivot-is h) ∙ pivot-fits f R C L U r at l total s L-paired U-paired p m i c cs w lc lv uc uv step (t .pivot h)
         go (no h) =
             ap (fits (length (L .cols)) (length (U .cols))) (dependent-is (omega arith))
-            ∙ dependent-fits f R C L U r at l total s L-paired U-paired i cs lc lv uc uv over at′ l′ total′ (t .dependent (omega arith)) U-fits
+            ∙ dependent-fits f R C L U r at l total s L-paired U-paired m i c cs w lc lv uc uv step (t .dependent (omega arith)) U-fits
 
     -- it did not fit, or it is dependent
-    pub turned-stays : (over ≡ false → column ≡ m) → AfterTurn found m (length (L .cols)) (length (U .cols)) R C (compressed (L .starts) lc lv) (compressed (U .starts) uc uv) work over r at′ l′ total′
+    pub turned-stays : (step .over ≡ false → step .column ≡ m) → AfterTurn found m (length (L .cols)) (length (U .cols)) (storageOf R C (compressed (L .starts) lc lv) (compressed (U .starts) uc uv) work)
+        (record { over = step .over; r = r; at = step .at; l = step .l; total = step .total })
     turned-stays h =
         record {
           fit = taken-fits;
           state = λ e. let d : m ≤ c = omega (arith, h e, t .column e) in
-              rw (dependent-is d) (dependent-state f R C L U r at l total s L-paired U-paired i cs lc lv uc uv over at′ l′ total′ (t .dependent d) U-fits e);
+              rw (dependent-is d) (dependent-state f R C L U r at l total s L-paired U-paired m i c cs w lc lv uc uv step (t .dependent d) U-fits e);
           clear = t .clear;
         }
 
     -- it is a pivot row, which is entered
-    module _ (e : over ≡ false) (h : ¬ (column ≡ m)) where
-      pub column-inside : column < m
+    module _ (e : step .over ≡ false) (h : ¬ (step .column ≡ m)) where
+      pub column-inside : step .column < m
       column-inside = go (ℕ-discrete c m)
         where
-          go : Dec (c ≡ m) → column < m
+          go : Dec (c ≡ m) → step .column < m
           go (yes q) = absurd (h (t .column e ∙ q))
           go (no q) = omega (arith, column-most, t .column e)
 
@@ -125,17 +132,18 @@ module _ (p m : ℕ) (A : Matrix) (i : ℕ) (paired : Bool) (f : Found) (R C : L
       pub rank-found : r + 1 ≡ rankOf found
       rank-found = omega (arith, s .rank, ap rankOf (pivot-is inside) ∙ rank-more p m f i c cs w)
 
-      pub at-found : at′ ≡ entries (uppersOf found)
+      pub at-found : step .at ≡ entries (uppersOf found)
       at-found = t .pivot inside .upper e .place ∙ omega (arith, s .U-entries, ap (λ (g : Found). entries (uppersOf g)) (pivot-is inside) ∙ pivot-U-entries p m f i c cs w)
 
-      pub l-found : l′ ≡ entries (pivotLowers found)
+      pub l-found : step .l ≡ entries (pivotLowers found)
       l-found = t .pivot inside .lower e .place ∙ omega (arith, s .pivot-entries, ap (λ (g : Found). entries (pivotLowers g)) (pivot-is inside) ∙ pivot-lower-entries p m f i c cs w)
 
       pub turned-enters : r < length R → r < length C → r + 1 < length (L .starts) → r + 1 < length (U .starts)
-          → AfterTurn found m (length (L .cols)) (length (U .cols)) (set R r i) (set C r column) (compressed (set (L .starts) (r + 1) l′) lc lv) (compressed (set (U .starts) (r + 1) at′) uc uv) work false (r + 1) at′ l′ total′
+          → AfterTurn found m (length (L .cols)) (length (U .cols)) (storageOf (set R r i) (set C r (step .column)) (compressed (set (L .starts) (r + 1) (step .l)) lc lv) (compressed (set (U .starts) (r + 1) (step .at)) uc uv) work)
+          (record { over = false; r = r + 1; at = step .at; l = step .l; total = step .total })
       turned-enters hR hC hL hU =
           record {
             fit = taken-fits ∙ ap not e;
-            state = λ q. rw (pivot-is inside, t .column e) (pivot-state f R C L U r at l total s L-paired U-paired p m i c cs w lc lv uc uv over at′ l′ total′ (t .pivot inside) e hR hC hL hU);
+            state = λ q. rw (pivot-is inside, t .column e) (pivot-state f R C L U r at l total s L-paired U-paired p m i c cs w lc lv uc uv step (t .pivot inside) e hR hC hL hU);
             clear = λ q. t .clear e;
           }

@@ -1,5 +1,5 @@
 -- `store_left` meets its contract; the loop's invariant is `LeftSoFar`, the measure what is left. Assumes nothing.
-use Prim.Native.Nat.{ℕ, _-_, _<_}
+use Prim.Native.Nat.{_-_}
 use mathlib.Core.Path.{_≡_, _∙_}
 use borrow.Author.Needs.{needs}
 use native.Mathlib.Omega.{arith}

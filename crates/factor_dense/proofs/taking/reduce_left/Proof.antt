@@ -25,7 +25,7 @@ same-length-3 : tie.Need-same-length-3
 same-length-3 c = c .before .before .clear-row .kept .0 ∙ c .before .before .before .before .before .before .before .before .before .before .before .before .gather-row .kept .1 .1 .1 .1 .1 .1 .1 .1 .1 .1 .1 .1 .1 .1 .1 .0
 
 returns : tie.Need-returns
-returns c = left-row _ _ _ _ _ _ _ _ _ _ _ _ _ _ _ _ _ (c .before .before .before .before .before .before .before .before .before .before .before .before .before .before .before .before .before .before .before .before .before .before .before .before .before .before .pre .row .row .row .upper .positive) (c .before .before .before .before .before .before .before .before .before .before .before .before .before .before .before .before .before .before .before .before .before .before .before .before .before .before .pre .inside) (c .before .before .before .before .before .before .before .before .before .before .before .before .gather-row .kept .1 .1 .1 .1 .1 .1 .1 .1 .1 .1 .1 .1 .1 .1 .1 .0) (c .before .before .before .before .before .before .before .before .before .before .before .before .gather-row .ensures) (c .before .before .before .before .left-cells .ensures) (c .before .before .clear-row .ensures)
+returns c = left-row _ _ _ _ _ _ _ _ _ _ _ _ _ _ (c .before .before .before .before .before .before .before .before .before .before .before .before .before .before .before .before .before .before .before .before .before .before .before .before .before .before .pre .row .row .row .upper .positive) (c .before .before .before .before .before .before .before .before .before .before .before .before .before .before .before .before .before .before .before .before .before .before .before .before .before .before .pre .inside) (c .before .before .before .before .before .before .before .before .before .before .before .before .gather-row .kept .1 .1 .1 .1 .1 .1 .1 .1 .1 .1 .1 .1 .1 .1 .1 .0) (c .before .before .before .before .before .before .before .before .before .before .before .before .gather-row .ensures) (c .before .before .before .before .left-cells .ensures) (c .before .before .clear-row .ensures)
 
 pub reduce-left-spec : {M : Type 1} → statement M
 reduce-left-spec =

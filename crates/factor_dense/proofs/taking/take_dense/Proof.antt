@@ -48,7 +48,7 @@ same-length-5 : tie.Need-same-length-5
 same-length-5 c = first-rows (c .before) .reduce-left .kept .1 .1 .1 .1 .1 .1 .1 .1 .1 .1 .1 .1 .1 .1 .1 .1 .1 .0
 
 returns : tie.Need-returns
-returns c = first-over _ _ _ _ _ _ _ _ _ _ _ _ _ _ _ _ _ _ _ _ (start (c .before) .pre) _ _ _ _ _ _ (first-rows (c .before) .reduce-left .ensures) (c .if1 .taken) _ _ _ _ _ _ _ _ _ _ _
+returns c = first-over _ _ _ _ _ _ _ _ _ _ _ _ _ _ _ _ _ _ _ _ (start (c .before) .pre) _ _ _ _ (first-rows (c .before) .reduce-left .ensures) (c .if1 .taken) _ _ _ _ _ _ _ _ _ _ _
 
 sub-limit : tie.Need-sub-limit
 sub-limit c = omega (arith, start (c .before) .pre .lists .L-room, first-rows (c .before) .reduce-left .kept .1 .1 .1 .1 .1 .1 .1 .1 .1 .1 .1 .1 .1 .1 .1 .0)
@@ -60,7 +60,7 @@ sub-lower-left : tie.Need-sub-lower-left
 sub-lower-left c = start (c .before) .pre .low
 
 lower-left-requires : tie.Need-lower-left-requires
-lower-left-requires c κs = lower-ready _ _ _ _ _ _ _ _ _ _ _ _ _ _ _ _ _ _ _ _ (start (c .before .before .before) .pre) _ _ _ _ _ _ (first-rows (c .before .before .before) .reduce-left .ensures) (c .before .before .if1 .left) _ refl
+lower-left-requires c κs = lower-ready _ _ _ _ _ _ _ _ _ _ _ _ _ _ _ _ _ _ _ _ (start (c .before .before .before) .pre) _ _ _ _ (first-rows (c .before .before .before) .reduce-left .ensures) (c .before .before .if1 .left) _ refl
 
 same-length-6 : tie.Need-same-length-6
 same-length-6 c = block-rows (c .before) .lower-left .kept .1 .1 .1 .1 .1 .1 .1 .1 .0 ∙ first-rows (fitted (c .before) .before) .reduce-left .kept .1 .1 .1 .1 .1 .1 .1 .1 .1 .1 .1 .1 .1 .1 .1 .0
@@ -78,13 +78,13 @@ same-length-10 : tie.Need-same-length-10
 same-length-10 c = first-rows (fitted (c .before) .before) .reduce-left .kept .1 .1 .1 .1 .1 .1 .1 .1 .1 .1 .1 .1 .1 .1 .1 .1 .1 .0
 
 returns-2 : tie.Need-returns-2
-returns-2 c = block-over _ _ _ _ _ _ _ _ _ _ _ _ _ _ _ _ _ _ _ _ (start (fitted (c .before) .before) .pre) _ _ _ _ _ _ (first-rows (fitted (c .before) .before) .reduce-left .ensures) (fitted (c .before) .if1 .left) _ refl _ _ _ _ _ (block-rows (c .before) .lower-left .ensures) (c .if2 .taken) _ _ _ _ _ _ _ _ _ _ _
+returns-2 c = block-over _ _ _ _ _ _ _ _ _ _ _ _ _ _ _ _ _ _ _ _ (start (fitted (c .before) .before) .pre) _ _ _ _ (first-rows (fitted (c .before) .before) .reduce-left .ensures) (fitted (c .before) .if1 .left) _ refl _ _ _ (block-rows (c .before) .lower-left .ensures) (c .if2 .taken) _ _ _ _ _ _ _ _ _ _ _
 
 sub-sum : tie.Need-sub-sum
-sub-sum c = omega (arith, next-place _ _ _ _ _ _ _ _ _ _ _ _ _ _ _ _ _ _ _ _ (start (fitted (c .before) .before) .pre) _ _ _ _ _ _ (first-rows (fitted (c .before) .before) .reduce-left .ensures) (fitted (c .before) .if1 .left) _ refl _ _ _ _ _ (block-rows (c .before) .lower-left .ensures) (c .if2 .left))
+sub-sum c = omega (arith, next-place _ _ _ _ _ _ _ _ _ _ _ _ _ _ _ _ _ _ _ _ (start (fitted (c .before) .before) .pre) _ _ _ _ (first-rows (fitted (c .before) .before) .reduce-left .ensures) (fitted (c .before) .if1 .left) _ refl _ _ _ (block-rows (c .before) .lower-left .ensures) (c .if2 .left))
 
 add-sum : tie.Need-add-sum
-add-sum c = omega (arith, start (fitted (c .before) .before) .good, next-place _ _ _ _ _ _ _ _ _ _ _ _ _ _ _ _ _ _ _ _ (start (fitted (c .before) .before) .pre) _ _ _ _ _ _ (first-rows (fitted (c .before) .before) .reduce-left .ensures) (fitted (c .before) .if1 .left) _ refl _ _ _ _ _ (block-rows (c .before) .lower-left .ensures) (c .if2 .left), enough _ _ _ _ _ _ _ _ _ _ _ _ _ _ _ _ _ _ _ _ (start (fitted (c .before) .before) .pre) _ _ _ _ _ _ (first-rows (fitted (c .before) .before) .reduce-left .ensures) (fitted (c .before) .if1 .left) _ refl _ _ _ _ _ (block-rows (c .before) .lower-left .ensures) (c .if2 .left))
+add-sum c = omega (arith, start (fitted (c .before) .before) .good, next-place _ _ _ _ _ _ _ _ _ _ _ _ _ _ _ _ _ _ _ _ (start (fitted (c .before) .before) .pre) _ _ _ _ (first-rows (fitted (c .before) .before) .reduce-left .ensures) (fitted (c .before) .if1 .left) _ refl _ _ _ (block-rows (c .before) .lower-left .ensures) (c .if2 .left), enough _ _ _ _ _ _ _ _ _ _ _ _ _ _ _ _ _ _ _ _ (start (fitted (c .before) .before) .pre) _ _ _ _ (first-rows (fitted (c .before) .before) .reduce-left .ensures) (fitted (c .before) .if1 .left) _ refl _ _ _ (block-rows (c .before) .lower-left .ensures) (c .if2 .left))
 
 first-left-requires : tie.Need-first-left-requires
 first-left-requires c κs = start (fitted (c .before) .before) .pre .upper .positive
@@ -105,10 +105,10 @@ same-length-15 : tie.Need-same-length-15
 same-length-15 c = first-rows (fitted (c .before .before .before) .before) .reduce-left .kept .1 .1 .1 .1 .1 .1 .1 .1 .1 .1 .1 .1 .1 .1 .1 .1 .1 .0
 
 returns-3 : tie.Need-returns-3
-returns-3 c = block-nothing _ _ _ _ _ _ _ _ _ _ _ _ _ _ _ _ _ _ _ _ (start (fitted (c .before .before .before) .before) .pre) _ _ _ _ _ _ (first-rows (fitted (c .before .before .before) .before) .reduce-left .ensures) (fitted (c .before .before .before) .if1 .left) _ refl _ _ _ _ _ (block-rows (c .before .before .before) .lower-left .ensures) (c .before .before .if2 .left) _ (c .before .first-left .ensures) (c .if3 .taken) _ _ refl refl _ _
+returns-3 c = block-nothing _ _ _ _ _ _ _ _ _ _ _ _ _ _ _ _ _ _ _ _ (start (fitted (c .before .before .before) .before) .pre) _ _ _ _ (first-rows (fitted (c .before .before .before) .before) .reduce-left .ensures) (fitted (c .before .before .before) .if1 .left) _ refl _ _ _ (block-rows (c .before .before .before) .lower-left .ensures) (c .before .before .if2 .left) _ (c .before .first-left .ensures) (c .if3 .taken) _ _ refl refl _ _
 
 upper-left-requires : tie.Need-upper-left-requires
-upper-left-requires c κs = upper-ready _ _ _ _ _ _ _ _ _ _ _ _ _ _ _ _ _ _ _ _ (start (fitted (c .before .before .before .before .before .before .before) .before) .pre) _ _ _ _ _ _ (first-rows (fitted (c .before .before .before .before .before .before .before) .before) .reduce-left .ensures) (fitted (c .before .before .before .before .before .before .before) .if1 .left) _ refl _ _ _ _ _ (block-rows (c .before .before .before .before .before .before .before) .lower-left .ensures) (c .before .before .before .before .before .before .if2 .left) _ (c .before .before .before .before .before .first-left .ensures) (c .before .before .before .before .if3 .left)
+upper-left-requires c κs = upper-ready _ _ _ _ _ _ _ _ _ _ _ _ _ _ _ _ _ _ _ _ (start (fitted (c .before .before .before .before .before .before .before) .before) .pre) _ _ _ _ (first-rows (fitted (c .before .before .before .before .before .before .before) .before) .reduce-left .ensures) (fitted (c .before .before .before .before .before .before .before) .if1 .left) _ refl _ _ _ (block-rows (c .before .before .before .before .before .before .before) .lower-left .ensures) (c .before .before .before .before .before .before .if2 .left) _ (c .before .before .before .before .before .first-left .ensures) (c .before .before .before .before .if3 .left)
 
 mul-t49 : tie.Need-mul-t49
 mul-t49 c = omega (arith, found-inside _ _ (found c .before .first-left .ensures) (found c .if3 .left))
@@ -117,10 +117,10 @@ array-read-t67 : tie.Need-array-read-t67
 array-read-t67 c = found-inside _ _ (found c .before .first-left .ensures) (found c .if3 .left)
 
 cast-t48 : tie.Need-cast-t48
-cast-t48 c = omega (arith, start (fitted (found c .before .before .before) .before) .pre .lists .narrow, column-inside _ _ _ _ _ _ _ _ _ _ _ _ _ _ _ _ _ _ _ _ (start (fitted (found c .before .before .before) .before) .pre) _ _ _ _ _ _ (first-rows (fitted (found c .before .before .before) .before) .reduce-left .ensures) (fitted (found c .before .before .before) .if1 .left) _ refl _ _ _ _ _ (block-rows (found c .before .before .before) .lower-left .ensures) (found c .before .before .if2 .left) _ (found c .before .first-left .ensures) (found c .if3 .left))
+cast-t48 c = omega (arith, start (fitted (found c .before .before .before) .before) .pre .lists .narrow, column-inside _ _ _ _ _ _ _ _ _ _ _ _ _ _ _ _ _ _ _ _ (start (fitted (found c .before .before .before) .before) .pre) _ _ _ _ (first-rows (fitted (found c .before .before .before) .before) .reduce-left .ensures) (fitted (found c .before .before .before) .if1 .left) _ refl _ _ _ (block-rows (found c .before .before .before) .lower-left .ensures) (found c .before .before .if2 .left) _ (found c .before .first-left .ensures) (found c .if3 .left))
 
 add-t68 : tie.Need-add-t68
-add-t68 c = omega (arith, start (fitted (found c .before .before .before) .before) .good, next-place _ _ _ _ _ _ _ _ _ _ _ _ _ _ _ _ _ _ _ _ (start (fitted (found c .before .before .before) .before) .pre) _ _ _ _ _ _ (first-rows (fitted (found c .before .before .before) .before) .reduce-left .ensures) (fitted (found c .before .before .before) .if1 .left) _ refl _ _ _ _ _ (block-rows (found c .before .before .before) .lower-left .ensures) (found c .before .before .if2 .left), enough _ _ _ _ _ _ _ _ _ _ _ _ _ _ _ _ _ _ _ _ (start (fitted (found c .before .before .before) .before) .pre) _ _ _ _ _ _ (first-rows (fitted (found c .before .before .before) .before) .reduce-left .ensures) (fitted (found c .before .before .before) .if1 .left) _ refl _ _ _ _ _ (block-rows (found c .before .before .before) .lower-left .ensures) (found c .before .before .if2 .left))
+add-t68 c = omega (arith, start (fitted (found c .before .before .before) .before) .good, next-place _ _ _ _ _ _ _ _ _ _ _ _ _ _ _ _ _ _ _ _ (start (fitted (found c .before .before .before) .before) .pre) _ _ _ _ (first-rows (fitted (found c .before .before .before) .before) .reduce-left .ensures) (fitted (found c .before .before .before) .if1 .left) _ refl _ _ _ (block-rows (found c .before .before .before) .lower-left .ensures) (found c .before .before .if2 .left), enough _ _ _ _ _ _ _ _ _ _ _ _ _ _ _ _ _ _ _ _ (start (fitted (found c .before .before .before) .before) .pre) _ _ _ _ (first-rows (fitted (found c .before .before .before) .before) .reduce-left .ensures) (fitted (found c .before .before .before) .if1 .left) _ refl _ _ _ (block-rows (found c .before .before .before) .lower-left .ensures) (found c .before .before .if2 .left))
 
 cast-t70 : tie.Need-cast-t70
 cast-t70 c = record { fits = omega (arith, found-inside _ _ (found c .before .first-left .ensures) (found c .if3 .left)) }
@@ -141,7 +141,7 @@ same-length-20 : tie.Need-same-length-20
 same-length-20 c = first-rows (fitted (found c .before .before .before) .before) .reduce-left .kept .1 .1 .1 .1 .1 .1 .1 .1 .1 .1 .1 .1 .1 .1 .1 .1 .1 .0
 
 returns-4 : tie.Need-returns-4
-returns-4 c = block-pivot-row _ _ _ _ _ _ _ _ _ _ _ _ _ _ _ _ _ _ _ _ (start (fitted (found c .before .before .before) .before) .pre) _ _ _ _ _ _ (first-rows (fitted (found c .before .before .before) .before) .reduce-left .ensures) (fitted (found c .before .before .before) .if1 .left) _ refl _ _ _ _ _ (block-rows (found c .before .before .before) .lower-left .ensures) (found c .before .before .if2 .left) _ (found c .before .first-left .ensures) (found c .if3 .left) _ _ _ _ _ _ _ _ (pivot-row c .upper-left .ensures) (long (start (fitted (found c .before .before .before) .before))) _ _ refl refl
+returns-4 c = block-pivot-row _ _ _ _ _ _ _ _ _ _ _ _ _ _ _ _ _ _ _ _ (start (fitted (found c .before .before .before) .before) .pre) _ _ _ _ (first-rows (fitted (found c .before .before .before) .before) .reduce-left .ensures) (fitted (found c .before .before .before) .if1 .left) _ refl _ _ _ (block-rows (found c .before .before .before) .lower-left .ensures) (found c .before .before .if2 .left) _ (found c .before .first-left .ensures) (found c .if3 .left) _ _ _ _ _ (pivot-row c .upper-left .ensures) (long (start (fitted (found c .before .before .before) .before))) _ _ refl refl
 
 pub take-dense-spec : {M : Type 1} → statement M
 take-dense-spec =

@@ -32,7 +32,7 @@ same-length-3 c = search needs
 
 returns : tie.Need-returns
 returns c = let g = c .before .before .before .before .before .before in let d = g .before .before .before .before .before .before in let s = start d in
-    gathered-done _ (s .args .i) (s .args .l) (s .args .total) _ _ _ _ _ _ (s .pre) _ (d .load-row .ensures) _ (omega arith) _ _ _ _ _ (g .gather-multiples .ensures)
+    gathered-done _ (s .args .i) (s .args .l) (s .args .total) _ _ _ _ _ _ (s .pre) _ (d .load-row .ensures) _ (omega arith) _ _ _ _ (g .gather-multiples .ensures)
 
 pub gather-cut-spec : {M : Type 1} → statement M
 gather-cut-spec =

@@ -25,14 +25,14 @@ same-length-5 : tie.Need-same-length-5
 same-length-5 c = search needs
 
 returns : tie.Need-returns
-returns c = let s = c .before .before .before .before .before .before .before .before .before .before .before .before .before .before .before .before .before .before .before .before .before .before .before in other-over _ _ _ _ _ _ _ _ _ _ _ _ _ _ (s .pre) _ _ _ _ _ (c .before .before .before .before .before .before .before .gather-row .ensures) (c .if1 .taken) _ _ _ _ _ _ _
+returns c = let s = c .before .before .before .before .before .before .before .before .before .before .before .before .before .before .before .before .before .before .before .before .before .before .before in other-over _ _ _ _ _ _ _ _ _ _ _ _ _ _ (s .pre) _ _ _ _ (c .before .before .before .before .before .before .before .gather-row .ensures) (c .if1 .taken) _ _ _ _ _ _ _
 
 sub-sum : tie.Need-sub-sum
-sub-sum c = let s = c .before .before .before .before .before .before .before .before .before .before .before .before .before .before .before .before .before .before .before .before .before .before .before in omega (arith, next-place _ _ _ _ _ _ _ _ _ _ _ _ _ _ (s .pre) _ _ _ _ _ (c .before .before .before .before .before .before .before .gather-row .ensures) (c .if1 .left))
+sub-sum c = let s = c .before .before .before .before .before .before .before .before .before .before .before .before .before .before .before .before .before .before .before .before .before .before .before in omega (arith, next-place _ _ _ _ _ _ _ _ _ _ _ _ _ _ (s .pre) _ _ _ _ (c .before .before .before .before .before .before .before .gather-row .ensures) (c .if1 .left))
 
 add-sum : tie.Need-add-sum
 add-sum c = let s = c .before .before .before .before .before .before .before .before .before .before .before .before .before .before .before .before .before .before .before .before .before .before .before in let g = c .before .before .before .before .before .before .before .gather-row .ensures in
-    omega (arith, s .good, next-place _ _ _ _ _ _ _ _ _ _ _ _ _ _ (s .pre) _ _ _ _ _ g (c .if1 .left), enough _ _ _ _ _ _ _ _ _ _ _ _ _ _ (s .pre) _ _ _ _ _ g (c .if1 .left))
+    omega (arith, s .good, next-place _ _ _ _ _ _ _ _ _ _ _ _ _ _ (s .pre) _ _ _ _ g (c .if1 .left), enough _ _ _ _ _ _ _ _ _ _ _ _ _ _ (s .pre) _ _ _ _ g (c .if1 .left))
 
 first-nonzero-requires : tie.Need-first-nonzero-requires
 first-nonzero-requires c κs = search needs
@@ -57,11 +57,11 @@ same-length-10 c = search needs
 
 returns-2 : tie.Need-returns-2
 returns-2 c = let s = c .before .before .before .before .before .before .before .before .before .before .before .before .before .before .before .before .before .before .before .before .before .before .before .before .before .before .before .before .before .before in
-    other-dependent _ _ _ _ _ _ _ _ _ _ _ _ _ _ (s .pre) _ _ _ _ _ (c .before .before .before .before .before .before .before .before .before .before .before .before .before .before .gather-row .ensures) (c .before .before .before .before .before .before .before .if1 .left) _ (c .before .before .before .before .before .first-nonzero .ensures) (c .before .before .before .before .if2 .taken) _ (c .before .before .clear-row .ensures) _ refl
+    other-dependent _ _ _ _ _ _ _ _ _ _ _ _ _ _ (s .pre) _ _ _ _ (c .before .before .before .before .before .before .before .before .before .before .before .before .before .before .gather-row .ensures) (c .before .before .before .before .before .before .before .if1 .left) _ (c .before .before .before .before .before .first-nonzero .ensures) (c .before .before .before .before .if2 .taken) _ (c .before .before .clear-row .ensures) _ refl
 
 store-pivot-requires : tie.Need-store-pivot-requires
 store-pivot-requires c κs = let s = c .before .before .before .before .before .before .before .before .before .before .before .before .before .before .before .before .before .before .before .before .before .before .before .before .before .before .before .before .before .before .before in
-    other-pivot _ _ _ _ _ _ _ _ _ _ _ _ _ _ (s .pre) _ _ _ _ _ (c .before .before .before .before .before .before .before .before .before .before .before .before .before .before .before .gather-row .ensures) (c .before .before .before .before .before .before .before .before .if1 .left) _ (c .before .before .before .before .before .before .first-nonzero .ensures) (c .before .before .before .before .before .if2 .left) _ refl
+    other-pivot _ _ _ _ _ _ _ _ _ _ _ _ _ _ (s .pre) _ _ _ _ (c .before .before .before .before .before .before .before .before .before .before .before .before .before .before .before .gather-row .ensures) (c .before .before .before .before .before .before .before .before .if1 .left) _ (c .before .before .before .before .before .before .first-nonzero .ensures) (c .before .before .before .before .before .if2 .left) _ refl
 
 same-length-11 : tie.Need-same-length-11
 same-length-11 c = search needs
@@ -80,7 +80,7 @@ same-length-15 c = search needs
 
 returns-3 : tie.Need-returns-3
 returns-3 c = let s = c .before .before .before .before .before .before .before .before .before .before .before .before .before .before .before .before .before .before .before .before .before .before .before .before .before .before .before .before .before .before .before .before .before .before .before .before .before .before .before .before .before .before in let d = c .before .before .before .before .before .before .before .before .before .before .store-pivot .ensures in
-    other-taken _ _ _ _ _ _ _ _ _ _ _ _ _ _ (s .pre) _ _ _ _ _ (c .before .before .before .before .before .before .before .before .before .before .before .before .before .before .before .before .before .before .before .before .before .before .before .before .before .before .gather-row .ensures) (c .before .before .before .before .before .before .before .before .before .before .before .before .before .before .before .before .before .before .before .if1 .left) _ (c .before .before .before .before .before .before .before .before .before .before .before .before .before .before .before .before .before .first-nonzero .ensures) (c .before .before .before .before .before .before .before .before .before .before .before .before .before .before .before .before .if2 .left) _ refl _ _ _ _ _ _ _ _ _ _ (d .0) (d .1)
+    other-taken _ _ _ _ _ _ _ _ _ _ _ _ _ _ (s .pre) _ _ _ _ (c .before .before .before .before .before .before .before .before .before .before .before .before .before .before .before .before .before .before .before .before .before .before .before .before .before .before .gather-row .ensures) (c .before .before .before .before .before .before .before .before .before .before .before .before .before .before .before .before .before .before .before .if1 .left) _ (c .before .before .before .before .before .before .before .before .before .before .before .before .before .before .before .before .before .first-nonzero .ensures) (c .before .before .before .before .before .before .before .before .before .before .before .before .before .before .before .before .if2 .left) _ refl _ _ _ _ _ _ (d .0) (d .1)
 
 pub take-other-spec : {M : Type 1} → statement M
 take-other-spec =

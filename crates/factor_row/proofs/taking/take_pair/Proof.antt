@@ -56,7 +56,7 @@ same-length-4 c = search needs
 
 returns : tie.Need-returns
 returns c = let f = c .before .before .before .before .before .before .before .before .before .before .before .before .before .before .before in let d = c .before .before .before .before .before .before .before .before .copy-pivot .ensures in
-    pair-taken _ _ _ _ _ _ _ _ _ _ _ _ _ (start f .pre) _ _ (f .before .before .index .ensures) (f .index2 .ensures) _ _ (c .before .before .before .before .before .before .before .before .before .before .before .before .before .before .part .ensures) (c .before .before .before .before .before .before .before .before .before .before .before .before .before .part2 .ensures) _ _ _ _ _ _ _ _ _ (d .0) (d .1)
+    pair-taken _ _ _ _ _ _ _ _ _ _ _ _ _ (start f .pre) _ _ (f .before .before .index .ensures) (f .index2 .ensures) _ _ (c .before .before .before .before .before .before .before .before .before .before .before .before .before .before .part .ensures) (c .before .before .before .before .before .before .before .before .before .before .before .before .before .part2 .ensures) _ _ _ _ _ (d .0) (d .1)
 
 pub take-pair-spec : {M : Type 1} → statement M
 take-pair-spec =

@@ -16,7 +16,7 @@ index-requires : tie.Need-index-requires
 index-requires c κs = search needs
 
 take-pair-requires : tie.Need-take-pair-requires
-take-pair-requires c κs = let s = c .before .before .before .before .before .before .before .before .before .before .before .before .before .before .before .before .before .before in pair-at _ _ _ _ _ _ _ _ _ _ _ _ _ _ (c .before .before .before .before .before .index .ensures) (s .pre .pair (c .before .before .before .before .before .before .before .if1 .taken))
+take-pair-requires c κs = let s = c .before .before .before .before .before .before .before .before .before .before .before .before .before .before .before .before .before .before in pair-at _ _ _ _ _ _ _ _ _ _ _ (c .before .before .before .before .before .index .ensures) (s .pre .pair (c .before .before .before .before .before .before .before .if1 .taken))
 
 same-length : tie.Need-same-length
 same-length c = c .before .before .before .before .before .before .before .before .before .before .take-pair .kept .1 .1 .1 .1 .1 .1 .1 .1 .1 .1 .0
@@ -35,7 +35,7 @@ same-length-5 c = c .before .before .before .before .before .before .before .bef
 
 returns : tie.Need-returns
 returns c = let a = c .before .before .before .before .before .before .before .before .before .before .before .before .before .before .before .before .before .before .before .before .before .before .before .before .before .before .before .before .before .args in
-    found-pair _ _ _ _ _ _ _ _ (cut (a .r) (a .at) (a .us .now) (a .uc .now) (a .uv .now)) _ _ _ _ _ _ _ _ _ _ _ _ _ _ _ (c .before .before .before .before .before .before .before .before .before .before .before .before .before .before .before .before .before .before .if1 .taken) _ (c .before .before .before .before .before .before .before .before .before .before .before .before .before .before .before .before .index .ensures) (c .before .before .before .before .before .before .before .before .before .before .take-pair .ensures)
+    found-pair _ _ _ _ _ _ _ _ (cut (a .r) (a .at) (a .us .now) (a .uc .now) (a .uv .now)) _ _ _ _ _ (c .before .before .before .before .before .before .before .before .before .before .before .before .before .before .before .before .before .before .if1 .taken) _ (c .before .before .before .before .before .before .before .before .before .before .before .before .before .before .before .before .index .ensures) (c .before .before .before .before .before .before .before .before .before .before .take-pair .ensures)
 
 take-other-requires : tie.Need-take-other-requires
 take-other-requires c κs = c .before .before .before .before .before .before .before .before .before .before .before .before .before .before .before .before .pre .other (c .before .before .before .before .before .if1 .left)
@@ -57,7 +57,7 @@ same-length-10 c = c .before .before .before .before .before .before .before .be
 
 returns-2 : tie.Need-returns-2
 returns-2 c = let a = c .before .before .before .before .before .before .before .before .before .before .before .before .before .before .before .before .before .before .before .before .before .before .before .before .before .before .before .args in
-    found-other _ _ _ _ _ _ _ _ (cut (a .r) (a .at) (a .us .now) (a .uc .now) (a .uv .now)) _ _ _ _ _ _ _ _ _ _ _ _ _ _ _ (c .before .before .before .before .before .before .before .before .before .before .before .before .before .before .before .before .if1 .left) (c .before .before .before .before .before .before .before .before .before .before .take-other .ensures)
+    found-other _ _ _ _ _ _ _ _ (cut (a .r) (a .at) (a .us .now) (a .uc .now) (a .uv .now)) _ _ _ _ _ (c .before .before .before .before .before .before .before .before .before .before .before .before .before .before .before .before .if1 .left) (c .before .before .before .before .before .before .before .before .before .before .take-other .ensures)
 
 pub find-spec : {M : Type 1} → statement M
 find-spec =
