@@ -1,6 +1,6 @@
 -- The first pass: R is completed to the schedule, and C where the block needs it, then every row is taken.
 use mathlib.Core.Path.{_≡_, refl, sym, ap, _∙_, subst₂}
-use mathlib.Core.Bool.{Bool}
+use mathlib.Core.Bool.{false}
 use mathlib.Core.List.{List, _++_}
 use Prim.Native.Nat.{ℕ, _+_, _≤_}
 use native.Mathlib.Omega.{arith}
@@ -9,14 +9,15 @@ use lib.Seq.{length-take-le}
 use Rattle.lists.specs.Filled.{zeros}
 use Rattle.algebra.specs.Matrix.{Distinct, vector}
 use Rattle.sparse.specs.Matrix.{Compressed, matrix}
-use Rattle.sparse.specs.Set.{Storage}
+use Rattle.sparse.specs.Set.{Storage, storageOf}
 use Rattle.elimination.proofs.Selected.{pairs-columns}
 use Rattle.factor_order.specs.Needs.{Completable}
 use Rattle.factor_order.specs.Completion.{Completed}
 use Rattle.factor_turn.specs.Turning.{Lent}
 use Rattle.factor_turn.specs.Passing.{pairsIn, pairsOf, PassReady, PassLeaves}
 use Rattle.factor_turn.proofs.Schedules.{rows-are, columns-are, pairs-many}
-use Rattle.factor_passes.specs.Needs.{FromReady, ColumnsCompleted}
+use Rattle.factor_first.specs.declared.dense.Pass.{Pass}
+use Rattle.factor_passes.specs.Needs.{FromReady, ColumnsCompleted, PassOneLeaves}
 use Rattle.factor_passes.proofs.Orders.{distinct-front, distinct-cut, front-kept, order-long, order-completed}
 use Rattle.factor_passes.proofs.WorkingRow.{part-clear, whole-again, orders-same}
 
@@ -132,17 +133,20 @@ module _ (p s : ℕ) (A : Compressed) (S : Storage) (h : FromReady p s A S) wher
             U-clear = h .U-clear;
           })
 
-      pub one-passed : (roomL roomU : ℕ) (R′ C′ : List ℕ) (L′ U′ : Compressed) (over : Bool) (stop r at l total : ℕ)
-          → PassLeaves p s A R₁ C₁ (length (take m w₂)) roomL roomU R′ C′ L′ U′ over stop r at l total → PassLeaves p s A (S .R) (S .C) m roomL roomU R′ C′ L′ U′ over stop r at l total
-      one-passed roomL roomU R′ C′ L′ U′ over stop r at l total q =
-          record {
-            stopped = rw (sym last-part, R-kept, same-pairs) at (q .stopped);
-            fitted = rw (sym last-part, R-kept, same-pairs) at (q .fitted);
-            state = rw (sym last-part, R-kept, same-pairs) at (q .state);
-          }
-
-      pub one-clear : (part : List ℕ) → part ≡ zeros (length (take m w₂)) → part ++ drop m w₂ ≡ zeros (length (S .work))
+      one-clear : (part : List ℕ) → part ≡ zeros (length (take m w₂)) → part ++ drop m w₂ ≡ zeros (length (S .work))
       one-clear part e =
           ap (λ (x : List ℕ). part ++ drop m x) again
           ∙ whole-again (S .work) (h .lists .clear) m (h .lists .m-fits) part (e ∙ ap zeros (sym last-part))
           ∙ h .lists .clear
+
+      pub one-passed : (R′ C′ : List ℕ) (L′ U′ : Compressed) (part : List ℕ) (to : Pass)
+          → PassLeaves p s A R₁ C₁ (length (take m w₂)) (length (S .L .cols)) (length (S .U .cols)) R′ C′ L′ U′ (to .so .over) (to .stop) (to .so .r) (to .so .at) (to .so .l) (to .so .total)
+          → (to .so .over ≡ false → part ≡ zeros (length (take m w₂)))
+          → PassOneLeaves p s m A S (storageOf R′ C′ L′ U′ (part ++ drop m w₂)) to
+      one-passed R′ C′ L′ U′ part to q z =
+          record {
+            stopped = rw (sym last-part, R-kept, same-pairs) at (q .stopped);
+            fitted = rw (sym last-part, R-kept, same-pairs) at (q .fitted);
+            state = rw (sym last-part, R-kept, same-pairs) at (q .state);
+            clear = λ e. one-clear part (z e);
+          }

@@ -14,8 +14,9 @@ use Rattle.factor_turn.proofs.PivotPass as turns
 use Rattle.factor_turn.proofs.PivotPass.{same-lent}
 use Rattle.factor_passes.specs.Needs.{narrowed, PassLists}
 
-abbrev pub SameLengths : Storage → Storage → Type 0
-SameLengths a b = turns.SameLengths (a .R) (a .C) (a .L) (a .U) (a .work) (b .R) (b .C) (b .L) (b .U) (b .work)
+-- the lists of b are as long as those of a
+abbrev pub KeptLengths : Storage → Storage → Type 0
+KeptLengths a b = turns.SameLengths (a .R) (a .C) (a .L) (a .U) (a .work) (b .R) (b .C) (b .L) (b .U) (b .work)
 
 module _ (w : List ℕ) (clear : w ≡ zeros (length w)) (m : ℕ) (h : m ≤ length w) where
   pub part-clear : take m w ≡ zeros m
@@ -37,7 +38,7 @@ pub lists-formed : (p : ℕ) (A : Compressed) (S : Storage) → PassLists p A S 
 lists-formed p A S h = rw (wide S (h .m-fits)) at (h .lent .formed)
 
 -- the same of other lists of the same lengths
-pub lists-same : (p : ℕ) (A : Compressed) (S S′ : Storage) → SameLengths S S′ → S′ .work ≡ zeros (length (S′ .work)) → PassLists p A S → PassLists p A S′
+pub lists-same : (p : ℕ) (A : Compressed) (S S′ : Storage) → KeptLengths S S′ → S′ .work ≡ zeros (length (S′ .work)) → PassLists p A S → PassLists p A S′
 lists-same p A S S′ e z h =
     record {
       lent =
@@ -53,7 +54,7 @@ lists-same p A S S′ e z h =
     fits : length (S′ .C) ≤ length (S′ .work)
     fits = omega (arith, h .m-fits, e .C-long, e .w-long)
 
-    narrow : SameLengths (narrowed S) (narrowed S′)
+    narrow : KeptLengths (narrowed S) (narrowed S′)
     narrow =
         record {
           R-long = e .R-long;

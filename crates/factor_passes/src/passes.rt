@@ -1,16 +1,11 @@
 // The two passes, each with the orders completed first: by the rows that the first pass takes after the pairs and the columns that
 // its block has, and by what the factors lack. The working row marks the rows or the columns of an order
 // while it is completed.
-ghost use mathlib.Core.Path.{_≡_};
-ghost use mathlib.Core.Bool.{false};
-ghost use Prim.Native.Nat.{ℕ, _≤_};
+ghost use Prim.Native.Nat.{_≤_};
 ghost use lib.ListN.{length};
-ghost use Rattle.lists.specs.Filled.{zeros};
-ghost use Rattle.elimination.specs.Pivots.{Found};
-ghost use Rattle.factor_turn.specs.Passing.{PassLeaves};
 ghost use Rattle.factor_order.specs.Needs.{Completable};
-ghost use Rattle.factor_passes.specs.Needs.{FromReady, ColumnsCompleted, FoundFrom, CompleteReady, CompletedFor};
-ghost use Rattle.sparse.specs.Views.{before, after, storedAt, storedBefore, storedAfter, storageAt, storageBefore, storageAfter};
+ghost use Rattle.factor_passes.specs.Needs.{FromReady, ColumnsCompleted, PassOneLeaves, CompleteReady, Completes};
+ghost use Rattle.sparse.specs.Views.{before, after, storedAt, storedBefore, storageAt, storageBefore, storageAfter};
 use factor_first::dense::Pass;
 use factor_first::pass::find_pivots;
 use factor_order::complete::complete;
@@ -49,7 +44,7 @@ pub fn pass_one(
     work: &mut [u64],
 ) -> Pass
     requires { ⌜ FromReady (q .p) s (storedAt starts cols vals) (storageAt ro co ls lc lv us uc uv work) ⌝ }
-    ensures { λ to. ⌜ PassLeaves (q .p) s (storedBefore starts cols vals) (before ro) (before co) (length (before co)) (length (before lc)) (length (before uc)) (after ro) (after co) (storedAfter ls lc lv) (storedAfter us uc uv) (to .so .over) (to .stop) (to .so .r) (to .so .at) (to .so .l) (to .so .total) × (to .so .over ≡ false → after work ≡ zeros (length (before work))) ⌝ }
+    ensures { λ to. ⌜ PassOneLeaves (q .p) s (length (before co)) (storedBefore starts cols vals) (storageBefore ro co ls lc lv us uc uv work) (storageAfter ro co ls lc lv us uc uv work) to ⌝ }
 {
     let n = ro.len();
     let m = co.len();
@@ -93,8 +88,7 @@ pub fn pass_two(
     work: &mut [u64],
 )
     requires { ⌜ CompleteReady (q .p) (storedAt starts cols vals) (storageAt ro co ls lc lv us uc uv work) r at l ⌝ }
-    ensures completed { λ _. ⌜ ((f : Found) (total : ℕ) → FoundFrom (q .p) (storedBefore starts cols vals) (storageBefore ro co ls lc lv us uc uv work) r at l total f → CompletedFor f (length (before co)) (storageAfter ro co ls lc lv us uc uv work)) ⌝ }
-    ensures clear { λ _. ⌜ after work ≡ zeros (length (before work)) ⌝ }
+    ensures { λ _. ⌜ Completes (q .p) (storedBefore starts cols vals) (storageBefore ro co ls lc lv us uc uv work) (storageAfter ro co ls lc lv us uc uv work) r at l ⌝ }
 {
     let n = ro.len();
     let m = co.len();

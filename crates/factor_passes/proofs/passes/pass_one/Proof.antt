@@ -1,6 +1,6 @@
 -- `pass_one` meets its contract: the completed order of the rows is the schedule. Assumes nothing.
 use mathlib.Core.Path.{_∙_}
-use Rattle.factor_passes.proofs.PassOne.{rows-part, one-rows, R-kept, columns-fit, columns-part, one-columns, C-kept, last-fit, last-part, last-long, one-pass, one-passed, one-clear}
+use Rattle.factor_passes.proofs.PassOne.{rows-part, one-rows, R-kept, columns-fit, columns-part, one-columns, C-kept, last-fit, last-part, last-long, one-pass, one-passed}
 use Rattle.factor_passes.proofs.passes.pass_one.Statement.{statement}
 use Rattle.factor_passes.proofs.passes.pass_one.Tie as tie
 
@@ -60,7 +60,7 @@ same-length-9 c = last-long _ _ _ _ (c .before .before .before .before .before .
 
 returns : tie.Need-returns
 returns c = let s = c .before .before .before .before .before .before .before .before .before .before .before .before .before .before .before .before .before .before .before .before .before .before .before .before .before .before .before .before .before .before .before .before .before .before .before .before .before .before .before .before .before .before .before .before .before .before .before .before .before .before .before .before .before .before in let a = c .before .before .before .before .before .before .before .before .before .before .before .before .before .before .before .before .before .before .before .before .before .before .before .before .before .before .before .before .before .before .before .before .before .before .before .before .before .before .before .complete .ensures in let b = c .before .before .before .before .before .before .before .before .before .before .before .before .before .before .before .before .before .before .before .before .before .before .before .before .before .before .before .before .before .before .before .before .complete-columns .ensures in let d = c .before .before .before .before .before .before .before .before .before .before .before .before .before .before .before .before .before .before .find-pivots .ensures in
-    (one-passed _ _ _ _ (s .pre) _ _ a _ _ b _ _ _ _ _ _ _ _ _ _ _ _ (d .0), λ e. one-clear _ _ _ _ (s .pre) _ _ a _ _ b _ (d .1 e))
+    one-passed _ _ _ _ (s .pre) _ _ a _ _ b _ _ _ _ _ _ (d .0) (d .1)
 
 pub pass-one-spec : {M : Type 1} → statement M
 pass-one-spec =

@@ -51,7 +51,7 @@ same-length-6 c = search needs
 
 returns : tie.Need-returns
 returns c = let s = c .before .before .before .before .before .before .before .before .before .before .before .before .before .before .before .before .before .before .before .before .before .before .before .before .before .before .before .before .before .before .before .before .before .before .before .before .before .before .before .before .before in let a = c .before .before .before .before .before .before .before .before .before .before .before .before .before .before .before .before .before .before .before .before .before .before .before .before .before .before .complete .ensures in let b = c .before .before .before .before .before .before .before .before .before .before .before .before .before .before .before .before .before .before .before .complete2 .ensures in let d = c .before .before .before .before .before .before .before .before .fill-dependents .ensures in
-    (two-done _ _ _ _ _ _ (s .pre) _ _ a _ _ b _ _ _ (d .0), two-clear _ _ _ _ _ _ (s .pre) _ _ a _ _ b _ (d .1))
+    record { completed = two-done _ _ _ _ _ _ (s .pre) _ _ a _ _ b _ _ _ (d .0); clear = two-clear _ _ _ _ _ _ (s .pre) _ _ a _ _ b _ (d .1) }
 
 pub pass-two-spec : {M : Type 1} → statement M
 pass-two-spec =
