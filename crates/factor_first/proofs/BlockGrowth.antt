@@ -20,8 +20,8 @@ use Rattle.factor_first.specs.Dense.{DenseState}
 -- ---- what does not change
 
 -- the columns left depend on the first s of C alone
-left-same : (m s : ℕ) (C C′ : Vector) (width : ℕ) (js : Vector) → ((k : ℕ) → k < s → C k ≡ C′ k) → LeftColumns m s C width js → LeftColumns m s C′ width js
-left-same m s C C′ width js e h = record { inside = h .inside; rising = h .rising; covers = λ j b. go j (h .covers j b) }
+left-same-pivots : (m s : ℕ) (C C′ : Vector) (width : ℕ) (js : Vector) → ((k : ℕ) → k < s → C k ≡ C′ k) → LeftColumns m s C width js → LeftColumns m s C′ width js
+left-same-pivots m s C C′ width js e h = record { inside = h .inside; rising = h .rising; covers = λ j b. go j (h .covers j b) }
   where
     go : (j : ℕ) → ((k : ℕ) × (k < s) × (C k ≡ j)) ⊎ ((l : ℕ) × (l < width) × (js l ≡ j)) → ((k : ℕ) × (k < s) × (C′ k ≡ j)) ⊎ ((l : ℕ) × (l < width) × (js l ≡ j))
     go j (inl (k, b, q)) = inl (k, b, sym (e k b) ∙ q)
@@ -95,7 +95,7 @@ module _ (s first width : ℕ) (js ks : List ℕ) (block : List (List ℕ)) (m :
         record {
           low = omega (arith, d .low, many);
           start = d .start ∙ ap entries (sym (ap (take s) uppers-are ∙ take-append-le s (uppersOf f) (u ∷ []) (omega (arith, d .low, uppers-many f))));
-          left = left-same m s (vector (columnsOf f)) (vector (columnsOf after)) width (vector js) (λ k b. columns-before k (omega (arith, d .low))) (d .left);
+          left = left-same-pivots m s (vector (columnsOf f)) (vector (columnsOf after)) width (vector js) (λ k b. columns-before k (omega (arith, d .low))) (d .left);
           holds = subst (λ (b : ℕ). BlockHolds s b width (vector js) (vector (set ks (r - s) place)) (vector (columnsOf after)) (upperOf after) (set block (r - s) row))
               (let e : suc (r - s) ≡ rankOf after - s = omega (arith, d .low, many) in e)
               (holds-more s (r - s) width place (vector js) ks (vector (columnsOf after)) (upperOf after) block row held room places (n .within) (n .pivot ∙ column-next)

@@ -7,6 +7,7 @@ use lib.ListN.{length, getD, take, drop, take-append-drop}
 use lib.Seq.{getD-take, take-take}
 use Rattle.algebra.specs.Matrix.{vector}
 use Rattle.sparse.specs.Matrix.{Compressed, matrix}
+use Rattle.sparse.specs.Set.{storageOf}
 use Rattle.sparse.specs.Dense.{compress}
 use Rattle.sparse.proofs.DenseLaws.{compress-matrix}
 use Rattle.elimination.specs.Pivots.{Found, columnsOf, uppersOf, upperOf, rankOf}
@@ -18,9 +19,10 @@ use Rattle.factor_row.specs.Gathering.{cut, GatherReadyFrom}
 use Rattle.factor_dense.specs.Block.{LeftColumns, BlockHolds, Upper}
 use Rattle.factor_dense.specs.Turn.{DenseReady}
 use Rattle.factor_dense.proofs.Growing.{holds-same}
+use Rattle.factor_turn.specs.declared.turn.Progress.{Progress}
 use Rattle.factor_turn.specs.State.{State}
 use Rattle.factor_turn.proofs.Readiness.{cut-found, rows-ready, rank-fits, lists-ready}
-use Rattle.factor_first.specs.Dense.{DenseTurnReady}
+use Rattle.factor_first.specs.Needs.{DenseTurnReady}
 use Rattle.factor_first.proofs.FirstRows.{cut-first, echelon-first}
 
 -- the rows of U, as the block wants them
@@ -34,8 +36,20 @@ echelon-upper p m cs us two e =
       unit = λ k h. compress-matrix us k (getD cs k 0) ∙ e .rows k (omega (arith, e .as-many)) .unit;
     }
 
-module _ (p i s first width : ℕ) (js ks : List ℕ) (block : List (List ℕ)) (A : Compressed) (R C : List ℕ) (L U : Compressed) (w : List ℕ) (r at l total : ℕ)
-    (h : DenseTurnReady p i s first width js ks block A R C L U w r at l total) where
+module _ (p i s first width : ℕ) (js ks : List ℕ) (block : List (List ℕ)) (A : Compressed) (R C : List ℕ) (L U : Compressed) (w : List ℕ) (from : Progress)
+    (h : DenseTurnReady p i s first width js ks block A (storageOf R C L U w) from) where
+  abbrev r : ℕ
+  r = from .r
+
+  abbrev at : ℕ
+  at = from .at
+
+  abbrev l : ℕ
+  l = from .l
+
+  abbrev total : ℕ
+  total = from .total
+
   abbrev f : Found
   f = h .turn .f
 
@@ -62,7 +76,7 @@ module _ (p i s first width : ℕ) (js ks : List ℕ) (block : List (List ℕ)) 
 
   -- reduced by the first s rows of U
   row-ready : GatherReadyFrom p i s first l total A C (U .starts) (U .cols) (U .vals) w (L .cols) (L .vals)
-  row-ready = let lists = lists-ready p i _ A R C L U w r at l total (h .turn) in
+  row-ready = let lists = lists-ready p i _ A R C L U w from (h .turn) in
       rows-ready p A R C L U w (h .turn .lent) (take s (columnsOf f)) (take s (uppersOf f)) (echelon-first p m (columnsOf f) (uppersOf f) s few (h .turn .holds .echelon)) s first
       (sym (take-take s r C low) ∙ ap (take s) (held .columns)) first-cut (omega (arith, low, ranked)) (omega (arith, low, h .turn .more)) entries-inside i l total (L .cols) (L .vals) (h .turn .row)
       (h .turn .lent .L-paired) (lists .L-place) (h .turn .L-room)
@@ -112,7 +126,7 @@ module _ (p i s first width : ℕ) (js ks : List ℕ) (block : List (List ℕ)) 
         narrow = h .narrow;
         ranked = ranked;
         row = row-ready;
-        lists = lists-ready p i _ A R C L U w r at l total (h .turn);
+        lists = lists-ready p i _ A R C L U w from (h .turn);
         same = same-rows;
         upper = upper-rows;
         left = left-columns;

@@ -12,6 +12,7 @@ use lib.Seq.{length-take-le, take-all, getD-take, getD-drop, drop-drop, drop-at}
 use Rattle.lists.specs.Filled.{zeros}
 use Rattle.algebra.specs.Matrix.{Vector, vector}
 use Rattle.sparse.specs.Matrix.{Compressed, matrix}
+use Rattle.sparse.specs.Set.{storageOf}
 use Rattle.elimination.specs.Pivots.{Found, Turn, columnsOf, uppersOf, upperOf, rankOf, other, turn}
 use Rattle.elimination.specs.Factoring.{rest, entries, lowersOf, firstOver}
 use Rattle.elimination.specs.Invariant.{Invariant}
@@ -19,12 +20,15 @@ use Rattle.elimination.proofs.Invariant.{uppers-many}
 use Rattle.factor_dense.specs.Block.{LeftColumns}
 use Rattle.factor_dense.proofs.Growing.{holds-none}
 use Rattle.factor_dense.proofs.Rest.{rest-left}
+use Rattle.factor_turn.specs.declared.turn.Progress.{Progress}
 use Rattle.factor_turn.specs.State.{State, AfterTurn}
-use Rattle.factor_turn.specs.Turning.{TurnReady}
+use Rattle.factor_turn.specs.Needs.{TurnReady}
 use Rattle.factor_turn.proofs.Readiness.{turn-holds}
 use Rattle.factor_turn.proofs.Schedules.{Remaining, remaining-starts, remaining-turn, remaining-over, remaining-none, others-drop}
 use Rattle.factor_turn.proofs.PivotPass.{rank-turn, room, SameLengths, same-lent}
-use Rattle.factor_first.specs.Dense.{TailCopied, DenseState, DenseTurnReady, DenseTurned, DenseFrom, RowsReady, TurnsLeave}
+use Rattle.factor_first.specs.declared.dense.DenseTurn.{DenseTurn}
+use Rattle.factor_first.specs.Dense.{TailCopied, DenseState, DenseTurned, DenseFrom, TurnsLeave, RowsTaken}
+use Rattle.factor_first.specs.Needs.{DenseTurnReady, RowsReady}
 
 -- ---- the turns of other rows
 
@@ -37,8 +41,8 @@ others-end (x ∷ os) (suc k) h = others-end os k (omega arith)
 -- ---- the columns left
 
 -- js matters below the width alone
-left-same : (m s : ℕ) (C : Vector) (width : ℕ) (js js′ : Vector) → ((l : ℕ) → l < width → js l ≡ js′ l) → LeftColumns m s C width js → LeftColumns m s C width js′
-left-same m s C width js js′ e h =
+left-same-columns : (m s : ℕ) (C : Vector) (width : ℕ) (js js′ : Vector) → ((l : ℕ) → l < width → js l ≡ js′ l) → LeftColumns m s C width js → LeftColumns m s C width js′
+left-same-columns m s C width js js′ e h =
     record {
       inside = λ l b. subst (λ (x : ℕ). x < m) (e l b) (h .inside l b);
       rising = λ a b lt g. subst₂ (λ (x y : ℕ). x < y) (e a (omega arith)) (e b g) (h .rising a b lt g);
@@ -52,7 +56,7 @@ left-same m s C width js js′ e h =
 -- the columns after the first s of C, where those are the others rising
 tail-left : (s : ℕ) (C js : List ℕ) → s ≤ length C → C ≡ take s C ++ rest (take s C) (length C) → TailCopied s C js → LeftColumns (length C) s (vector (take s C)) (length C - s) (vector js)
 tail-left s C js inside order t =
-    left-same (length C) s (vector (take s C)) (length C - s) (vector others) (vector js) same
+    left-same-columns (length C) s (vector (take s C)) (length C - s) (vector others) (vector js) same
     (subst₂ (λ (a b : ℕ). LeftColumns (length C) a (vector (take s C)) b (vector others)) first many (rest-left (take s C) (length C)))
   where
     others : List ℕ
@@ -72,7 +76,7 @@ tail-left s C js inside order t =
 
 -- ---- before row k
 
-module _ (p s : ℕ) (A : Compressed) (R₀ C₀ : List ℕ) (L₀ U₀ : Compressed) (w₀ : List ℕ) (r₀ at₀ l₀ total₀ : ℕ) (js : List ℕ) where
+module _ (p s : ℕ) (A : Compressed) (R₀ C₀ : List ℕ) (L₀ U₀ : Compressed) (w₀ : List ℕ) (from₀ : Progress) (js : List ℕ) where
   abbrev n : ℕ
   n = length R₀
 
@@ -92,36 +96,36 @@ module _ (p s : ℕ) (A : Compressed) (R₀ C₀ : List ℕ) (L₀ U₀ : Compre
   all = map other (drop s R₀)
 
   abbrev From : Found → Type 0
-  From f₀ = DenseFrom p s A R₀ C₀ L₀ U₀ m r₀ at₀ l₀ total₀ f₀
+  From f₀ = DenseFrom p A (storageOf R₀ C₀ L₀ U₀ w₀) from₀ f₀
 
   -- what is found by then, from f₀, is held by the lists and the block
-  pub record Reached (f₀ : Found) (ks : List ℕ) (block : List (List ℕ)) (R C : List ℕ) (L U : Compressed) (k r at l total : ℕ) : Type 0 where
+  pub record Reached (f₀ : Found) (ks : List ℕ) (block : List (List ℕ)) (R C : List ℕ) (L U : Compressed) (k : ℕ) (from : Progress) : Type 0 where
     pub f : Found
     pub holds : Invariant p n m (matrix A) f
-    pub state : State f R C L U r at l total
-    pub dense : DenseState s at₀ width js ks block m f
+    pub state : State f R C L U (from .r) (from .at) (from .l) (from .total)
+    pub dense : DenseState s (from₀ .at) width js ks block m f
     pub left : Remaining p m (matrix A) roomL roomU f₀ all f (drop (k - s) all)
 
-  pub record Going (ks : List ℕ) (block : List (List ℕ)) (R C : List ℕ) (L U : Compressed) (w : List ℕ) (over : Bool) (k r at l total : ℕ) : Type 0 where
+  pub record Going (ks : List ℕ) (block : List (List ℕ)) (R C : List ℕ) (L U : Compressed) (w : List ℕ) (k : ℕ) (from : Progress) : Type 0 where
     pub low : s ≤ k
     pub inside : k ≤ n
     pub same : SameLengths R₀ C₀ L₀ U₀ w₀ R C L U w
     pub clear : w ≡ zeros (length w)
-    pub going : over ≡ false
-    pub rank-low : s ≤ r
-    pub rank : r ≤ k
-    pub L-room : total ≤ roomL
-    pub U-room : at ≤ roomU
+    pub going : from .over ≡ false
+    pub rank-low : s ≤ from .r
+    pub rank : from .r ≤ k
+    pub L-room : from .total ≤ roomL
+    pub U-room : from .at ≤ roomU
     pub ahead : drop k R ≡ drop k R₀
     pub ks-long : length ks ≡ 32
     pub block-long : length block ≡ 32
-    pub each : (f₀ : Found) → From f₀ → Reached f₀ ks block R C L U k r at l total
+    pub each : (f₀ : Found) → From f₀ → Reached f₀ ks block R C L U k from
 
-  module _ (over₀ : Bool) (h : RowsReady p s A R₀ C₀ L₀ U₀ w₀ over₀ r₀ at₀ l₀ total₀) where
+  module _ (h : RowsReady p s A (storageOf R₀ C₀ L₀ U₀ w₀) from₀) where
     -- ---- at the start
 
     module _ (tail : TailCopied s C₀ js) (ks : List ℕ) (block : List (List ℕ)) (ks-long : length ks ≡ 32) (block-long : length block ≡ 32) where
-      starts-dense : (f₀ : Found) → From f₀ → DenseState s at₀ width js ks block m f₀
+      starts-dense : (f₀ : Found) → From f₀ → DenseState s (from₀ .at) width js ks block m f₀
       starts-dense f₀ g =
           record {
             low = omega (arith, found);
@@ -137,7 +141,7 @@ module _ (p s : ℕ) (A : Compressed) (R₀ C₀ : List ℕ) (L₀ U₀ : Compre
           columns : take s C₀ ≡ columnsOf f₀
           columns = ap (λ (j : ℕ). take j C₀) (sym (h .rank)) ∙ g .state .columns
 
-      starts-each : (f₀ : Found) → From f₀ → Reached f₀ ks block R₀ C₀ L₀ U₀ s r₀ at₀ l₀ total₀
+      starts-each : (f₀ : Found) → From f₀ → Reached f₀ ks block R₀ C₀ L₀ U₀ s from₀
       starts-each f₀ g =
           record {
             f = f₀;
@@ -147,7 +151,7 @@ module _ (p s : ℕ) (A : Compressed) (R₀ C₀ : List ℕ) (L₀ U₀ : Compre
             left = rw (let q : s - s ≡ 0 = omega arith in q) (remaining-starts p m (matrix A) roomL roomU f₀ all);
           }
 
-      pub going-starts : Going ks block R₀ C₀ L₀ U₀ w₀ over₀ s r₀ at₀ l₀ total₀
+      pub going-starts : Going ks block R₀ C₀ L₀ U₀ w₀ s from₀
       going-starts =
           record {
             low = omega arith;
@@ -167,8 +171,7 @@ module _ (p s : ℕ) (A : Compressed) (R₀ C₀ : List ℕ) (L₀ U₀ : Compre
 
     -- ---- a turn
 
-    module _ (ks : List ℕ) (block : List (List ℕ)) (R C : List ℕ) (L U : Compressed) (w : List ℕ) (over : Bool) (k r at l total : ℕ)
-        (t : Going ks block R C L U w over k r at l total) where
+    module _ (ks : List ℕ) (block : List (List ℕ)) (R C : List ℕ) (L U : Compressed) (w : List ℕ) (k : ℕ) (from : Progress) (t : Going ks block R C L U w k from) where
       module _ (b : k < n) where
         -- the row is still that of the first list
         row-is : getD R k 0 ≡ getD R₀ k 0
@@ -179,7 +182,7 @@ module _ (p s : ℕ) (A : Compressed) (R₀ C₀ : List ℕ) (L₀ U₀ : Compre
             ∙ getD-drop k R₀ 0 0
             ∙ ap (λ (j : ℕ). getD R₀ j 0) (add-zero k)
 
-        turn-ready : (f₀ : Found) → From f₀ → TurnReady p (getD R k 0) false A R C L U w r at l total
+        turn-ready : (f₀ : Found) → From f₀ → TurnReady p (getD R k 0) false A (storageOf R C L U w) from
         turn-ready f₀ g =
             let x = t .each f₀ g in
             record {
@@ -194,16 +197,16 @@ module _ (p s : ℕ) (A : Compressed) (R₀ C₀ : List ℕ) (L₀ U₀ : Compre
               pair = λ e. absurd (true≢false (sym e));
             }
 
-        pub going-ready : DenseTurnReady p (getD R k 0) s at₀ width js ks block A R C L U w r at l total
+        pub going-ready : DenseTurnReady p (getD R k 0) s (from₀ .at) width js ks block A (storageOf R C L U w) from
         unfolding turn-ready
         going-ready =
             record {
-              turn = turn-ready (h .f) (h .from);
+              turn = turn-ready (h .f) (h .held);
               rows = omega (arith, t .rank, h .few-rows);
               narrow = omega (arith, h .few-columns);
               ks-long = t .ks-long;
               block-long = t .block-long;
-              state = rw (t .same .w-long) (t .each (h .f) (h .from) .dense);
+              state = rw (t .same .w-long) (t .each (h .f) (h .held) .dense);
             }
 
         -- it is the next turn
@@ -218,30 +221,30 @@ module _ (p s : ℕ) (A : Compressed) (R₀ C₀ : List ℕ) (L₀ U₀ : Compre
             more : suc (k - s) ≡ k + 1 - s
             more = omega (arith, t .low)
 
-        module _ (R′ C′ : List ℕ) (L′ U′ : Compressed) (w′ : List ℕ) (over′ : Bool) (r′ at′ l′ total′ place : ℕ) (row : List ℕ)
-            (d : DenseTurned p (getD R k 0) s at₀ width js ks block A R C L U w r at l total R′ C′ L′ U′ w′ over′ r′ at′ l′ total′ place row) where
+        module _ (R′ C′ : List ℕ) (L′ U′ : Compressed) (w′ : List ℕ) (to : DenseTurn)
+            (d : DenseTurned p (getD R k 0) s (from₀ .at) width js ks block A (storageOf R C L U w) (storageOf R′ C′ L′ U′ w′) from to) where
           -- ---- of one f₀
 
           module _ (f₀ : Found) (g : From f₀) where
-            abbrev before : Reached f₀ ks block R C L U k r at l total
+            abbrev before : Reached f₀ ks block R C L U k from
             before = t .each f₀ g
 
             abbrev found : Found
             found = turn p m (matrix A) (before .f) (other (getD R k 0))
 
-            turned : AfterTurn found m roomL roomU R′ C′ L′ U′ w′ over′ r′ at′ l′ total′
+            turned : AfterTurn found m roomL roomU (storageOf R′ C′ L′ U′ w′) (to .progress)
             turned = rw (t .same .w-long, t .same .lc-long, t .same .uc-long) at (d .turned .turned (before .f) (before .state))
 
-            over-at : over′ ≡ true → firstOver p m (matrix A) roomL roomU f₀ all ≡ some (getD R k 0)
+            over-at : to .progress .over ≡ true → firstOver p m (matrix A) roomL roomU f₀ all ≡ some (getD R k 0)
             over-at e =
                 remaining-over p m (matrix A) roomL roomU f₀ all (before .f) (drop (k - s) all) (before .left) (other (getD R k 0)) (drop (k + 1 - s) all) next-turn (turned .fit ∙ ap not e)
 
-            reached-turn : over′ ≡ false → Reached f₀ (set ks (r - s) place) (set block (r - s) row) R′ C′ L′ U′ (k + 1) r′ at′ l′ total′
+            reached-turn : to .progress .over ≡ false → Reached f₀ (set ks (from .r - s) (to .place)) (set block (from .r - s) (to .row)) R′ C′ L′ U′ (k + 1) (to .progress)
             unfolding turn-ready
             reached-turn e =
                 record {
                   f = found;
-                  holds = rw (t .same .R-long, t .same .w-long) at (turn-holds p (getD R k 0) false A R C L U w r at l total (turn-ready f₀ g));
+                  holds = rw (t .same .R-long, t .same .w-long) at (turn-holds p (getD R k 0) false A R C L U w from (turn-ready f₀ g));
                   state = turned .state e;
                   dense = rw (t .same .w-long) at (d .grown e (before .f) (before .state) (rw (t .same .w-long) (before .dense)));
                   left = remaining-turn p m (matrix A) roomL roomU f₀ all (before .f) (drop (k - s) all) (before .left) (other (getD R k 0)) (drop (k + 1 - s) all) next-turn (turned .fit ∙ ap not e);
@@ -249,33 +252,36 @@ module _ (p s : ℕ) (A : Compressed) (R₀ C₀ : List ℕ) (L₀ U₀ : Compre
 
           -- ---- of the loop
 
-          pub going-over : over′ ≡ true → (f₀ : Found) → From f₀ → TurnsLeave p m (matrix A) roomL roomU f₀ all R′ C′ L′ U′ over′ (getD R k 0) r′ at′ l′ total′
-          going-over e f₀ g =
+          pub going-over : to .progress .over ≡ true → RowsTaken p s A (storageOf R₀ C₀ L₀ U₀ w₀) (storageOf R′ C′ L′ U′ w′) from₀ (record { stop = getD R k 0; progress = to .progress })
+          going-over e =
               record {
-                stopped = λ z. over-at f₀ g e;
-                fitted = λ z. absurd (true≢false (sym e ∙ z));
-                state = λ z. absurd (true≢false (sym e ∙ z));
+                found = λ f₀ g. record {
+                  stopped = λ z. over-at f₀ g e;
+                  fitted = λ z. absurd (true≢false (sym e ∙ z));
+                  state = λ z. absurd (true≢false (sym e ∙ z));
+                };
+                clear = λ z. absurd (true≢false (sym e ∙ z));
               }
 
-          module _ (e : over′ ≡ false) (same′ : SameLengths R₀ C₀ L₀ U₀ w₀ R′ C′ L′ U′ w′) where
-            abbrev now : Reached (h .f) (set ks (r - s) place) (set block (r - s) row) R′ C′ L′ U′ (k + 1) r′ at′ l′ total′
-            now = reached-turn (h .f) (h .from) e
+          module _ (e : to .progress .over ≡ false) (same′ : SameLengths R₀ C₀ L₀ U₀ w₀ R′ C′ L′ U′ w′) where
+            abbrev now : Reached (h .f) (set ks (from .r - s) (to .place)) (set block (from .r - s) (to .row)) R′ C′ L′ U′ (k + 1) (to .progress)
+            now = reached-turn (h .f) (h .held) e
 
-            abbrev then : AfterTurn (found (h .f) (h .from)) m roomL roomU R′ C′ L′ U′ w′ over′ r′ at′ l′ total′
-            then = turned (h .f) (h .from)
+            abbrev then : AfterTurn (found (h .f) (h .held)) m roomL roomU (storageOf R′ C′ L′ U′ w′) (to .progress)
+            then = turned (h .f) (h .held)
 
-            abbrev fitting : (entries (lowersOf (found (h .f) (h .from))) ≤ roomL) × (entries (uppersOf (found (h .f) (h .from))) ≤ roomU)
-            fitting = room roomL roomU (found (h .f) (h .from)) (then .fit ∙ ap not e)
+            abbrev fitting : (entries (lowersOf (found (h .f) (h .held))) ≤ roomL) × (entries (uppersOf (found (h .f) (h .held))) ≤ roomU)
+            fitting = room roomL roomU (found (h .f) (h .held)) (then .fit ∙ ap not e)
 
             later : drop (k + 1) R′ ≡ drop (k + 1) R₀
             later =
-                further R′ ∙ ap (drop (k - r)) (d .turned .ahead) ∙ sym (further R)
+                further R′ ∙ ap (drop (k - from .r)) (d .turned .ahead) ∙ sym (further R)
                 ∙ sym (drop-drop 1 k R) ∙ ap (drop 1) (t .ahead) ∙ drop-drop 1 k R₀
               where
-                further : (x : List ℕ) → drop (k + 1) x ≡ drop (k - r) (drop (r + 1) x)
-                further x = ap (λ (j : ℕ). drop j x) (let q : k + 1 ≡ r + 1 + (k - r) = omega (arith, t .rank) in q) ∙ sym (drop-drop (k - r) (r + 1) x)
+                further : (x : List ℕ) → drop (k + 1) x ≡ drop (k - from .r) (drop (from .r + 1) x)
+                further x = ap (λ (j : ℕ). drop j x) (let q : k + 1 ≡ from .r + 1 + (k - from .r) = omega (arith, t .rank) in q) ∙ sym (drop-drop (k - from .r) (from .r + 1) x)
 
-            pub going-turn : Going (set ks (r - s) place) (set block (r - s) row) R′ C′ L′ U′ w′ over′ (k + 1) r′ at′ l′ total′
+            pub going-turn : Going (set ks (from .r - s) (to .place)) (set block (from .r - s) (to .row)) R′ C′ L′ U′ w′ (k + 1) (to .progress)
             unfolding reached-turn
             going-turn =
                 record {
@@ -285,19 +291,19 @@ module _ (p s : ℕ) (A : Compressed) (R₀ C₀ : List ℕ) (L₀ U₀ : Compre
                   clear = then .clear e ∙ ap zeros (sym (same′ .w-long));
                   going = e;
                   rank-low = omega (arith, now .dense .low, then .state e .rank);
-                  rank = omega (arith, then .state e .rank, t .rank, before (h .f) (h .from) .state .rank, rank-turn p m (matrix A) (before (h .f) (h .from) .f) false (getD R k 0) 0);
+                  rank = omega (arith, then .state e .rank, t .rank, before (h .f) (h .held) .state .rank, rank-turn p m (matrix A) (before (h .f) (h .held) .f) false (getD R k 0) 0);
                   L-room = omega (arith, then .state e .L-entries, fitting .0);
                   U-room = omega (arith, then .state e .U-entries, fitting .1);
                   ahead = later;
-                  ks-long = length-set ks (r - s) place ∙ t .ks-long;
-                  block-long = length-set block (r - s) row ∙ t .block-long;
+                  ks-long = length-set ks (from .r - s) (to .place) ∙ t .ks-long;
+                  block-long = length-set block (from .r - s) (to .row) ∙ t .block-long;
                   each = λ f₀ g. reached-turn f₀ g e;
                 }
 
       -- ---- at the end
 
-      pub going-ends : n ≤ k → (stop : ℕ) (f₀ : Found) → From f₀ → TurnsLeave p m (matrix A) roomL roomU f₀ all R C L U over stop r at l total
-      going-ends b stop f₀ g =
+      ends-leave : n ≤ k → (stop : ℕ) (f₀ : Found) → From f₀ → TurnsLeave p m (matrix A) roomL roomU f₀ all (storageOf R C L U w) (record { stop = stop; progress = from })
+      ends-leave b stop f₀ g =
           let x = t .each f₀ g in
           let q = remaining-none p m (matrix A) roomL roomU f₀ all (x .f) (drop (k - s) all) (x .left) (others-end (drop s R₀) (k - s) (omega (arith, length-drop s R₀))) in
           record {
@@ -306,5 +312,5 @@ module _ (p s : ℕ) (A : Compressed) (R₀ C₀ : List ℕ) (L₀ U₀ : Compre
             state = λ e. rw (q .0) (x .state);
           }
 
-      pub going-clear : w ≡ zeros m
-      going-clear = t .clear ∙ ap zeros (t .same .w-long)
+      pub going-ends : n ≤ k → (stop : ℕ) → RowsTaken p s A (storageOf R₀ C₀ L₀ U₀ w₀) (storageOf R C L U w) from₀ (record { stop = stop; progress = from })
+      going-ends b stop = record { found = ends-leave b stop; clear = λ e. t .clear ∙ ap zeros (t .same .w-long) }

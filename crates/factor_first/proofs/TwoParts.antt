@@ -8,16 +8,22 @@ use lib.Dec.{leb}
 use lib.ListN.{length, getD, take, drop, length-map, length-drop}
 use lib.Seq.{length-take-le, getD-drop, drop-at}
 use borrow.Author.Tests.{leb-true}
+use Rattle.lists.specs.Filled.{zeros}
 use Rattle.lists.proofs.Bools.{and-left, and-right}
 use Rattle.sparse.specs.Matrix.{Compressed, matrix}
+use Rattle.sparse.specs.Set.{storageOf}
 use Rattle.elimination.specs.Pivots.{Found, Turn, pair, other, turns}
 use Rattle.elimination.specs.Factoring.{rest, schedule, nothing, firstOver}
 use Rattle.elimination.proofs.Completion.{rest-each}
-use Rattle.factor_turn.specs.State.{State}
-use Rattle.factor_turn.specs.Passing.{pairsOf, PassReady, PassLeaves}
+use Rattle.factor_turn.specs.declared.turn.Progress.{Progress}
+use Rattle.factor_turn.specs.declared.turn.Pass.{Pass}
+use Rattle.factor_turn.specs.State.{StateOf}
+use Rattle.factor_turn.specs.Passing.{pairsOf, PassLeaves}
+use Rattle.factor_turn.specs.Needs.{PassReady}
 use Rattle.factor_turn.proofs.Schedules.{rows-are, pairs-many}
 use Rattle.factor_turn.proofs.PivotPass.{Passing, passing-ends, same-lent}
-use Rattle.factor_first.specs.Dense.{sparseEnd, DenseFrom, RowsReady, TurnsLeave}
+use Rattle.factor_first.specs.Dense.{sparseEnd, DenseFrom, TurnsLeave, RowsTaken}
+use Rattle.factor_first.specs.Needs.{RowsReady}
 
 -- ---- where the first part stops
 
@@ -63,8 +69,8 @@ module _ (s : ℕ) (R C : List ℕ) (hR : s ≤ length R) (hC : s ≤ length C) 
 
 -- ---- from the first part to the second
 
-module _ (p s : ℕ) (A : Compressed) (R₀ C₀ : List ℕ) (L₀ U₀ : Compressed) (w₀ : List ℕ) (h : PassReady p s A R₀ C₀ L₀ U₀ w₀)
-    (R C : List ℕ) (L U : Compressed) (w : List ℕ) (over : Bool) (k r at l total : ℕ) (t : Passing p s A R₀ C₀ L₀ U₀ w₀ R C L U w k r at l total) (going : over ≡ false) where
+module _ (p s : ℕ) (A : Compressed) (R₀ C₀ : List ℕ) (L₀ U₀ : Compressed) (w₀ : List ℕ) (h : PassReady p s A (storageOf R₀ C₀ L₀ U₀ w₀))
+    (R C : List ℕ) (L U : Compressed) (w : List ℕ) (k : ℕ) (from : Progress) (t : Passing p s A R₀ C₀ L₀ U₀ w₀ R C L U w k from) (going : from .over ≡ false) where
   abbrev m : ℕ
   m = length w₀
 
@@ -72,10 +78,8 @@ module _ (p s : ℕ) (A : Compressed) (R₀ C₀ : List ℕ) (L₀ U₀ : Compre
   all = schedule (length R₀) (pairsOf s R₀ C₀)
 
   -- every row is taken
-  pub all-taken : length R₀ ≤ k → (stop : ℕ) → PassLeaves p s A R₀ C₀ m (length (L₀ .cols)) (length (U₀ .cols)) R C L U over stop r at l total
-  all-taken b stop =
-      subst (λ (x : Bool). PassLeaves p s A R₀ C₀ m (length (L₀ .cols)) (length (U₀ .cols)) R C L U x stop r at l total) (sym going)
-      (passing-ends p s A R₀ C₀ L₀ U₀ w₀ h R C L U w k r at l total t b stop)
+  pub all-taken : length R₀ ≤ k → (stop : ℕ) → PassLeaves p s m A (storageOf R₀ C₀ L₀ U₀ w₀) (storageOf R C L U w) (record { stop = stop; progress = from })
+  all-taken b stop = passing-ends p s A R₀ C₀ L₀ U₀ w₀ h R C L U w k (record { stop = stop; progress = from }) t going b
 
   module _ (end : ℕ) (stops : StopsAt (length R₀) m s end) (low : k ≤ end) (done : end ≤ k) (b : k < length R₀) where
     early : (end ≡ s) × (length R₀ ≤ s + 32) × (m ≤ s + 32)
@@ -84,7 +88,7 @@ module _ (p s : ℕ) (A : Compressed) (R₀ C₀ : List ℕ) (L₀ U₀ : Compre
     at-pairs : k ≡ s
     at-pairs = omega (arith, early .0)
 
-    same-pairs : (r ≡ k) × (C ≡ C₀)
+    same-pairs : (from .r ≡ k) × (C ≡ C₀)
     same-pairs = t .pairs (omega (arith, at-pairs))
 
     ahead : drop s R ≡ drop s R₀
@@ -99,10 +103,10 @@ module _ (p s : ℕ) (A : Compressed) (R₀ C₀ : List ℕ) (L₀ U₀ : Compre
             ∙ sym (getD-drop s R (j - s) 0)
             ∙ ap (λ (x : List ℕ). getD x (j - s) 0) ahead
 
-    pub rows-from : DenseFrom p s A R C L U (length w) r at l total (t .f)
+    rows-from : DenseFrom p A (storageOf R C L U w) from (t .f)
     rows-from = record { holds = rw (t .same .R-long, t .same .w-long) (t .holds); state = t .state }
 
-    pub rows-ready : RowsReady p s A R C L U w over r at l total
+    pub rows-ready : RowsReady p s A (storageOf R C L U w) from
     rows-ready =
         record {
           going = going;
@@ -117,23 +121,26 @@ module _ (p s : ℕ) (A : Compressed) (R₀ C₀ : List ℕ) (L₀ U₀ : Compre
           below = below;
           columns-order = rw (same-pairs .1) (h .columns-order (early .1) (early .2));
           f = t .f;
-          from = rows-from;
+          held = rows-from;
         }
 
     -- the turns that the second part takes are those that remain
     rest-is : map other (drop s R) ≡ drop k all
     rest-is = ap (map other) ahead ∙ sym (turns-after s R₀ C₀ (h .rows-inside) (h .columns-inside) (h .order)) ∙ ap (λ (j : ℕ). drop j all) (sym at-pairs)
 
-    pub rows-taken : (R′ C′ : List ℕ) (L′ U′ : Compressed) (over′ : Bool) (stop r′ at′ l′ total′ : ℕ)
-        → TurnsLeave p (length w) (matrix A) (length (L .cols)) (length (U .cols)) (t .f) (map other (drop s R)) R′ C′ L′ U′ over′ stop r′ at′ l′ total′
-        → PassLeaves p s A R₀ C₀ m (length (L₀ .cols)) (length (U₀ .cols)) R′ C′ L′ U′ over′ stop r′ at′ l′ total′
-    rows-taken R′ C′ L′ U′ over′ stop r′ at′ l′ total′ d =
+    pub rows-taken : (R′ C′ : List ℕ) (L′ U′ : Compressed) (w′ : List ℕ) (to : Pass) → RowsTaken p s A (storageOf R C L U w) (storageOf R′ C′ L′ U′ w′) from to
+        → PassLeaves p s m A (storageOf R₀ C₀ L₀ U₀ w₀) (storageOf R′ C′ L′ U′ w′) to
+    rows-taken R′ C′ L′ U′ w′ to d =
         record {
-          stopped = λ e. sym over-is ∙ d .stopped e;
-          fitted = λ e. sym over-is ∙ d .fitted e;
-          state = λ e. subst (λ (g : Found). State g R′ C′ L′ U′ r′ at′ l′ total′) found-is (d .state e);
+          stopped = λ e. sym over-is ∙ taken .stopped e;
+          fitted = λ e. sym over-is ∙ taken .fitted e;
+          state = λ e. subst (λ (g : Found). StateOf g (storageOf R′ C′ L′ U′ w′) (to .progress)) found-is (taken .state e);
+          clear = λ e. d .clear e ∙ ap zeros (t .same .w-long);
         }
       where
+        taken : TurnsLeave p (length w) (matrix A) (length (L .cols)) (length (U .cols)) (t .f) (map other (drop s R)) (storageOf R′ C′ L′ U′ w′) to
+        taken = d .found (t .f) rows-from
+
         over-is : firstOver p (length w) (matrix A) (length (L .cols)) (length (U .cols)) (t .f) (map other (drop s R)) ≡ firstOver p m (matrix A) (length (L₀ .cols)) (length (U₀ .cols)) nothing all
         over-is = (λ i. firstOver p (t .same .w-long i) (matrix A) (t .same .lc-long i) (t .same .uc-long i) (t .f) (rest-is i)) ∙ t .left .over
 

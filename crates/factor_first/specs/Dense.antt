@@ -2,26 +2,30 @@
 --   sparseEnd n m s               the rows up to this one are taken one by one: all n, or the first s where at most 32 rows and 32 columns are left
 --   TailCopied s list r           r begins with the numbers of the list from place s on
 --   DenseState s first width ..   what the block holds of the pivots found: those after the first s, at the columns js that are no structural pivots
---   DenseTurnReady ..             row i can be taken in the block
---   DenseTurned ..                it was taken, as the definition's turn says, and the block holds what is found with it
---   DenseFrom p s A R C L U ..    s structural pivots are found, and the lists hold them; f is what is found
---   RowsReady ..                  so it is, for some f, and all entries fitted so far; at most 32 rows and 32 columns are left, and C has the columns after its first s, rising
---   TurnsLeave p m A f ts ..      the lists hold what the turns ts find after f, unless row `stop` is the first whose entries do not fit
-use Prim.Native.Nat.{ℕ, _+_, _-_, _≤_, _<_}
+--   DenseTurned p i s first ..    row i was taken in the block, as the definition's turn says, and the block holds what is found with it
+--   DenseFrom p A h from f        the lists hold what is found, f, where the factoring is as far as `from`
+--   TurnsLeave p m A .. f ts h to the lists hold what the turns ts find after f, unless the entries of a row did not fit: then that row is the first such
+--   RowsTaken p s A h₀ h from to  so it is of the turns of the rows of h₀ after the first s, for every f that its lists may hold; and the working row is all zero
+use Prim.Native.Nat.{ℕ, _+_, _-_, _≤_}
 use mathlib.Core.Path.{_≡_}
-use mathlib.Core.Bool.{Bool, true, false, cond, _&&_}
-use mathlib.Core.List.{List, _++_, map}
+use mathlib.Core.Bool.{true, false, cond, _&&_}
+use mathlib.Core.List.{List, map}
 use mathlib.Core.Option.{none, some}
 use lib.Dec.{leb}
-use lib.ListN.{length, getD, take, drop, set}
+use lib.ListN.{length, take, drop, set}
+use Rattle.lists.specs.Filled.{zeros}
 use Rattle.algebra.specs.Matrix.{Matrix, vector}
 use Rattle.sparse.specs.Matrix.{Compressed, matrix}
+use Rattle.sparse.specs.Set.{Storage}
 use Rattle.elimination.specs.Pivots.{Found, Turn, columnsOf, uppersOf, upperOf, rankOf, other, turn, turns}
-use Rattle.elimination.specs.Factoring.{rest, entries, firstOver}
+use Rattle.elimination.specs.Factoring.{entries, firstOver}
 use Rattle.elimination.specs.Invariant.{Invariant}
 use Rattle.factor_dense.specs.Block.{LeftColumns, BlockHolds}
-use Rattle.factor_turn.specs.State.{State}
-use Rattle.factor_turn.specs.Turning.{Lent, TurnReady, TurnLeaves}
+use Rattle.factor_turn.specs.declared.turn.Progress.{Progress}
+use Rattle.factor_turn.specs.declared.turn.Pass.{Pass}
+use Rattle.factor_turn.specs.State.{StateOf}
+use Rattle.factor_turn.specs.Turning.{TurnLeaves}
+use Rattle.factor_first.specs.declared.dense.DenseTurn.{DenseTurn}
 
 abbrev pub sparseEnd : ℕ → ℕ → ℕ → ℕ
 sparseEnd n m s = cond (leb (n - s) 32 && leb (m - s) 32) s n
@@ -36,39 +40,21 @@ pub record DenseState (s first width : ℕ) (js ks : List ℕ) (block : List (Li
   pub left : LeftColumns m s (vector (columnsOf f)) width (vector js)
   pub holds : BlockHolds s (rankOf f - s) width (vector js) (vector ks) (vector (columnsOf f)) (upperOf f) block
 
-pub record DenseTurnReady (p i s first width : ℕ) (js ks : List ℕ) (block : List (List ℕ)) (A : Compressed) (R C : List ℕ) (L U : Compressed) (w : List ℕ) (r at l total : ℕ) : Type 0 where
-  pub turn : TurnReady p i false A R C L U w r at l total
-  pub rows : r < s + 32
-  pub narrow : width ≤ 32
-  pub ks-long : length ks ≡ 32
-  pub block-long : length block ≡ 32
-  pub state : DenseState s first width js ks block (length w) (turn .f)
+pub record DenseTurned (p i s first width : ℕ) (js ks : List ℕ) (block : List (List ℕ)) (A : Compressed) (h₀ h : Storage) (from : Progress) (to : DenseTurn) : Type 0 where
+  pub turned : TurnLeaves p i false A h₀ h from (to .progress)
+  pub grown : to .progress .over ≡ false → (f : Found) → StateOf f h₀ from → DenseState s first width js ks block (length (h₀ .work)) f
+      → DenseState s first width js (set ks (from .r - s) (to .place)) (set block (from .r - s) (to .row)) (length (h₀ .work)) (turn p (length (h₀ .work)) (matrix A) f (other i))
 
-pub record DenseTurned (p i s first width : ℕ) (js ks : List ℕ) (block : List (List ℕ)) (A : Compressed) (R₀ C₀ : List ℕ) (L₀ U₀ : Compressed) (w₀ : List ℕ) (r₀ at₀ l₀ total₀ : ℕ) (R C : List ℕ) (L U : Compressed) (w : List ℕ) (over : Bool) (r at l total place : ℕ) (row : List ℕ) : Type 0 where
-  pub turned : TurnLeaves p i false A R₀ C₀ L₀ U₀ w₀ r₀ at₀ l₀ total₀ R C L U w over r at l total
-  pub grown : over ≡ false → (f : Found) → State f R₀ C₀ L₀ U₀ r₀ at₀ l₀ total₀ → DenseState s first width js ks block (length w₀) f
-      → DenseState s first width js (set ks (r₀ - s) place) (set block (r₀ - s) row) (length w₀) (turn p (length w₀) (matrix A) f (other i))
+pub record DenseFrom (p : ℕ) (A : Compressed) (h : Storage) (from : Progress) (f : Found) : Type 0 where
+  pub holds : Invariant p (length (h .R)) (length (h .work)) (matrix A) f
+  pub state : StateOf f h from
 
-pub record DenseFrom (p s : ℕ) (A : Compressed) (R C : List ℕ) (L U : Compressed) (m r at l total : ℕ) (f : Found) : Type 0 where
-  pub holds : Invariant p (length R) m (matrix A) f
-  pub state : State f R C L U r at l total
+pub record TurnsLeave (p m : ℕ) (A : Matrix) (roomL roomU : ℕ) (f : Found) (ts : List Turn) (h : Storage) (to : Pass) : Type 0 where
+  pub stopped : to .progress .over ≡ true → firstOver p m A roomL roomU f ts ≡ some (to .stop)
+  pub fitted : to .progress .over ≡ false → firstOver p m A roomL roomU f ts ≡ none
+  pub state : to .progress .over ≡ false → StateOf (turns p m A f ts) h (to .progress)
 
-pub record RowsReady (p s : ℕ) (A : Compressed) (R C : List ℕ) (L U : Compressed) (w : List ℕ) (over : Bool) (r at l total : ℕ) : Type 0 where
-  pub going : over ≡ false
-  pub lent : Lent p A R C L U w
-  pub rank : r ≡ s
-  pub rows-inside : s ≤ length R
-  pub columns-inside : s ≤ length C
-  pub few-rows : length R ≤ s + 32
-  pub few-columns : length C ≤ s + 32
-  pub L-room : total ≤ length (L .cols)
-  pub U-room : at ≤ length (U .cols)
-  pub below : (k : ℕ) → s ≤ k → k < length R → getD R k 0 < length R
-  pub columns-order : C ≡ take s C ++ rest (take s C) (length C)
-  pub f : Found
-  pub from : DenseFrom p s A R C L U (length w) r at l total f
-
-pub record TurnsLeave (p m : ℕ) (A : Matrix) (roomL roomU : ℕ) (f : Found) (ts : List Turn) (R C : List ℕ) (L U : Compressed) (over : Bool) (stop r at l total : ℕ) : Type 0 where
-  pub stopped : over ≡ true → firstOver p m A roomL roomU f ts ≡ some stop
-  pub fitted : over ≡ false → firstOver p m A roomL roomU f ts ≡ none
-  pub state : over ≡ false → State (turns p m A f ts) R C L U r at l total
+pub record RowsTaken (p s : ℕ) (A : Compressed) (h₀ h : Storage) (from : Progress) (to : Pass) : Type 0 where
+  pub found : (f : Found) → DenseFrom p A h₀ from f
+      → TurnsLeave p (length (h₀ .work)) (matrix A) (length (h₀ .L .cols)) (length (h₀ .U .cols)) f (map other (drop s (h₀ .R))) h to
+  pub clear : to .progress .over ≡ false → h .work ≡ zeros (length (h₀ .work))

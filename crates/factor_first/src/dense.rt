@@ -1,28 +1,18 @@
 // The rows that have no structural pivot, in the block.
-ghost use mathlib.Core.Path.{_≡_};
-ghost use mathlib.Core.Bool.{false};
-ghost use mathlib.Core.List.{map};
 ghost use Prim.Native.Nat.{_≤_, _+_};
-ghost use lib.ListN.{length, drop, getD};
-ghost use Rattle.lists.specs.Filled.{zeros};
-ghost use Rattle.sparse.specs.Matrix.{matrix};
-ghost use Rattle.sparse.specs.Views.{before, after, storedAt, storedBefore, storedAfter};
-ghost use Rattle.elimination.specs.Pivots.{Found, other};
-ghost use Rattle.factor_first.specs.Dense.{DenseTurnReady, DenseTurned, DenseFrom, RowsReady, TurnsLeave, TailCopied};
+ghost use lib.ListN.{length};
+ghost use Rattle.sparse.specs.Views.{before, storedAt, storedBefore, storageAt, storageBefore, storageAfter};
+ghost use Rattle.factor_first.specs.Dense.{TailCopied, DenseTurned, RowsTaken};
+ghost use Rattle.factor_first.specs.Needs.{DenseTurnReady, RowsReady};
 use factor_dense::taking::take_dense;
+use factor_turn::turn::Pass;
 use factor_turn::turn::Progress;
 use factor_turn::turn::settle;
 use residue::Modulus;
 
-// Where a pass ended: the row whose entries did not fit, if there is one, and how far it came.
-pub struct Pass {
-    pub stop: u32,
-    pub so: Progress,
-}
-
 // What a turn came to, and where it found a pivot: the place of its column, and the row that the block gets.
 pub struct DenseTurn {
-    pub so: Progress,
+    pub progress: Progress,
     pub place: u32,
     pub row: [u32; 32],
 }
@@ -50,7 +40,7 @@ fn take_dense_row(
     i: u32,
     s: usize,
     first: usize,
-    so: Progress,
+    from: Progress,
     js: [u32; 32],
     width: usize,
     ks: &[u32; 32],
@@ -65,10 +55,10 @@ fn take_dense_row(
     uv: &mut [u32],
     work: &mut [u64],
 ) -> DenseTurn
-    requires { ⌜ DenseTurnReady (q .p) i s first width js (now ks) (now block) (storedAt starts cols vals) (now ro) (now co) (storedAt ls lc lv) (storedAt us uc uv) (now work) (so .r) (so .at) (so .l) (so .total) ⌝ }
-    ensures { λ to. ⌜ DenseTurned (q .p) i s first width js (before ks) (before block) (storedBefore starts cols vals) (before ro) (before co) (storedBefore ls lc lv) (storedBefore us uc uv) (before work) (so .r) (so .at) (so .l) (so .total) (after ro) (after co) (storedAfter ls lc lv) (storedAfter us uc uv) (after work) (to .so .over) (to .so .r) (to .so .at) (to .so .l) (to .so .total) (to .place) (to .row) ⌝ }
+    requires { ⌜ DenseTurnReady (q .p) i s first width js (now ks) (now block) (storedAt starts cols vals) (storageAt ro co ls lc lv us uc uv work) from ⌝ }
+    ensures { λ to. ⌜ DenseTurned (q .p) i s first width js (before ks) (before block) (storedBefore starts cols vals) (storageBefore ro co ls lc lv us uc uv work) (storageAfter ro co ls lc lv us uc uv work) from to ⌝ }
 {
-    let r = so.r;
+    let r = from.r;
     let d = take_dense(
         q,
         starts,
@@ -78,9 +68,9 @@ fn take_dense_row(
         s,
         first,
         r,
-        so.at,
-        so.l,
-        so.total,
+        from.at,
+        from.l,
+        from.total,
         co,
         us,
         js,
@@ -98,7 +88,7 @@ fn take_dense_row(
     let m = work.len();
     let to = settle(step, i, r, m, ro, co, ls, us);
     DenseTurn {
-        so: to,
+        progress: to,
         place: d.place,
         row: row,
     }
@@ -123,20 +113,19 @@ pub fn find_dense(
     uv: &mut [u32],
     work: &mut [u64],
 ) -> Pass
-    requires { ⌜ RowsReady (q .p) s (storedAt starts cols vals) (now ro) (now co) (storedAt ls lc lv) (storedAt us uc uv) (now work) (from .over) (from .r) (from .at) (from .l) (from .total) ⌝ }
-    ensures found { λ to. ⌜ ((f : Found) → DenseFrom (q .p) s (storedBefore starts cols vals) (before ro) (before co) (storedBefore ls lc lv) (storedBefore us uc uv) (length (before work)) (from .r) (from .at) (from .l) (from .total) f → TurnsLeave (q .p) (length (before work)) (matrix (storedBefore starts cols vals)) (length (before lc)) (length (before uc)) f (map other (drop s (before ro))) (after ro) (after co) (storedAfter ls lc lv) (storedAfter us uc uv) (to .so .over) (to .stop) (to .so .r) (to .so .at) (to .so .l) (to .so .total)) ⌝ }
-    ensures clear { λ to. ⌜ (to .so .over ≡ false → after work ≡ zeros (length (before work))) ⌝ }
+    requires { ⌜ RowsReady (q .p) s (storedAt starts cols vals) (storageAt ro co ls lc lv us uc uv work) from ⌝ }
+    ensures { λ to. ⌜ RowsTaken (q .p) s (storedBefore starts cols vals) (storageBefore ro co ls lc lv us uc uv work) (storageAfter ro co ls lc lv us uc uv work) from to ⌝ }
 {
     let js = tail(s, co);
     let width = co.len() - s;
     let first = from.at;
-    let mut so = from;
+    let mut progress = from;
     let mut block = [[0u32; 32]; 32];
     let mut ks = [0u32; 32];
     let mut k = s;
     while k < ro.len() {
         let i = ro[k];
-        let b = so.r - s;
+        let b = progress.r - s;
         let turn = take_dense_row(
             q,
             starts,
@@ -145,7 +134,7 @@ pub fn find_dense(
             i,
             s,
             first,
-            so,
+            progress,
             js,
             width,
             &ks,
@@ -160,10 +149,13 @@ pub fn find_dense(
             uv,
             work,
         );
-        so = turn.so;
-        let over = so.over;
+        progress = turn.progress;
+        let over = progress.over;
         if over {
-            return Pass { stop: i, so: so };
+            return Pass {
+                stop: i,
+                progress: progress,
+            };
         }
         // where the row is dependent the next turn replaces this row of the block
         let row = turn.row;
@@ -171,5 +163,8 @@ pub fn find_dense(
         ks[b] = turn.place;
         k += 1;
     }
-    Pass { stop: 0, so: so }
+    Pass {
+        stop: 0,
+        progress: progress,
+    }
 }

@@ -1,14 +1,13 @@
 // The first pass of the factoring: the pivots, U, and the rows of L of the pivot rows.
 ghost use mathlib.Core.Path.{_≡_};
-ghost use mathlib.Core.Bool.{false};
 ghost use Prim.Native.Nat.{_≤_};
 ghost use lib.ListN.{length};
-ghost use Rattle.lists.specs.Filled.{zeros};
-ghost use Rattle.factor_turn.specs.Passing.{PassReady, PassLeaves};
+ghost use Rattle.factor_turn.specs.Passing.{PassLeaves};
+ghost use Rattle.factor_turn.specs.Needs.{PassReady};
 ghost use Rattle.factor_first.specs.Dense.{sparseEnd};
-ghost use Rattle.sparse.specs.Views.{before, after, storedAt, storedBefore, storedAfter};
-use crate::dense::Pass;
+ghost use Rattle.sparse.specs.Views.{before, storedAt, storedBefore, storageAt, storageBefore, storageAfter};
 use crate::dense::find_dense;
+use factor_turn::turn::Pass;
 use factor_turn::turn::Progress;
 use factor_turn::turn::take_row;
 use residue::Modulus;
@@ -45,10 +44,10 @@ pub fn find_pivots(
     uv: &mut [u32],
     work: &mut [u64],
 ) -> Pass
-    requires { ⌜ PassReady (q .p) s (storedAt starts cols vals) (now ro) (now co) (storedAt ls lc lv) (storedAt us uc uv) (now work) ⌝ }
-    ensures { λ to. ⌜ PassLeaves (q .p) s (storedBefore starts cols vals) (before ro) (before co) (length (before work)) (length (before lc)) (length (before uc)) (after ro) (after co) (storedAfter ls lc lv) (storedAfter us uc uv) (to .so .over) (to .stop) (to .so .r) (to .so .at) (to .so .l) (to .so .total) × (to .so .over ≡ false → after work ≡ zeros (length (before work))) ⌝ }
+    requires { ⌜ PassReady (q .p) s (storedAt starts cols vals) (storageAt ro co ls lc lv us uc uv work) ⌝ }
+    ensures { λ to. ⌜ PassLeaves (q .p) s (length (before work)) (storedBefore starts cols vals) (storageBefore ro co ls lc lv us uc uv work) (storageAfter ro co ls lc lv us uc uv work) to ⌝ }
 {
-    let mut so = Progress {
+    let mut progress = Progress {
         over: false,
         r: 0,
         at: 0,
@@ -60,14 +59,14 @@ pub fn find_pivots(
     while k < end {
         let i = ro[k];
         let paired = k < s;
-        so = take_row(
+        progress = take_row(
             q,
             starts,
             cols,
             vals,
             i,
             paired,
-            so,
+            progress,
             ro,
             co,
             ls,
@@ -78,9 +77,12 @@ pub fn find_pivots(
             uv,
             work,
         );
-        let over = so.over;
+        let over = progress.over;
         if over {
-            return Pass { stop: i, so: so };
+            return Pass {
+                stop: i,
+                progress: progress,
+            };
         }
         k += 1;
     }
@@ -91,7 +93,7 @@ pub fn find_pivots(
             cols,
             vals,
             s,
-            so,
+            progress,
             ro,
             co,
             ls,
@@ -103,5 +105,8 @@ pub fn find_pivots(
             work,
         );
     }
-    Pass { stop: 0, so: so }
+    Pass {
+        stop: 0,
+        progress: progress,
+    }
 }

@@ -11,6 +11,7 @@ use borrow.Author.Tests.{le-leb}
 use Rattle.lists.specs.Filled.{zeros}
 use Rattle.elimination.proofs.Room.{entries-append}
 use Rattle.sparse.specs.Matrix.{Compressed, compressed, matrix}
+use Rattle.sparse.specs.Set.{storageOf}
 use Rattle.sparse.specs.Dense.{columnsFrom, nonzeros, compress}
 use Rattle.sparse.specs.Storing.{DenseStored}
 use Rattle.sparse.proofs.Rows.{form-below}
@@ -26,8 +27,8 @@ use Rattle.factor_row.specs.Storage.{Holds}
 use Rattle.factor_row.specs.Gathering.{cut, multiplesBy, remainderBy, RowGathered}
 use Rattle.factor_row.proofs.Storage.{begins-long, holds-more, holds-filled}
 use Rattle.factor_turn.specs.State.{pivotLowers}
-use Rattle.factor_turn.specs.Turning.{Lent}
-use Rattle.factor_turn.specs.Filling.{FillRowReady, LowerStored, FillFrom, FillReady, FillDone}
+use Rattle.factor_turn.specs.Filling.{LowerStored, FillFrom, FillDone}
+use Rattle.factor_turn.specs.Needs.{Lent, FillRowReady, FillReady}
 use Rattle.factor_turn.proofs.Steps.{entries-values, lowers-split}
 use Rattle.factor_turn.proofs.Sizes.{rank-most, entries-most}
 use Rattle.factor_turn.proofs.Readiness.{gather-ready}
@@ -76,11 +77,11 @@ module _ (p : ℕ) (A : Compressed) (R C : List ℕ) (L U : Compressed) (w : Lis
     pub lc-long : length (L′ .cols) ≡ length (L .cols)
     pub lv-long : length (L′ .vals) ≡ length (L .vals)
     pub clear : w′ ≡ zeros (length w)
-    pub each : (f : Found) (total : ℕ) → FillFrom p A R C L U (length w) r at l total f → FilledTo f total k L′ next
+    pub each : (f : Found) (total : ℕ) → FillFrom p A (storageOf R C L U w) (length w) r at l total f → FilledTo f total k L′ next
 
   -- ---- of one f
 
-  module _ (lent : Lent p A R C L U w) (f : Found) (total : ℕ) (g : FillFrom p A R C L U (length w) r at l total f) where
+  module _ (lent : Lent p A (storageOf R C L U w)) (f : Found) (total : ℕ) (g : FillFrom p A (storageOf R C L U w) (length w) r at l total f) where
     abbrev rows : List (List ℕ)
     rows = lowersOf f
 
@@ -177,7 +178,7 @@ module _ (p : ℕ) (A : Compressed) (R C : List ℕ) (L U : Compressed) (w : Lis
 
   -- ---- the loop
 
-  module _ (h : FillReady p A R C L U w r at l) where
+  module _ (h : FillReady p A (storageOf R C L U w) r at l) where
     pub filling-starts : Filling L w r l
     filling-starts =
         record {
@@ -232,5 +233,5 @@ module _ (p : ℕ) (A : Compressed) (R C : List ℕ) (L U : Compressed) (w : Lis
                 each = λ f total g. filled-turn (h .lent) f total g k b L′ next (t .each f total g) (t .ls-long) (t .lc-long) (t .lv-long) lc lv next′ (d .stored);
               }
 
-      pub filling-ends : length R ≤ k → (f : Found) (total : ℕ) → FillFrom p A R C L U (length w) r at l total f → FillDone f L′
+      pub filling-ends : length R ≤ k → (f : Found) (total : ℕ) → FillFrom p A (storageOf R C L U w) (length w) r at l total f → FillDone f L′
       filling-ends b f total g = filled-ends (h .lent) f total g k next L′ b (t .each f total g)

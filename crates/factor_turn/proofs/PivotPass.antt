@@ -14,6 +14,7 @@ use Rattle.lists.specs.Filled.{zeros}
 use Rattle.lists.proofs.Bools.{and-left, and-right}
 use Rattle.algebra.specs.Matrix.{Matrix, Distinct, vector}
 use Rattle.sparse.specs.Matrix.{Compressed, matrix}
+use Rattle.sparse.specs.Set.{storageOf}
 use Rattle.elimination.specs.Pairs.{pairRows, pairColumns}
 use Rattle.elimination.specs.Pivots.{Found, Turn, columnsOf, uppersOf, rankOf, withDependent, pair, other, turn, reducedBy, coefficients}
 use Rattle.elimination.specs.Factoring.{schedule, nothing, rowOfTurn, entries, lowersOf, fits, firstOver}
@@ -22,9 +23,12 @@ use Rattle.elimination.specs.Invariant.{Invariant}
 use Rattle.elimination.proofs.Invariant.{nothing-holds}
 use Rattle.elimination.proofs.Turns.{other-either}
 use Rattle.factor_row.proofs.Storage.{holds-none}
+use Rattle.factor_turn.specs.declared.turn.Progress.{Progress}
+use Rattle.factor_turn.specs.declared.turn.Pass.{Pass}
 use Rattle.factor_turn.specs.State.{pivotRows, pivotLowers, State, turnOf, AfterTurn}
-use Rattle.factor_turn.specs.Turning.{Lent, PairAt, TurnReady, TurnLeaves}
-use Rattle.factor_turn.specs.Passing.{pairsOf, Cleared, PassReady, PassLeaves}
+use Rattle.factor_turn.specs.Turning.{TurnLeaves}
+use Rattle.factor_turn.specs.Passing.{pairsOf, Cleared, PassLeaves}
+use Rattle.factor_turn.specs.Needs.{Lent, PairAt, TurnReady, PassReady}
 use Rattle.factor_turn.proofs.Steps.{rank-more}
 use Rattle.factor_turn.proofs.Readiness.{turn-holds}
 use Rattle.factor_turn.proofs.Schedules.{Remaining, remaining-starts, remaining-turn, remaining-over, remaining-none, rows-are, columns-are, pairs-many, schedule-turn, schedule-ends}
@@ -83,7 +87,7 @@ pub record SameLengths (R₀ C₀ : List ℕ) (L₀ U₀ : Compressed) (w₀ R C
   pub w-long : length w ≡ length w₀
 
 pub same-lent : (p : ℕ) (A : Compressed) (R₀ C₀ : List ℕ) (L₀ U₀ : Compressed) (w₀ R C : List ℕ) (L U : Compressed) (w : List ℕ)
-    → SameLengths R₀ C₀ L₀ U₀ w₀ R C L U w → w ≡ zeros (length w) → Lent p A R₀ C₀ L₀ U₀ w₀ → Lent p A R C L U w
+    → SameLengths R₀ C₀ L₀ U₀ w₀ R C L U w → w ≡ zeros (length w) → Lent p A (storageOf R₀ C₀ L₀ U₀ w₀) → Lent p A (storageOf R C L U w)
 same-lent p A R₀ C₀ L₀ U₀ w₀ R C L U w e z h =
     record {
       prime = h .prime;
@@ -112,22 +116,22 @@ module _ (p s : ℕ) (A : Compressed) (R₀ C₀ : List ℕ) (L₀ U₀ : Compre
   abbrev all : List Turn
   all = schedule n (pairsOf s R₀ C₀)
 
-  pub record Passing (R C : List ℕ) (L U : Compressed) (w : List ℕ) (k r at l total : ℕ) : Type 0 where
+  pub record Passing (R C : List ℕ) (L U : Compressed) (w : List ℕ) (k : ℕ) (from : Progress) : Type 0 where
     pub inside : k ≤ n
     pub same : SameLengths R₀ C₀ L₀ U₀ w₀ R C L U w
     pub clear : w ≡ zeros (length w)
-    pub rank : r ≤ k
-    pub L-room : total ≤ length (L₀ .cols)
-    pub U-room : at ≤ length (U₀ .cols)
+    pub rank : from .r ≤ k
+    pub L-room : from .total ≤ length (L₀ .cols)
+    pub U-room : from .at ≤ length (U₀ .cols)
     pub ahead : drop k R ≡ drop k R₀
-    pub pairs : k ≤ s → (r ≡ k) × (C ≡ C₀)
+    pub pairs : k ≤ s → (from .r ≡ k) × (C ≡ C₀)
     pub f : Found
     pub holds : Invariant p n m (matrix A) f
-    pub state : State f R C L U r at l total
+    pub state : State f R C L U (from .r) (from .at) (from .l) (from .total)
     pub left : Remaining p m (matrix A) (length (L₀ .cols)) (length (U₀ .cols)) nothing all f (drop k all)
 
-  module _ (h : PassReady p s A R₀ C₀ L₀ U₀ w₀) where
-    pub passing-starts : Passing R₀ C₀ L₀ U₀ w₀ 0 0 0 0 0
+  module _ (h : PassReady p s A (storageOf R₀ C₀ L₀ U₀ w₀)) where
+    pub passing-starts : Passing R₀ C₀ L₀ U₀ w₀ 0 (record { over = false; r = 0; at = 0; l = 0; total = 0 })
     passing-starts =
         record {
           inside = omega arith;
@@ -172,7 +176,7 @@ module _ (p s : ℕ) (A : Compressed) (R₀ C₀ : List ℕ) (L₀ U₀ : Compre
         column-is : (k : ℕ) → k < s → vector (pairColumns (pairsOf s R₀ C₀)) k ≡ getD C₀ k 0
         column-is k b = ap (λ (l : List ℕ). getD l k 0) (columns-are s R₀ C₀ (h .rows-inside) (h .columns-inside)) ∙ getD-take s C₀ k 0 b
 
-    module _ (R C : List ℕ) (L U : Compressed) (w : List ℕ) (k r at l total : ℕ) (t : Passing R C L U w k r at l total) (b : k < n) where
+    module _ (R C : List ℕ) (L U : Compressed) (w : List ℕ) (k : ℕ) (from : Progress) (t : Passing R C L U w k from) (b : k < n) where
       -- the row is still the schedule's
       pub row-is : getD R k 0 ≡ getD R₀ k 0
       row-is =
@@ -182,7 +186,7 @@ module _ (p s : ℕ) (A : Compressed) (R₀ C₀ : List ℕ) (L₀ U₀ : Compre
           ∙ getD-drop k R₀ 0 0
           ∙ ap (λ (j : ℕ). getD R₀ j 0) (add-zero k)
 
-      pub passing-ready : TurnReady p (getD R k 0) (ltb k s) A R C L U w r at l total
+      pub passing-ready : TurnReady p (getD R k 0) (ltb k s) A (storageOf R C L U w) from
       passing-ready =
           record {
             lent = same-lent p A R₀ C₀ L₀ U₀ w₀ R C L U w (t .same) (t .clear) (h .lent);
@@ -198,7 +202,7 @@ module _ (p s : ℕ) (A : Compressed) (R₀ C₀ : List ℕ) (L₀ U₀ : Compre
           }
 
       abbrev taken : Turn
-      taken = turnOf (ltb k s) (getD R k 0) (getD C r 0)
+      taken = turnOf (ltb k s) (getD R k 0) (getD C (from .r) 0)
 
       -- it is turn k of the schedule
       next-turn : drop k all ≡ taken ∷ drop (k + 1) all
@@ -206,75 +210,79 @@ module _ (p s : ℕ) (A : Compressed) (R₀ C₀ : List ℕ) (L₀ U₀ : Compre
           schedule-turn s R₀ C₀ (h .rows-inside) (h .columns-inside) (h .order) k b
           ∙ ap (λ (x : Turn). x ∷ drop (k + 1) all) (go (ltb k s) refl)
         where
-          go : (x : Bool) → ltb k s ≡ x → turnOf x (getD R₀ k 0) (getD (take s C₀) k 0) ≡ turnOf x (getD R k 0) (getD C r 0)
+          go : (x : Bool) → ltb k s ≡ x → turnOf x (getD R₀ k 0) (getD (take s C₀) k 0) ≡ turnOf x (getD R k 0) (getD C (from .r) 0)
           go true e =
               let g : k < s = ltb-true k s e in
               let q = t .pairs (omega arith) in
               ap₂ (λ (i c : ℕ). pair (record { row = i; column = c })) (sym row-is) (getD-take s C₀ k 0 g ∙ (λ j. getD (sym (q .1) j) (sym (q .0) j) 0))
           go false e = ap other (sym row-is)
 
-      module _ (R′ C′ : List ℕ) (L′ U′ : Compressed) (w′ : List ℕ) (over : Bool) (r′ at′ l′ total′ : ℕ)
-          (d : TurnLeaves p (getD R k 0) (ltb k s) A R C L U w r at l total R′ C′ L′ U′ w′ over r′ at′ l′ total′) where
+      module _ (R′ C′ : List ℕ) (L′ U′ : Compressed) (w′ : List ℕ) (to : Progress)
+          (d : TurnLeaves p (getD R k 0) (ltb k s) A (storageOf R C L U w) (storageOf R′ C′ L′ U′ w′) from to) where
         abbrev found : Found
         found = turn p m (matrix A) (t .f) taken
 
-        turned : AfterTurn found m (length (L₀ .cols)) (length (U₀ .cols)) R′ C′ L′ U′ w′ over r′ at′ l′ total′
+        turned : AfterTurn found m (length (L₀ .cols)) (length (U₀ .cols)) (storageOf R′ C′ L′ U′ w′) to
         turned =
             rw (t .same .w-long, t .same .lc-long, t .same .uc-long) at (d .turned (t .f) (t .state))
 
-        pub passing-over : over ≡ true → firstOver p m (matrix A) (length (L₀ .cols)) (length (U₀ .cols)) nothing all ≡ some (getD R k 0)
+        pub passing-over : to .over ≡ true → firstOver p m (matrix A) (length (L₀ .cols)) (length (U₀ .cols)) nothing all ≡ some (getD R k 0)
         passing-over e =
             remaining-over p m (matrix A) (length (L₀ .cols)) (length (U₀ .cols)) nothing all (t .f) (drop k all) (t .left) taken (drop (k + 1) all) next-turn (turned .fit ∙ ap not e)
-            ∙ ap some (row-of-turn (ltb k s) (getD R k 0) (getD C r 0))
+            ∙ ap some (row-of-turn (ltb k s) (getD R k 0) (getD C (from .r) 0))
 
-        module _ (e : over ≡ false) (same′ : SameLengths R₀ C₀ L₀ U₀ w₀ R′ C′ L′ U′ w′) where
-          after : State found R′ C′ L′ U′ r′ at′ l′ total′
+        module _ (e : to .over ≡ false) (same′ : SameLengths R₀ C₀ L₀ U₀ w₀ R′ C′ L′ U′ w′) where
+          after : State found R′ C′ L′ U′ (to .r) (to .at) (to .l) (to .total)
           after = turned .state e
 
           later : drop (k + 1) R′ ≡ drop (k + 1) R₀
           later =
-              further R′ ∙ ap (drop (k - r)) (d .ahead) ∙ sym (further R)
+              further R′ ∙ ap (drop (k - from .r)) (d .ahead) ∙ sym (further R)
               ∙ sym (drop-drop 1 k R) ∙ ap (drop 1) (t .ahead) ∙ drop-drop 1 k R₀
             where
-              further : (x : List ℕ) → drop (k + 1) x ≡ drop (k - r) (drop (r + 1) x)
-              further x = ap (λ (j : ℕ). drop j x) (let q : k + 1 ≡ r + 1 + (k - r) = omega (arith, t .rank) in q) ∙ sym (drop-drop (k - r) (r + 1) x)
+              further : (x : List ℕ) → drop (k + 1) x ≡ drop (k - from .r) (drop (from .r + 1) x)
+              further x = ap (λ (j : ℕ). drop j x) (let q : k + 1 ≡ from .r + 1 + (k - from .r) = omega (arith, t .rank) in q) ∙ sym (drop-drop (k - from .r) (from .r + 1) x)
 
-          pub passing-turn : Passing R′ C′ L′ U′ w′ (k + 1) r′ at′ l′ total′
+          pub passing-turn : Passing R′ C′ L′ U′ w′ (k + 1) to
           unfolding passing-ready
           passing-turn =
               record {
                 inside = omega arith;
                 same = same′;
                 clear = turned .clear e ∙ ap zeros (sym (same′ .w-long));
-                rank = omega (arith, after .rank, t .rank, t .state .rank, rank-turn p m (matrix A) (t .f) (ltb k s) (getD R k 0) (getD C r 0));
+                rank = omega (arith, after .rank, t .rank, t .state .rank, rank-turn p m (matrix A) (t .f) (ltb k s) (getD R k 0) (getD C (from .r) 0));
                 L-room = omega (arith, after .L-entries, room (length (L₀ .cols)) (length (U₀ .cols)) found (turned .fit ∙ ap not e));
                 U-room = omega (arith, after .U-entries, room (length (L₀ .cols)) (length (U₀ .cols)) found (turned .fit ∙ ap not e));
                 ahead = later;
                 pairs = λ g. let q = t .pairs (omega arith) in let x : ltb k s ≡ true = lt-ltb k s (omega arith) in
-                    (omega (arith, after .rank, t .state .rank, q .0, rank-pair p m (matrix A) (t .f) (ltb k s) (getD R k 0) (getD C r 0) x), d .columns x ∙ q .1);
+                    (omega (arith, after .rank, t .state .rank, q .0, rank-pair p m (matrix A) (t .f) (ltb k s) (getD R k 0) (getD C (from .r) 0) x), d .columns x ∙ q .1);
                 f = found;
-                holds = rw (t .same .R-long, t .same .w-long) at (turn-holds p (getD R k 0) (ltb k s) A R C L U w r at l total passing-ready);
+                holds = rw (t .same .R-long, t .same .w-long) at (turn-holds p (getD R k 0) (ltb k s) A R C L U w from passing-ready);
                 state = after;
                 left = remaining-turn p m (matrix A) (length (L₀ .cols)) (length (U₀ .cols)) nothing all (t .f) (drop k all) (t .left) taken (drop (k + 1) all) next-turn (turned .fit ∙ ap not e);
               }
 
-    pub passing-ends : (R C : List ℕ) (L U : Compressed) (w : List ℕ) (k r at l total : ℕ) → Passing R C L U w k r at l total → n ≤ k → (stop : ℕ)
-        → PassLeaves p s A R₀ C₀ m (length (L₀ .cols)) (length (U₀ .cols)) R C L U false stop r at l total
-    passing-ends R C L U w k r at l total t b stop =
+    pub passing-ends : (R C : List ℕ) (L U : Compressed) (w : List ℕ) (k : ℕ) (to : Pass) → Passing R C L U w k (to .progress) → to .progress .over ≡ false → n ≤ k
+        → PassLeaves p s m A (storageOf R₀ C₀ L₀ U₀ w₀) (storageOf R C L U w) to
+    passing-ends R C L U w k to t going b =
         let q = remaining-none p m (matrix A) (length (L₀ .cols)) (length (U₀ .cols)) nothing all (t .f) (drop k all) (t .left) (schedule-ends s R₀ C₀ (h .rows-inside) (h .columns-inside) (h .order) k b) in
         record {
-          stopped = λ e. absurd (true≢false (sym e));
+          stopped = λ e. absurd (true≢false (sym e ∙ going));
           fitted = λ e. q .1;
           state = λ e. rw (q .0) (t .state);
+          clear = λ e. t .clear ∙ ap zeros (t .same .w-long);
         }
 
-    pub passing-clear : (R C : List ℕ) (L U : Compressed) (w : List ℕ) (k r at l total : ℕ) → Passing R C L U w k r at l total → w ≡ zeros m
-    passing-clear R C L U w k r at l total t = t .clear ∙ ap zeros (t .same .w-long)
-
-pub passed-over : (p s : ℕ) (A : Compressed) (R₀ C₀ : List ℕ) (m roomL roomU : ℕ) (R C : List ℕ) (L U : Compressed) (over : Bool) (stop r at l total : ℕ)
-    → over ≡ true → firstOver p m (matrix A) roomL roomU nothing (schedule (length R₀) (pairsOf s R₀ C₀)) ≡ some stop → PassLeaves p s A R₀ C₀ m roomL roomU R C L U over stop r at l total
-passed-over p s A R₀ C₀ m roomL roomU R C L U over stop r at l total e q =
-    record { stopped = λ z. q; fitted = λ z. absurd (true≢false (sym e ∙ z)); state = λ z. absurd (true≢false (sym e ∙ z)) }
+pub passed-over : (p s m : ℕ) (A : Compressed) (R₀ C₀ : List ℕ) (L₀ U₀ : Compressed) (w₀ R C : List ℕ) (L U : Compressed) (w : List ℕ) (to : Pass) → to .progress .over ≡ true
+    → firstOver p m (matrix A) (length (L₀ .cols)) (length (U₀ .cols)) nothing (schedule (length R₀) (pairsOf s R₀ C₀)) ≡ some (to .stop)
+    → PassLeaves p s m A (storageOf R₀ C₀ L₀ U₀ w₀) (storageOf R C L U w) to
+passed-over p s m A R₀ C₀ L₀ U₀ w₀ R C L U w to e q =
+    record {
+      stopped = λ z. q;
+      fitted = λ z. absurd (true≢false (sym e ∙ z));
+      state = λ z. absurd (true≢false (sym e ∙ z));
+      clear = λ z. absurd (true≢false (sym e ∙ z));
+    }
 
 -- lengths kept by one call, and by those before it
 pub same-then : (R₀ C₀ : List ℕ) (L₀ U₀ : Compressed) (w₀ R C : List ℕ) (L U : Compressed) (w R′ C′ : List ℕ) (L′ U′ : Compressed) (w′ : List ℕ) → SameLengths R₀ C₀ L₀ U₀ w₀ R C L U w

@@ -10,6 +10,7 @@ use lib.Seq.{length-take-le, getD-take}
 use Rattle.lists.proofs.Filled.{zeros-at}
 use Rattle.sparse.specs.Row.{Below}
 use Rattle.sparse.specs.Matrix.{Compressed, matrix}
+use Rattle.sparse.specs.Set.{storageOf}
 use Rattle.sparse.specs.Dense.{compress}
 use Rattle.sparse.proofs.DenseLaws.{compress-matrix, compress-lengths}
 use Rattle.sparse.proofs.DenseForm.{compress-form}
@@ -24,8 +25,9 @@ use Rattle.elimination.proofs.Turns.{other-holds, pair-holds}
 use Rattle.factor_row.specs.Gathering.{cut, GatherReadyFrom}
 use Rattle.factor_row.specs.PivotRow.{ListsReady}
 use Rattle.factor_row.proofs.Storage.{holds-cut}
+use Rattle.factor_turn.specs.declared.turn.Progress.{Progress}
 use Rattle.factor_turn.specs.State.{State, turnOf}
-use Rattle.factor_turn.specs.Turning.{FindReady, Lent, PairAt, TurnReady}
+use Rattle.factor_turn.specs.Needs.{FindReady, Lent, PairAt, TurnReady}
 use Rattle.factor_turn.proofs.Steps.{entries-values, pivots-less}
 use Rattle.factor_turn.proofs.Sizes.{rank-most}
 
@@ -54,7 +56,7 @@ cut-found f R C L U r at l total s = holds-cut (uppersOf f) at U (s .upper) r at
 
 -- ---- a row can be reduced by them
 
-module _ (p : ℕ) (A : Compressed) (R C : List ℕ) (L U : Compressed) (w : List ℕ) (lent : Lent p A R C L U w) where
+module _ (p : ℕ) (A : Compressed) (R C : List ℕ) (L U : Compressed) (w : List ℕ) (lent : Lent p A (storageOf R C L U w)) where
   cells-below : Below (p * p) w
   cells-below j b =
       omega (arith, ap (λ (l : List ℕ). getD l j 0) (lent .clear), zeros-at (length w) j, lent .prime .two, mul-le-mul-left {m = 1} {n = p} p (omega (arith, lent .prime .two)))
@@ -94,8 +96,8 @@ module _ (p : ℕ) (A : Compressed) (R C : List ℕ) (L U : Compressed) (w : Lis
 
 -- ---- the turn
 
-module _ (p i : ℕ) (paired : Bool) (A : Compressed) (R C : List ℕ) (L U : Compressed) (w : List ℕ) (r at l total : ℕ) (h : TurnReady p i paired A R C L U w r at l total) where
-  pub lists-ready : ListsReady (length w) r at l total (L .cols) (L .vals) (U .cols) (U .vals)
+module _ (p i : ℕ) (paired : Bool) (A : Compressed) (R C : List ℕ) (L U : Compressed) (w : List ℕ) (from : Progress) (h : TurnReady p i paired A (storageOf R C L U w) from) where
+  pub lists-ready : ListsReady (length w) (from .r) (from .at) (from .l) (from .total) (L .cols) (L .vals) (U .cols) (U .vals)
   lists-ready =
       record {
         narrow = h .lent .m-narrow;
@@ -107,7 +109,7 @@ module _ (p i : ℕ) (paired : Bool) (A : Compressed) (R C : List ℕ) (L U : Co
         U-room = h .U-room;
       }
 
-  pub turn-find : FindReady p i paired r at l total A C (U .starts) w (L .cols) (L .vals) (U .cols) (U .vals)
+  pub turn-find : FindReady p i paired (from .r) (from .at) (from .l) (from .total) A C (U .starts) w (L .cols) (L .vals) (U .cols) (U .vals)
   turn-find =
       record {
         inside = λ e. omega (arith, h .pair e .inside, h .lent .columns);
@@ -120,23 +122,23 @@ module _ (p i : ℕ) (paired : Bool) (A : Compressed) (R C : List ℕ) (L U : Co
         };
         other = λ e. record {
           prime = h .lent .prime;
-          row = gather-ready p A R C L U w (h .lent) r at l total (h .f) (h .holds) (h .state) (h .more) (h .U-room) i l total (L .cols) (L .vals) (h .row) (h .lent .L-paired) (lists-ready .L-place) (h .L-room);
+          row = gather-ready p A R C L U w (h .lent) (from .r) (from .at) (from .l) (from .total) (h .f) (h .holds) (h .state) (h .more) (h .U-room) i (from .l) (from .total) (L .cols) (L .vals) (h .row) (h .lent .L-paired) (lists-ready .L-place) (h .L-room);
           lists = lists-ready;
         };
       }
 
   -- and what it finds has the invariant
-  pub turn-holds : Invariant p (length R) (length w) (matrix A) (turn p (length w) (matrix A) (h .f) (turnOf paired i (getD C r 0)))
+  pub turn-holds : Invariant p (length R) (length w) (matrix A) (turn p (length w) (matrix A) (h .f) (turnOf paired i (getD C (from .r) 0)))
   turn-holds = go paired (λ e. h .pair e)
     where
       small : (i j : ℕ) → i < length R → j < length w → matrix A i j < p
       small i j a b = form-below p (length w) (A .starts) (A .cols) (A .vals) (h .lent .formed) i j (omega (arith, h .lent .prime .two))
 
       earlier : (k : ℕ) → k < rankOf (h .f) → getD C k 0 ≡ getD (columnsOf (h .f)) k 0
-      earlier k b = sym (getD-take r C k 0 (omega (arith, h .state .rank))) ∙ ap (λ (l : List ℕ). getD l k 0) (h .state .columns)
+      earlier k b = sym (getD-take (from .r) C k 0 (omega (arith, h .state .rank))) ∙ ap (λ (l : List ℕ). getD l k 0) (h .state .columns)
 
-      go : (b : Bool) → (b ≡ true → PairAt (length w) (matrix A) i r C) → Invariant p (length R) (length w) (matrix A) (turn p (length w) (matrix A) (h .f) (turnOf b i (getD C r 0)))
+      go : (b : Bool) → (b ≡ true → PairAt (length w) (matrix A) i (from .r) C) → Invariant p (length R) (length w) (matrix A) (turn p (length w) (matrix A) (h .f) (turnOf b i (getD C (from .r) 0)))
       go true q =
-          pair-holds p (length R) (length w) (matrix A) (h .lent .prime) small (h .f) (h .holds) (record { row = i; column = getD C r 0 }) (h .row) (q refl .column) (q refl .here)
+          pair-holds p (length R) (length w) (matrix A) (h .lent .prime) small (h .f) (h .holds) (record { row = i; column = getD C (from .r) 0 }) (h .row) (q refl .column) (q refl .here)
           (λ k b. ap (matrix A i) (sym (earlier k b)) ∙ q refl .before k (omega (arith, h .state .rank)))
       go false q = other-holds p (length R) (length w) (matrix A) (h .lent .prime) small (h .f) (h .holds) i (h .row)

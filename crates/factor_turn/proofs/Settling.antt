@@ -5,12 +5,14 @@ use mathlib.Core.List.{List}
 use Prim.Native.Nat.{ℕ, _+_}
 use lib.Dec.{eqb}
 use lib.ListN.{set}
+use Rattle.factor_row.specs.declared.pivot_row.Step.{Step}
+use Rattle.factor_turn.specs.declared.turn.Progress.{Progress}
 use Rattle.factor_turn.specs.Turning.{Settled}
 use Rattle.factor_turn.proofs.Finding.{stays-false}
 
-module _ (over : Bool) (c at l total i r m : ℕ) (R C ls us : List ℕ) (b : Bool) (eb : b ≡ (over || eqb c m)) where
+module _ (step : Step) (i r m : ℕ) (R C ls us : List ℕ) (b : Bool) (eb : b ≡ (step .over || eqb (step .column) m)) where
   -- the row is not entered
-  pub settled-stays : b ≡ true → Settled over c at l total i r m R C ls us R C ls us over r at l total
+  pub settled-stays : b ≡ true → Settled step i r m R C ls us R C ls us (record { over = step .over; r = r; at = step .at; l = step .l; total = step .total })
   settled-stays e =
       record {
         same = (refl, refl, refl, refl);
@@ -19,11 +21,11 @@ module _ (over : Bool) (c at l total i r m : ℕ) (R C ls us : List ℕ) (b : Bo
       }
 
   -- it is
-  pub settled-enters : b ≡ false → (R′ C′ ls′ us′ : List ℕ) → R′ ≡ set R r i → C′ ≡ set C r c → ls′ ≡ set ls (r + 1) l → us′ ≡ set us (r + 1) at
-      → Settled over c at l total i r m R C ls us R′ C′ ls′ us′ false (r + 1) at l total
+  pub settled-enters : b ≡ false → (R′ C′ ls′ us′ : List ℕ) → R′ ≡ set R r i → C′ ≡ set C r (step .column) → ls′ ≡ set ls (r + 1) (step .l) → us′ ≡ set us (r + 1) (step .at)
+      → Settled step i r m R C ls us R′ C′ ls′ us′ (record { over = false; r = r + 1; at = step .at; l = step .l; total = step .total })
   settled-enters e R′ C′ ls′ us′ eR eC el eu =
       record {
-        same = (sym (stays-false over b c m eb e .0), refl, refl, refl);
+        same = (sym (stays-false (step .over) b (step .column) m eb e .0), refl, refl, refl);
         stays = λ q. absurd (true≢false (sym q ∙ sym eb ∙ e));
         enters = λ q. (refl, eR, eC, el, eu);
       }

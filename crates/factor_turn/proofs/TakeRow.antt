@@ -9,19 +9,50 @@ use lib.Dec.{eqb}
 use lib.ListN.{length, getD, set}
 use lib.Seq.{drop-set-lt, set-getD}
 use Rattle.sparse.specs.Matrix.{Compressed, compressed, matrix}
+use Rattle.sparse.specs.Set.{storageOf}
 use Rattle.elimination.specs.Pivots.{Found, rankOf, turn}
 use Rattle.elimination.specs.Invariant.{Invariant}
 use Rattle.factor_row.specs.Gathering.{cut}
 use Rattle.factor_row.specs.Taking.{RowFound}
+use Rattle.factor_row.specs.declared.pivot_row.Step.{Step}
+use Rattle.factor_turn.specs.declared.turn.Progress.{Progress}
 use Rattle.factor_turn.specs.State.{turnOf}
-use Rattle.factor_turn.specs.Turning.{lowerOf, remainderOf, columnOf, Enterable, SettleReady, Settled, TurnReady, TurnLeaves}
+use Rattle.factor_turn.specs.Turning.{lowerOf, remainderOf, columnOf, Settled, TurnLeaves}
+use Rattle.factor_turn.specs.Needs.{Enterable, SettleReady, TurnReady}
 use Rattle.factor_turn.proofs.Finding.{stays-true, stays-false}
 use Rattle.factor_turn.proofs.Sizes.{rank-most, U-most, L-most}
 use Rattle.factor_turn.proofs.Readiness.{turn-holds}
 use Rattle.factor_turn.proofs.TurnedRows.{turned-stays, column-inside, rank-found, at-found, l-found, turned-enters}
 
-module _ (p i : ℕ) (paired : Bool) (A : Compressed) (R C : List ℕ) (L U : Compressed) (w : List ℕ) (r at l total : ℕ) (h : TurnReady p i paired A R C L U w r at l total)
-    (lc lv uc uv work : List ℕ) (over : Bool) (column at′ l′ total′ : ℕ) where
+module _ (p i : ℕ) (paired : Bool) (A : Compressed) (R C : List ℕ) (L U : Compressed) (w : List ℕ) (from : Progress) (h : TurnReady p i paired A (storageOf R C L U w) from)
+    (lc lv uc uv work : List ℕ) (step : Step) where
+  abbrev r : ℕ
+  r = from .r
+
+  abbrev at : ℕ
+  at = from .at
+
+  abbrev l : ℕ
+  l = from .l
+
+  abbrev total : ℕ
+  total = from .total
+
+  abbrev over : Bool
+  over = step .over
+
+  abbrev column : ℕ
+  column = step .column
+
+  abbrev at′ : ℕ
+  at′ = step .at
+
+  abbrev l′ : ℕ
+  l′ = step .l
+
+  abbrev total′ : ℕ
+  total′ = step .total
+
   abbrev m : ℕ
   m = length w
 
@@ -32,7 +63,8 @@ module _ (p i : ℕ) (paired : Bool) (A : Compressed) (R C : List ℕ) (L U : Co
   paired-inside e = h .pair e .column
 
   module _ (t : RowFound p m at l total (lowerOf p paired r C cutU (matrix A i)) (remainderOf p paired r C cutU (matrix A i)) (columnOf p m paired r C cutU (matrix A i)) (L .cols) (L .vals) (U .cols) (U .vals) lc lv uc uv work over column at′ l′ total′) where
-    row-stays : (over || eqb column m) ≡ true → TurnLeaves p i paired A R C L U w r at l total R C (compressed (L .starts) lc lv) (compressed (U .starts) uc uv) work over r at′ l′ total′
+    row-stays : (over || eqb column m) ≡ true → TurnLeaves p i paired A (storageOf R C L U w) (storageOf R C (compressed (L .starts) lc lv) (compressed (U .starts) uc uv) work) from
+        (record { over = over; r = r; at = at′; l = l′; total = total′ })
     row-stays e =
         record {
           turned = λ f s. turned-stays p m (matrix A) i paired f R C L U r at l total s paired-inside (h .lent .L-paired) (h .lent .U-paired) (h .U-room) lc lv uc uv work over column at′ l′ total′ t
@@ -52,7 +84,7 @@ module _ (p i : ℕ) (paired : Bool) (A : Compressed) (R C : List ℕ) (L U : Co
       found = turn p m (matrix A) (h .f) (turnOf paired i (getD C r 0))
 
       holds : Invariant p (length R) m (matrix A) found
-      holds = turn-holds p i paired A R C L U w r at l total h
+      holds = turn-holds p i paired A R C L U w from h
 
       column-below : column < m
       column-below = column-inside p m (matrix A) i paired (h .f) R C L U r at l total (h .state) paired-inside (h .lent .L-paired) (h .lent .U-paired) (h .U-room) lc lv uc uv work over column at′ l′ total′ t fitted apart
@@ -83,7 +115,7 @@ module _ (p i : ℕ) (paired : Bool) (A : Compressed) (R C : List ℕ) (L U : Co
       rank-inside = omega (arith, rank-is, rank-most p (length R) m (matrix A) found holds, h .lent .columns)
 
       -- it can be entered
-      enterable : Enterable column at′ l′ r R C (L .starts) (U .starts)
+      enterable : Enterable step r R C (L .starts) (U .starts)
       enterable =
           record {
             column = omega (arith, column-below, h .lent .m-narrow);
@@ -95,7 +127,8 @@ module _ (p i : ℕ) (paired : Bool) (A : Compressed) (R C : List ℕ) (L U : Co
             U-starts = omega (arith, h .more, h .lent .U-starts);
           }
 
-      row-enters : TurnLeaves p i paired A R C L U w r at l total (set R r i) (set C r column) (compressed (set (L .starts) (r + 1) l′) lc lv) (compressed (set (U .starts) (r + 1) at′) uc uv) work false (r + 1) at′ l′ total′
+      row-enters : TurnLeaves p i paired A (storageOf R C L U w) (storageOf (set R r i) (set C r column) (compressed (set (L .starts) (r + 1) l′) lc lv) (compressed (set (U .starts) (r + 1) at′) uc uv) work) from
+          (record { over = false; r = r + 1; at = at′; l = l′; total = total′ })
       row-enters =
           record {
             turned = λ f s. turned-enters p m (matrix A) i paired f R C L U r at l total s paired-inside (h .lent .L-paired) (h .lent .U-paired) (h .U-room) lc lv uc uv work over column at′ l′ total′ t fitted apart
@@ -107,18 +140,20 @@ module _ (p i : ℕ) (paired : Bool) (A : Compressed) (R C : List ℕ) (L U : Co
           own : paired ≡ true → columnOf p m paired r C cutU (matrix A i) ≡ getD C r 0
           own q = rw q
 
-    pub settle-ready : (wide : ℕ) → wide ≡ m → SettleReady over column at′ l′ r wide R C (L .starts) (U .starts)
+    pub settle-ready : (wide : ℕ) → wide ≡ m → SettleReady step r wide R C (L .starts) (U .starts)
     settle-ready wide ew = rw ew (record { entered = enterable })
 
     -- it is entered, or all is as it was
-    pub row-settled : (wide : ℕ) → wide ≡ m → (R′ C′ ls′ us′ : List ℕ) (over″ : Bool) (r″ at″ l″ total″ : ℕ)
-        → Settled over column at′ l′ total′ i r wide R C (L .starts) (U .starts) R′ C′ ls′ us′ over″ r″ at″ l″ total″
-        → TurnLeaves p i paired A R C L U w r at l total R′ C′ (compressed ls′ lc lv) (compressed us′ uc uv) work over″ r″ at″ l″ total″
-    row-settled wide ew R′ C′ ls′ us′ over″ r″ at″ l″ total″ d = go (over || eqb column m) refl
+    pub row-settled : (wide : ℕ) → wide ≡ m → (R′ C′ ls′ us′ : List ℕ) (to : Progress) → Settled step i r wide R C (L .starts) (U .starts) R′ C′ ls′ us′ to
+        → TurnLeaves p i paired A (storageOf R C L U w) (storageOf R′ C′ (compressed ls′ lc lv) (compressed us′ uc uv) work) from to
+    row-settled wide ew R′ C′ ls′ us′ to d = go (over || eqb column m) refl
       where
         same : (b : Bool) → (over || eqb column m) ≡ b → (over || eqb column wide) ≡ b
         same b e = ap (λ (k : ℕ). over || eqb column k) ew ∙ e
 
-        go : (b : Bool) → (over || eqb column m) ≡ b → TurnLeaves p i paired A R C L U w r at l total R′ C′ (compressed ls′ lc lv) (compressed us′ uc uv) work over″ r″ at″ l″ total″
-        go true e = let g = d .stays (same true e) in rw (d .same .0, d .same .1, d .same .2, d .same .3, g .0, g .1, g .2, g .3, g .4) (row-stays e)
-        go false e = let g = d .enters (same false e) in rw (d .same .0 ∙ fitted e, d .same .1, d .same .2, d .same .3, g .0, g .1, g .2, g .3, g .4) (row-enters e)
+        progress : (b : Bool) (k : ℕ) → over ≡ b → to .r ≡ k → to ≡ record { over = b; r = k; at = at′; l = l′; total = total′ }
+        progress b k eo er t = record { over = (d .same .0 ∙ eo) t; r = er t; at = d .same .1 t; l = d .same .2 t; total = d .same .3 t }
+
+        go : (b : Bool) → (over || eqb column m) ≡ b → TurnLeaves p i paired A (storageOf R C L U w) (storageOf R′ C′ (compressed ls′ lc lv) (compressed us′ uc uv) work) from to
+        go true e = let g = d .stays (same true e) in rw (progress over r refl (g .0), g .1, g .2, g .3, g .4) (row-stays e)
+        go false e = let g = d .enters (same false e) in rw (progress false (r + 1) (fitted e) (g .0), g .1, g .2, g .3, g .4) (row-enters e)

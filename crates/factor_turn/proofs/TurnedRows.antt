@@ -14,6 +14,7 @@ use Rattle.lists.specs.Tests.{first}
 use Rattle.algebra.specs.Matrix.{Vector, Matrix, vector}
 use Rattle.algebra.specs.Reduction.{reduced}
 use Rattle.sparse.specs.Matrix.{Compressed, compressed, matrix}
+use Rattle.sparse.specs.Set.{storageOf}
 use Rattle.sparse.proofs.DenseLaws.{compress-matrix}
 use Rattle.elimination.specs.Pivots.{Found, uppersOf, upperOf, rankOf, reducedBy, coefficients, withPivot, withDependent, placedRow, turn}
 use Rattle.elimination.specs.Factoring.{entries, fits}
@@ -100,7 +101,8 @@ module _ (p m : ℕ) (A : Matrix) (i : ℕ) (paired : Bool) (f : Found) (R C : L
             ∙ dependent-fits f R C L U r at l total s L-paired U-paired i cs lc lv uc uv over at′ l′ total′ (t .dependent (omega arith)) U-fits
 
     -- it did not fit, or it is dependent
-    pub turned-stays : (over ≡ false → column ≡ m) → AfterTurn found m (length (L .cols)) (length (U .cols)) R C (compressed (L .starts) lc lv) (compressed (U .starts) uc uv) work over r at′ l′ total′
+    pub turned-stays : (over ≡ false → column ≡ m) → AfterTurn found m (length (L .cols)) (length (U .cols)) (storageOf R C (compressed (L .starts) lc lv) (compressed (U .starts) uc uv) work)
+        (record { over = over; r = r; at = at′; l = l′; total = total′ })
     turned-stays h =
         record {
           fit = taken-fits;
@@ -132,7 +134,8 @@ module _ (p m : ℕ) (A : Matrix) (i : ℕ) (paired : Bool) (f : Found) (R C : L
       l-found = t .pivot inside .lower e .place ∙ omega (arith, s .pivot-entries, ap (λ (g : Found). entries (pivotLowers g)) (pivot-is inside) ∙ pivot-lower-entries p m f i c cs w)
 
       pub turned-enters : r < length R → r < length C → r + 1 < length (L .starts) → r + 1 < length (U .starts)
-          → AfterTurn found m (length (L .cols)) (length (U .cols)) (set R r i) (set C r column) (compressed (set (L .starts) (r + 1) l′) lc lv) (compressed (set (U .starts) (r + 1) at′) uc uv) work false (r + 1) at′ l′ total′
+          → AfterTurn found m (length (L .cols)) (length (U .cols)) (storageOf (set R r i) (set C r column) (compressed (set (L .starts) (r + 1) l′) lc lv) (compressed (set (U .starts) (r + 1) at′) uc uv) work)
+          (record { over = false; r = r + 1; at = at′; l = l′; total = total′ })
       turned-enters hR hC hL hU =
           record {
             fit = taken-fits ∙ ap not e;

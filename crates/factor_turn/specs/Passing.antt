@@ -1,24 +1,23 @@
 -- The first pass: every row in the order of the schedule.
---   pairsIn is cs                the pairs of the rows `is` and the columns `cs`, place by place
---   pairsOf s R C                the pairs that the first s places of R and C hold
---   Cleared h                    the lists of h are all zero
---   PassReady p s A R C L U w    the pairs can be pivots as they stand, R has their rows and then the other rows rising, C their columns and, where at most 32 rows and columns
---                                are left, the others rising; the factors' lists are all zero
---   PassLeaves p s A R₀ C₀ ..    the lists hold what the schedule finds, unless row `stop` is the first whose entries do not fit
-use Prim.Native.Nat.{ℕ, _+_, _≤_}
+--   pairsIn is cs               the pairs of the rows `is` and the columns `cs`, place by place
+--   pairsOf s R C               the pairs that the first s places of R and C hold
+--   Cleared h                   the lists of h are all zero
+--   PassLeaves p s m A h₀ h to  the lists h hold what the schedule finds that h₀ has, and the working row is all zero, unless the entries of a row did not fit:
+--                               then that row is the first such
+use Prim.Native.Nat.{ℕ}
 use mathlib.Core.Path.{_≡_}
-use mathlib.Core.Bool.{Bool, true, false}
-use mathlib.Core.List.{List, [], _∷_, _++_}
+use mathlib.Core.Bool.{true, false}
+use mathlib.Core.List.{List, [], _∷_}
 use mathlib.Core.Option.{none, some}
 use lib.ListN.{length, take}
 use Rattle.lists.specs.Filled.{zeros}
 use Rattle.sparse.specs.Matrix.{Compressed, matrix}
+use Rattle.sparse.specs.Set.{Storage}
 use Rattle.elimination.specs.Structural.{Pair}
-use Rattle.elimination.specs.Pairs.{Pairs}
 use Rattle.elimination.specs.Pivots.{turns}
-use Rattle.elimination.specs.Factoring.{rest, schedule, nothing, firstOver}
-use Rattle.factor_turn.specs.State.{State}
-use Rattle.factor_turn.specs.Turning.{Lent}
+use Rattle.elimination.specs.Factoring.{schedule, nothing, firstOver}
+use Rattle.factor_turn.specs.declared.turn.Pass.{Pass}
+use Rattle.factor_turn.specs.State.{StateOf}
 
 unfoldable pub pairsIn : List ℕ → List ℕ → List Pair
 pairsIn [] cs = []
@@ -33,17 +32,10 @@ pub record Cleared (h : Compressed) : Type 0 where
   pub columns : h .cols ≡ zeros (length (h .cols))
   pub values : h .vals ≡ zeros (length (h .vals))
 
-pub record PassReady (p s : ℕ) (A : Compressed) (R C : List ℕ) (L U : Compressed) (w : List ℕ) : Type 0 where
-  pub lent : Lent p A R C L U w
-  pub rows-inside : s ≤ length R
-  pub columns-inside : s ≤ length C
-  pub pairs : Pairs (length R) (length w) (matrix A) (pairsOf s R C)
-  pub order : R ≡ take s R ++ rest (take s R) (length R)
-  pub columns-order : length R ≤ s + 32 → length w ≤ s + 32 → C ≡ take s C ++ rest (take s C) (length C)
-  pub L-clear : Cleared L
-  pub U-clear : Cleared U
-
-pub record PassLeaves (p s : ℕ) (A : Compressed) (R₀ C₀ : List ℕ) (m roomL roomU : ℕ) (R C : List ℕ) (L U : Compressed) (over : Bool) (stop r at l total : ℕ) : Type 0 where
-  pub stopped : over ≡ true → firstOver p m (matrix A) roomL roomU nothing (schedule (length R₀) (pairsOf s R₀ C₀)) ≡ some stop
-  pub fitted : over ≡ false → firstOver p m (matrix A) roomL roomU nothing (schedule (length R₀) (pairsOf s R₀ C₀)) ≡ none
-  pub state : over ≡ false → State (turns p m (matrix A) nothing (schedule (length R₀) (pairsOf s R₀ C₀))) R C L U r at l total
+pub record PassLeaves (p s m : ℕ) (A : Compressed) (h₀ h : Storage) (to : Pass) : Type 0 where
+  pub stopped : to .progress .over ≡ true
+      → firstOver p m (matrix A) (length (h₀ .L .cols)) (length (h₀ .U .cols)) nothing (schedule (length (h₀ .R)) (pairsOf s (h₀ .R) (h₀ .C))) ≡ some (to .stop)
+  pub fitted : to .progress .over ≡ false
+      → firstOver p m (matrix A) (length (h₀ .L .cols)) (length (h₀ .U .cols)) nothing (schedule (length (h₀ .R)) (pairsOf s (h₀ .R) (h₀ .C))) ≡ none
+  pub state : to .progress .over ≡ false → StateOf (turns p m (matrix A) nothing (schedule (length (h₀ .R)) (pairsOf s (h₀ .R) (h₀ .C)))) h (to .progress)
+  pub clear : to .progress .over ≡ false → h .work ≡ zeros (length (h₀ .work))

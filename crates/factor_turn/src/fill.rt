@@ -4,8 +4,9 @@ ghost use Prim.Native.Nat.{ℕ};
 ghost use lib.ListN.{length};
 ghost use Rattle.lists.specs.Filled.{zeros};
 ghost use Rattle.elimination.specs.Pivots.{Found};
-ghost use Rattle.factor_turn.specs.Filling.{FillRowReady, LowerStored, FillFrom, FillReady, FillDone};
-ghost use Rattle.sparse.specs.Views.{before, after, storedAt, storedBefore, storedAfter};
+ghost use Rattle.factor_turn.specs.Filling.{LowerStored, FillFrom, FillDone};
+ghost use Rattle.factor_turn.specs.Needs.{FillRowReady, FillReady};
+ghost use Rattle.sparse.specs.Views.{before, after, storedAt, storedBefore, storedAfter, storageAt, storageBefore};
 use factor_row::gathering::gather_row;
 use lists::clear_row;
 use residue::Modulus;
@@ -72,8 +73,8 @@ pub fn fill_dependents(
     lv: &mut [u32],
     work: &mut [u64],
 )
-    requires { ⌜ FillReady (q .p) (storedAt starts cols vals) (now ro) (now co) (storedAt ls lc lv) (storedAt us uc uv) (now work) r at l ⌝ }
-    ensures filled { λ _. ⌜ ((f : Found) (total : ℕ) → FillFrom (q .p) (storedBefore starts cols vals) (before ro) (before co) (storedBefore ls lc lv) (storedBefore us uc uv) (length (before work)) r at l total f → FillDone f (storedAfter ls lc lv)) ⌝ }
+    requires { ⌜ FillReady (q .p) (storedAt starts cols vals) (storageAt ro co ls lc lv us uc uv work) r at l ⌝ }
+    ensures filled { λ _. ⌜ ((f : Found) (total : ℕ) → FillFrom (q .p) (storedBefore starts cols vals) (storageBefore ro co ls lc lv us uc uv work) (length (before work)) r at l total f → FillDone f (storedAfter ls lc lv)) ⌝ }
     ensures clear { λ _. ⌜ after work ≡ zeros (length (before work)) ⌝ }
 {
     let mut next = l;

@@ -5,10 +5,11 @@ ghost use Prim.Native.Nat.{_+_, _<_};
 ghost use lib.Dec.{eqb};
 ghost use lib.ListN.{length, set};
 ghost use Rattle.sparse.specs.Matrix.{matrix};
-ghost use Rattle.sparse.specs.Views.{before, after, storedAt, storedBefore, storedAfter};
+ghost use Rattle.sparse.specs.Views.{before, after, storedAt, storedBefore, storageAt, storageBefore, storageAfter};
 ghost use Rattle.factor_row.specs.Gathering.{cut};
 ghost use Rattle.factor_row.specs.Taking.{RowFound};
-ghost use Rattle.factor_turn.specs.Turning.{lowerOf, remainderOf, columnOf, FindReady, SettleReady, Settled, TurnReady, TurnLeaves};
+ghost use Rattle.factor_turn.specs.Turning.{lowerOf, remainderOf, columnOf, Settled, TurnLeaves};
+ghost use Rattle.factor_turn.specs.Needs.{FindReady, SettleReady, TurnReady};
 use factor_row::pivot_row::Step;
 use factor_row::taking::take_other;
 use factor_row::taking::take_pair;
@@ -23,6 +24,12 @@ pub struct Progress {
     pub at: usize,
     pub l: usize,
     pub total: usize,
+}
+
+// Where a pass ended: the row whose entries did not fit, if there is one, and how far it came.
+pub struct Pass {
+    pub stop: u32,
+    pub progress: Progress,
 }
 
 // Takes row i: as it stands with column C[r] where it is paired, otherwise reduced by the rows of U.
@@ -130,8 +137,8 @@ pub fn settle(
     ls: &mut [u32],
     us: &mut [u32],
 ) -> Progress
-    requires { ⌜ SettleReady (step .over) (step .column) (step .at) (step .l) r m (now ro) (now co) (now ls) (now us) ⌝ }
-    ensures { λ to. ⌜ Settled (step .over) (step .column) (step .at) (step .l) (step .total) i r m (before ro) (before co) (before ls) (before us) (after ro) (after co) (after ls) (after us) (to .over) (to .r) (to .at) (to .l) (to .total) ⌝ }
+    requires { ⌜ SettleReady step r m (now ro) (now co) (now ls) (now us) ⌝ }
+    ensures { λ to. ⌜ Settled step i r m (before ro) (before co) (before ls) (before us) (after ro) (after co) (after ls) (after us) to ⌝ }
 {
     let over = step.over;
     let c = step.column;
@@ -165,7 +172,7 @@ pub fn take_row(
     vals: &[u32],
     i: u32,
     paired: bool,
-    so: Progress,
+    from: Progress,
     ro: &mut [u32],
     co: &mut [u32],
     ls: &mut [u32],
@@ -176,10 +183,10 @@ pub fn take_row(
     uv: &mut [u32],
     work: &mut [u64],
 ) -> Progress
-    requires { ⌜ TurnReady (q .p) i paired (storedAt starts cols vals) (now ro) (now co) (storedAt ls lc lv) (storedAt us uc uv) (now work) (so .r) (so .at) (so .l) (so .total) ⌝ }
-    ensures { λ to. ⌜ TurnLeaves (q .p) i paired (storedBefore starts cols vals) (before ro) (before co) (storedBefore ls lc lv) (storedBefore us uc uv) (before work) (so .r) (so .at) (so .l) (so .total) (after ro) (after co) (storedAfter ls lc lv) (storedAfter us uc uv) (after work) (to .over) (to .r) (to .at) (to .l) (to .total) ⌝ }
+    requires { ⌜ TurnReady (q .p) i paired (storedAt starts cols vals) (storageAt ro co ls lc lv us uc uv work) from ⌝ }
+    ensures { λ to. ⌜ TurnLeaves (q .p) i paired (storedBefore starts cols vals) (storageBefore ro co ls lc lv us uc uv work) (storageAfter ro co ls lc lv us uc uv work) from to ⌝ }
 {
-    let r = so.r;
+    let r = from.r;
     let step = find(
         q,
         starts,
@@ -188,9 +195,9 @@ pub fn take_row(
         i as usize,
         paired,
         r,
-        so.at,
-        so.l,
-        so.total,
+        from.at,
+        from.l,
+        from.total,
         co,
         us,
         lc,

@@ -1,22 +1,21 @@
 -- `find_dense` meets its contract; the invariant is `Going`: the lists and the block hold what the turns so far find, and the turns that remain
 -- end as all of them do. Assumes nothing.
 use Prim.Native.Nat.{_-_, _<_}
-use mathlib.Core.Path.{refl, sym, _∙_}
-use mathlib.Core.Bool.{true≢false}
+use mathlib.Core.Path.{refl, _∙_}
 use native.Mathlib.Omega.{arith}
 use lib.ListN.{length}
 use Rattle.sparse.specs.Matrix.{compressed}
 use Rattle.factor_turn.proofs.PivotPass.{same-then}
-use Rattle.factor_first.proofs.DensePass.{Going, going-starts, going-ready, going-over, going-turn, going-ends, going-clear}
+use Rattle.factor_first.proofs.DensePass.{Going, going-starts, going-ready, going-over, going-turn, going-ends}
 use Rattle.factor_first.proofs.dense.find_dense.Statement.{statement}
 use Rattle.factor_first.proofs.dense.find_dense.Tie as tie
 
 abbrev Inv-loop : tie.InvT-loop
-Inv-loop q ss cols vals s rows₀ columns₀ ls₀ lc₀ lv₀ us₀ uc₀ uv₀ work₀ js width first so₀ block₀ ks₀ k₀ rows columns ls lc lv us uc uv work so block ks k =
-    Going (q .p) s (compressed ss cols vals) rows₀ columns₀ (compressed ls₀ lc₀ lv₀) (compressed us₀ uc₀ uv₀) work₀ (so₀ .r) first (so₀ .l) (so₀ .total) js ks block rows columns (compressed ls lc lv) (compressed us uc uv) work (so .over) k (so .r) (so .at) (so .l) (so .total)
+Inv-loop q ss cols vals s rows₀ columns₀ ls₀ lc₀ lv₀ us₀ uc₀ uv₀ work₀ js width first from block₀ ks₀ k₀ rows columns ls lc lv us uc uv work progress block ks k =
+    Going (q .p) s (compressed ss cols vals) rows₀ columns₀ (compressed ls₀ lc₀ lv₀) (compressed us₀ uc₀ uv₀) work₀ from js ks block rows columns (compressed ls lc lv) (compressed us uc uv) work k progress
 
 abbrev μ-loop : tie.MeasureT-loop
-μ-loop q ss cols vals s rows₀ columns₀ ls₀ lc₀ lv₀ us₀ uc₀ uv₀ work₀ js width first so₀ block₀ ks₀ k₀ rows columns ls lc lv us uc uv work so block ks k = length rows₀ - k
+μ-loop q ss cols vals s rows₀ columns₀ ls₀ lc₀ lv₀ us₀ uc₀ uv₀ work₀ js width first from block₀ ks₀ k₀ rows columns ls lc lv us uc uv work progress block ks k = length rows₀ - k
 
 -- the entry, from inside the loop
 abbrev start : tie.In-loop Inv-loop μ-loop → tie.Start Inv-loop μ-loop
@@ -26,11 +25,11 @@ inside : (c : tie.In-loop Inv-loop μ-loop) → c .before .loop .k < length (sta
 inside c = omega (arith, c .loop-test .taken, c .before .loop .inv .same .R-long)
 
 -- the turn, from the test after it
-abbrev turn : tie.After-so Inv-loop μ-loop → tie.In-loop Inv-loop μ-loop
+abbrev turn : tie.After-progress Inv-loop μ-loop → tie.In-loop Inv-loop μ-loop
 turn c = c .before .before .before .before .before .before .before .before .before .before .before .before .before .before .before .before .before .before .before .before .before .before .before .before .before .before .before .before .before .before .before .before .before
 
 -- the place in the block is inside
-placed : (c : tie.In-loop Inv-loop μ-loop) → c .before .loop .so .r - start c .args .s < 32
+placed : (c : tie.In-loop Inv-loop μ-loop) → c .before .loop .progress .r - start c .args .s < 32
 placed c = omega (arith, inside c, c .before .loop .inv .rank, c .before .loop .inv .rank-low, start c .pre .few-rows)
 
 tail-requires : tie.Need-tail-requires Inv-loop μ-loop
@@ -40,7 +39,7 @@ sub-width : tie.Need-sub-width Inv-loop μ-loop
 sub-width c = c .before .before .before .before .before .before .before .before .before .before .before .before .before .before .pre .columns-inside
 
 loop-holds : tie.Need-loop-holds Inv-loop μ-loop
-loop-holds c = let s = c .before .before .before .before .before .before .before .before .before .before .before .before .before .before in going-starts _ _ _ _ _ _ _ _ _ _ _ _ _ _ (s .pre) (c .tail .ensures) _ _ refl refl
+loop-holds c = let s = c .before .before .before .before .before .before .before .before .before .before .before .before .before .before in going-starts _ _ _ _ _ _ _ _ _ _ (s .pre) (c .tail .ensures) _ _ refl refl
 
 mul-i : tie.Need-mul-i Inv-loop μ-loop
 mul-i c = omega (arith, inside c, start c .good, c .before .loop .inv .same .R-long)
@@ -52,7 +51,7 @@ sub-b : tie.Need-sub-b Inv-loop μ-loop
 sub-b c = c .before .before .before .loop .inv .rank-low
 
 take-dense-row-requires : tie.Need-take-dense-row-requires Inv-loop μ-loop
-take-dense-row-requires c κs = let i = c .before .before .before .before .before .before .before .before .before .before .before .before .before in going-ready _ _ _ _ _ _ _ _ _ _ _ _ _ _ (start i .pre) _ _ _ _ _ _ _ _ _ _ _ _ _ (i .before .loop .inv) (inside i)
+take-dense-row-requires c κs = let i = c .before .before .before .before .before .before .before .before .before .before .before .before .before in going-ready _ _ _ _ _ _ _ _ _ _ (start i .pre) _ _ _ _ _ _ _ _ _ (i .before .loop .inv) (inside i)
 
 same-length : tie.Need-same-length Inv-loop μ-loop
 same-length c = c .before .before .before .before .before .before .before .before .before .before .before .before .before .before .before .before .before .before .before .before .take-dense-row .kept .1 .1 .1 .1 .1 .1 .1 .1 .1 .1 .1 .1 .0 ∙ turn (c .before) .before .loop .inv .same .R-long
@@ -82,10 +81,8 @@ same-length-9 : tie.Need-same-length-9 Inv-loop μ-loop
 same-length-9 c = c .before .before .before .before .before .before .before .before .before .before .before .before .before .before .before .before .before .before .before .before .take-dense-row .kept .1 .1 .1 .1 .1 .1 .1 .1 .1 .1 .1 .1 .1 .1 .1 .1 .1 .1 .1 .1 .0 ∙ turn (c .before) .before .loop .inv .same .w-long
 
 returns : tie.Need-returns Inv-loop μ-loop
-returns c = let i = turn (c .before) in let t = c .before .before .before .before .before .before .before .before .before .before .before .before .before .before .before .before .before .before .before .before .take-dense-row in (
-  going-over _ _ _ _ _ _ _ _ _ _ _ _ _ _ (start i .pre) _ _ _ _ _ _ _ _ _ _ _ _ _ (i .before .loop .inv) (inside i) _ _ _ _ _ _ _ _ _ _ _ _ (t .ensures) (c .if1 .taken),
-  λ e. absurd (true≢false (sym (c .if1 .taken) ∙ e)),
-)
+returns c = let i = turn (c .before) in let t = c .before .before .before .before .before .before .before .before .before .before .before .before .before .before .before .before .before .before .before .before .take-dense-row in
+    going-over _ _ _ _ _ _ _ _ _ _ (start i .pre) _ _ _ _ _ _ _ _ _ (i .before .loop .inv) (inside i) _ _ _ _ _ _ (t .ensures) (c .if1 .taken)
 
 mul-block : tie.Need-mul-block Inv-loop μ-loop
 mul-block c = omega (arith, placed (turn (c .before .before)))
@@ -107,7 +104,7 @@ loop-less c = omega (arith, inside (turn (c .before .before)))
 
 loop-again : tie.Need-loop-again Inv-loop μ-loop
 loop-again c = let i = turn (c .before .before) in let t = c .before .before .before .before .before .before .before .before .before .before .before .before .before .before .before .before .before .before .before .before .before .take-dense-row in
-    going-turn _ _ _ _ _ _ _ _ _ _ _ _ _ _ (start i .pre) _ _ _ _ _ _ _ _ _ _ _ _ _ (i .before .loop .inv) (inside i) _ _ _ _ _ _ _ _ _ _ _ _ (t .ensures) (c .before .if1 .left)
+    going-turn _ _ _ _ _ _ _ _ _ _ (start i .pre) _ _ _ _ _ _ _ _ _ (i .before .loop .inv) (inside i) _ _ _ _ _ _ (t .ensures) (c .before .if1 .left)
     (same-then _ _ _ _ _ _ _ _ _ _ _ _ _ _ _ (i .before .loop .inv .same) (t .kept .1 .1 .1 .1 .1 .1 .1 .1 .1 .1 .1 .1 .0) (t .kept .1 .1 .1 .1 .1 .1 .1 .1 .1 .1 .1 .1 .1 .0) (t .kept .1 .1 .1 .1 .1 .1 .1 .1 .1 .1 .1 .1 .1 .1 .0) (t .kept .1 .1 .1 .1 .1 .1 .1 .1 .1 .1 .1 .1 .1 .1 .1 .0) (t .kept .1 .1 .1 .1 .1 .1 .1 .1 .1 .1 .1 .1 .1 .1 .1 .1 .0) (t .kept .1 .1 .1 .1 .1 .1 .1 .1 .1 .1 .1 .1 .1 .1 .1 .1 .1 .0) (t .kept .1 .1 .1 .1 .1 .1 .1 .1 .1 .1 .1 .1 .1 .1 .1 .1 .1 .1 .0) (t .kept .1 .1 .1 .1 .1 .1 .1 .1 .1 .1 .1 .1 .1 .1 .1 .1 .1 .1 .1 .0) (t .kept .1 .1 .1 .1 .1 .1 .1 .1 .1 .1 .1 .1 .1 .1 .1 .1 .1 .1 .1 .1 .0))
 
 same-length-10 : tie.Need-same-length-10 Inv-loop μ-loop
@@ -138,10 +135,8 @@ same-length-18 : tie.Need-same-length-18 Inv-loop μ-loop
 same-length-18 c = c .before .loop .inv .same .w-long
 
 returns-2 : tie.Need-returns-2 Inv-loop μ-loop
-returns-2 c = let s = c .before .before .before .before .before .before .before .before .before .before .before .before .before .before .before .before in let v = c .before .loop .inv in (
-  going-ends _ _ _ _ _ _ _ _ _ _ _ _ _ _ (s .pre) _ _ _ _ _ _ _ _ _ _ _ _ _ v (omega (arith, c .loop-test .left, v .same .R-long)) _,
-  λ e. going-clear _ _ _ _ _ _ _ _ _ _ _ _ _ _ (s .pre) _ _ _ _ _ _ _ _ _ _ _ _ _ v,
-)
+returns-2 c = let s = c .before .before .before .before .before .before .before .before .before .before .before .before .before .before .before .before in let v = c .before .loop .inv in
+    going-ends _ _ _ _ _ _ _ _ _ _ (s .pre) _ _ _ _ _ _ _ _ _ v (omega (arith, c .loop-test .left, v .same .R-long)) _
 
 pub find-dense-spec : {M : Type 1} → statement M
 find-dense-spec =

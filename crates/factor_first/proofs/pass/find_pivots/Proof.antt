@@ -1,25 +1,24 @@
--- `find_pivots` meets its contract; the invariant is `Passing`: the lists hold what the turns so far find, and the turns that remain end as
+-- `find_pivots` meets its contract; the invariant is `Passing`: the lists hold what the turns progress far find, and the turns that remain end as
 -- the whole schedule does. Where the loop stops after the pairs, `find_dense` takes those that remain. Assumes nothing.
 use Prim.Native.Nat.{_-_, _≤_, _<_}
-use mathlib.Core.Path.{_≡_, refl, sym, ap, _∙_}
-use mathlib.Core.Bool.{false, true≢false}
+use mathlib.Core.Path.{_≡_, refl, _∙_}
+use mathlib.Core.Bool.{false}
 use native.Mathlib.Omega.{arith}
 use lib.ListN.{length}
-use Rattle.lists.specs.Filled.{zeros}
 use Rattle.sparse.specs.Matrix.{compressed}
-use Rattle.factor_turn.proofs.PivotPass.{Passing, passing-starts, passing-ready, passing-over, passing-turn, passing-clear, passed-over, same-then}
-use Rattle.factor_first.proofs.TwoParts.{StopsAt, stops-at, all-taken, rows-ready, rows-from, rows-taken}
+use Rattle.factor_turn.proofs.PivotPass.{Passing, passing-starts, passing-ready, passing-over, passing-turn, passed-over, same-then}
+use Rattle.factor_first.proofs.TwoParts.{StopsAt, stops-at, all-taken, rows-ready, rows-taken}
 use Rattle.factor_first.proofs.pass.find_pivots.Statement.{statement}
 use Rattle.factor_first.proofs.pass.find_pivots.Tie as tie
 
 abbrev Inv-loop : tie.InvT-loop
-Inv-loop q ss cols vals s rows₀ columns₀ ls₀ lc₀ lv₀ us₀ uc₀ uv₀ work₀ so₀ end k₀ rows columns ls lc lv us uc uv work so k =
-    Passing (q .p) s (compressed ss cols vals) rows₀ columns₀ (compressed ls₀ lc₀ lv₀) (compressed us₀ uc₀ uv₀) work₀ rows columns (compressed ls lc lv) (compressed us uc uv) work k (so .r) (so .at) (so .l) (so .total)
-    × (so .over ≡ false)
+Inv-loop q ss cols vals s rows₀ columns₀ ls₀ lc₀ lv₀ us₀ uc₀ uv₀ work₀ progress₀ end k₀ rows columns ls lc lv us uc uv work progress k =
+    Passing (q .p) s (compressed ss cols vals) rows₀ columns₀ (compressed ls₀ lc₀ lv₀) (compressed us₀ uc₀ uv₀) work₀ rows columns (compressed ls lc lv) (compressed us uc uv) work k progress
+    × (progress .over ≡ false)
     × (k ≤ end)
 
 abbrev μ-loop : tie.MeasureT-loop
-μ-loop q ss cols vals s rows₀ columns₀ ls₀ lc₀ lv₀ us₀ uc₀ uv₀ work₀ so₀ end k₀ rows columns ls lc lv us uc uv work so k = length rows₀ - k
+μ-loop q ss cols vals s rows₀ columns₀ ls₀ lc₀ lv₀ us₀ uc₀ uv₀ work₀ progress₀ end k₀ rows columns ls lc lv us uc uv work progress k = length rows₀ - k
 
 -- the entry, from the loop
 abbrev start : tie.At-loop Inv-loop μ-loop → tie.Start Inv-loop μ-loop
@@ -52,7 +51,7 @@ slice-read-i : tie.Need-slice-read-i Inv-loop μ-loop
 slice-read-i c = omega (arith, inside (c .before), c .before .before .loop .inv .0 .same .R-long)
 
 take-row-requires : tie.Need-take-row-requires Inv-loop μ-loop
-take-row-requires c κs = let i = c .before .before .before .before .before .before .before .before .before .before in passing-ready _ _ _ _ _ _ _ _ (start (i .before) .pre) _ _ _ _ _ _ _ _ _ _ (i .before .loop .inv .0) (inside i)
+take-row-requires c κs = let i = c .before .before .before .before .before .before .before .before .before .before in passing-ready _ _ _ _ _ _ _ _ (start (i .before) .pre) _ _ _ _ _ _ _ (i .before .loop .inv .0) (inside i)
 
 same-length : tie.Need-same-length Inv-loop μ-loop
 same-length c = c .before .before .before .before .before .before .before .before .before .before .before .before .before .before .before .before .before .before .before .take-row .kept .1 .1 .1 .1 .1 .1 .1 .0 ∙ turn (c .before) .before .loop .inv .0 .same .R-long
@@ -82,11 +81,9 @@ same-length-9 : tie.Need-same-length-9 Inv-loop μ-loop
 same-length-9 c = c .before .before .before .before .before .before .before .before .before .before .before .before .before .before .before .before .before .before .before .take-row .kept .1 .1 .1 .1 .1 .1 .1 .1 .1 .1 .1 .1 .1 .1 .1 .0 ∙ turn (c .before) .before .loop .inv .0 .same .w-long
 
 returns : tie.Need-returns Inv-loop μ-loop
-returns c = let i = turn (c .before) in let t = c .before .before .before .before .before .before .before .before .before .before .before .before .before .before .before .before .before .before .before .take-row in (
-  passed-over _ _ _ _ _ _ _ _ _ _ _ _ _ _ _ _ _ _ (c .if1 .taken)
-      (passing-over _ _ _ _ _ _ _ _ (start (i .before) .pre) _ _ _ _ _ _ _ _ _ _ (i .before .loop .inv .0) (inside i) _ _ _ _ _ _ _ _ _ _ (t .ensures) (c .if1 .taken)),
-  λ e. absurd (true≢false (sym (c .if1 .taken) ∙ e)),
-)
+returns c = let i = turn (c .before) in let t = c .before .before .before .before .before .before .before .before .before .before .before .before .before .before .before .before .before .before .before .take-row in
+    passed-over _ _ _ _ _ _ _ _ _ _ _ _ _ _ _ (c .if1 .taken)
+    (passing-over _ _ _ _ _ _ _ _ (start (i .before) .pre) _ _ _ _ _ _ _ (i .before .loop .inv .0) (inside i) _ _ _ _ _ _ (t .ensures) (c .if1 .taken))
 
 add-k : tie.Need-add-k Inv-loop μ-loop
 add-k c = omega (arith, inside (turn (c .before)), start (turn (c .before) .before) .good)
@@ -96,7 +93,7 @@ loop-less c = omega (arith, inside (turn (c .before)))
 
 loop-again : tie.Need-loop-again Inv-loop μ-loop
 loop-again c = let i = turn (c .before) in let t = c .before .before .before .before .before .before .before .before .before .before .before .before .before .before .before .before .before .before .before .take-row in (
-  passing-turn _ _ _ _ _ _ _ _ (start (i .before) .pre) _ _ _ _ _ _ _ _ _ _ (i .before .loop .inv .0) (inside i) _ _ _ _ _ _ _ _ _ _ (t .ensures) (c .if1 .left)
+  passing-turn _ _ _ _ _ _ _ _ (start (i .before) .pre) _ _ _ _ _ _ _ (i .before .loop .inv .0) (inside i) _ _ _ _ _ _ (t .ensures) (c .if1 .left)
       (same-then _ _ _ _ _ _ _ _ _ _ _ _ _ _ _ (i .before .loop .inv .0 .same) (t .kept .1 .1 .1 .1 .1 .1 .1 .0) (t .kept .1 .1 .1 .1 .1 .1 .1 .1 .0) (t .kept .1 .1 .1 .1 .1 .1 .1 .1 .1 .0) (t .kept .1 .1 .1 .1 .1 .1 .1 .1 .1 .1 .0) (t .kept .1 .1 .1 .1 .1 .1 .1 .1 .1 .1 .1 .0) (t .kept .1 .1 .1 .1 .1 .1 .1 .1 .1 .1 .1 .1 .0) (t .kept .1 .1 .1 .1 .1 .1 .1 .1 .1 .1 .1 .1 .1 .0) (t .kept .1 .1 .1 .1 .1 .1 .1 .1 .1 .1 .1 .1 .1 .1 .0) (t .kept .1 .1 .1 .1 .1 .1 .1 .1 .1 .1 .1 .1 .1 .1 .1 .0)),
   c .if1 .left,
   omega (arith, i .loop-test .taken),
@@ -104,7 +101,7 @@ loop-again c = let i = turn (c .before) in let t = c .before .before .before .be
 
 find-dense-requires : tie.Need-find-dense-requires Inv-loop μ-loop
 find-dense-requires c κs = let l = c .before .before .before .before .before .before .before .before .before .before .before in
-    rows-ready _ _ _ _ _ _ _ _ (start l .pre) _ _ _ _ _ _ _ _ _ _ _ (l .loop .inv .0) (l .loop .inv .1) _ (stops l) (l .loop .inv .2) (omega (arith, c .before .before .before .before .before .before .before .before .before .before .loop-test .left)) (remain (c .before .before .before .before .before .before .before .before .before))
+    rows-ready _ _ _ _ _ _ _ _ (start l .pre) _ _ _ _ _ _ _ (l .loop .inv .0) (l .loop .inv .1) _ (stops l) (l .loop .inv .2) (omega (arith, c .before .before .before .before .before .before .before .before .before .before .loop-test .left)) (remain (c .before .before .before .before .before .before .before .before .before))
 
 same-length-10 : tie.Need-same-length-10 Inv-loop μ-loop
 same-length-10 c = c .before .before .before .before .before .before .before .before .before .before .before .before .before .before .before .before .before .before .find-dense .kept .1 .1 .1 .1 .1 .1 .0 ∙ c .before .before .before .before .before .before .before .before .before .before .before .before .before .before .before .before .before .before .before .before .before .before .before .before .before .before .before .before .before .before .loop .inv .0 .same .R-long
@@ -134,11 +131,8 @@ same-length-18 : tie.Need-same-length-18 Inv-loop μ-loop
 same-length-18 c = c .before .before .before .before .before .before .before .before .before .before .before .before .before .before .before .before .before .before .find-dense .kept .1 .1 .1 .1 .1 .1 .1 .1 .1 .1 .1 .1 .1 .1 .0 ∙ c .before .before .before .before .before .before .before .before .before .before .before .before .before .before .before .before .before .before .before .before .before .before .before .before .before .before .before .before .before .before .loop .inv .0 .same .w-long
 
 returns-2 : tie.Need-returns-2 Inv-loop μ-loop
-returns-2 c = let l = c .before .before .before .before .before .before .before .before .before .before .before .before .before .before .before .before .before .before .before .before .before .before .before .before .before .before .before .before .before .before in let d = c .before .before .before .before .before .before .before .before .before .before .before .before .before .before .before .before .before .before .find-dense in let done : l .before .sparse-end .result ≤ l .loop .k = omega (arith, c .before .before .before .before .before .before .before .before .before .before .before .before .before .before .before .before .before .before .before .before .before .before .before .before .before .before .before .before .before .loop-test .left) in (
-  rows-taken _ _ _ _ _ _ _ _ (start l .pre) _ _ _ _ _ _ _ _ _ _ _ (l .loop .inv .0) (l .loop .inv .1) _ (stops l) (l .loop .inv .2) done (remain (c .before .before .before .before .before .before .before .before .before .before .before .before .before .before .before .before .before .before .before .before .before .before .before .before .before .before .before .before)) _ _ _ _ _ _ _ _ _ _
-      (d .ensures .0 (l .loop .inv .0 .f) (rows-from _ _ _ _ _ _ _ _ (start l .pre) _ _ _ _ _ _ _ _ _ _ _ (l .loop .inv .0) (l .loop .inv .1) _ (stops l) (l .loop .inv .2) done (remain (c .before .before .before .before .before .before .before .before .before .before .before .before .before .before .before .before .before .before .before .before .before .before .before .before .before .before .before .before)))),
-  λ e. d .ensures .1 e ∙ ap zeros (l .loop .inv .0 .same .w-long),
-)
+returns-2 c = let l = c .before .before .before .before .before .before .before .before .before .before .before .before .before .before .before .before .before .before .before .before .before .before .before .before .before .before .before .before .before .before in let d = c .before .before .before .before .before .before .before .before .before .before .before .before .before .before .before .before .before .before .find-dense in let done : l .before .sparse-end .result ≤ l .loop .k = omega (arith, c .before .before .before .before .before .before .before .before .before .before .before .before .before .before .before .before .before .before .before .before .before .before .before .before .before .before .before .before .before .loop-test .left) in
+    rows-taken _ _ _ _ _ _ _ _ (start l .pre) _ _ _ _ _ _ _ (l .loop .inv .0) (l .loop .inv .1) _ (stops l) (l .loop .inv .2) done (remain (c .before .before .before .before .before .before .before .before .before .before .before .before .before .before .before .before .before .before .before .before .before .before .before .before .before .before .before .before)) _ _ _ _ _ _ (d .ensures)
 
 same-length-19 : tie.Need-same-length-19 Inv-loop μ-loop
 same-length-19 c = c .before .before .loop .inv .0 .same .R-long
@@ -168,10 +162,8 @@ same-length-27 : tie.Need-same-length-27 Inv-loop μ-loop
 same-length-27 c = c .before .before .loop .inv .0 .same .w-long
 
 returns-3 : tie.Need-returns-3 Inv-loop μ-loop
-returns-3 c = let l = c .before .before in let v = l .loop .inv in (
-  all-taken _ _ _ _ _ _ _ _ (start l .pre) _ _ _ _ _ _ _ _ _ _ _ (v .0) (v .1) (omega (arith, c .if2 .left, v .0 .same .R-long)) _,
-  λ e. passing-clear _ _ _ _ _ _ _ _ (start l .pre) _ _ _ _ _ _ _ _ _ _ (v .0),
-)
+returns-3 c = let l = c .before .before in let v = l .loop .inv in
+    all-taken _ _ _ _ _ _ _ _ (start l .pre) _ _ _ _ _ _ _ (v .0) (v .1) (omega (arith, c .if2 .left, v .0 .same .R-long)) _
 
 pub find-pivots-spec : {M : Type 1} → statement M
 find-pivots-spec =

@@ -10,7 +10,7 @@ stays-requires : tie.Need-stays-requires
 stays-requires c κs = search needs
 
 returns : tie.Need-returns
-returns c = settled-stays _ _ _ _ _ _ _ _ _ _ _ _ _ (c .before .stays .ensures) (c .if1 .taken)
+returns c = settled-stays _ _ _ _ _ _ _ _ _ (c .before .stays .ensures) (c .if1 .taken)
 
 cast-enter : tie.Need-cast-enter
 cast-enter c = record { fits = c .before .before .before .before .before .before .pre .entered (sym (c .before .stays .ensures) ∙ c .if1 .left) .column }
@@ -40,7 +40,7 @@ same-length-4 : tie.Need-same-length-4
 same-length-4 c = c .before .before .before .before .before .before .before .before .enter .kept .1 .1 .1 .1 .1 .1 .1 .1 .0
 
 returns-2 : tie.Need-returns-2
-returns-2 c = let e = c .before .before .before .before .before .before .before .before .enter .ensures in settled-enters _ _ _ _ _ _ _ _ _ _ _ _ _ (c .before .before .before .before .before .before .before .before .before .before .before .before .before .before .stays .ensures) (c .before .before .before .before .before .before .before .before .before .before .before .before .before .if1 .left) _ _ _ _ (e .0) (e .1) (e .2) (e .3)
+returns-2 c = let e = c .before .before .before .before .before .before .before .before .enter .ensures in settled-enters _ _ _ _ _ _ _ _ _ (c .before .before .before .before .before .before .before .before .before .before .before .before .before .before .stays .ensures) (c .before .before .before .before .before .before .before .before .before .before .before .before .before .if1 .left) _ _ _ _ (e .0) (e .1) (e .2) (e .3)
 
 pub settle-spec : {M : Type 1} → statement M
 settle-spec =
