@@ -24,12 +24,12 @@ use Rattle.elimination.proofs.Schedule.{schedule-holds}
 use Rattle.elimination.proofs.Order.{rows-rising}
 use Rattle.factor_row.proofs.Storage.{FilledWith, holds-filled}
 use Rattle.factor_turn.specs.State.{pivotRows}
-use Rattle.factor_turn.specs.Passing.{pairsOf}
+use Rattle.factor_turn.specs.Passing.{pairsOf, PassLeaves}
+use Rattle.factor_turn.specs.declared.turn.Pass.{Pass}
 use Rattle.factor_turn.proofs.Steps.{entries-values}
 use Rattle.factor_turn.proofs.Schedules.{pairs-many}
 use Rattle.factor_turn.proofs.Sizes.{rank-most}
-use Rattle.factor_first.specs.declared.dense.Pass.{Pass}
-use Rattle.factor_passes.specs.Needs.{FromReady, PassOneLeaves, FoundFrom, CompleteReady, CompletedFor, Completes}
+use Rattle.factor_passes.specs.Needs.{FromReady, FoundFrom, CompleteReady, CompletedFor, Completes}
 use Rattle.factor_passes.proofs.WorkingRow.{KeptLengths, lists-formed, lists-same, zeros-self}
 use Rattle.factor_all.specs.Factorization.{refusal, done, factoringFrom, Leaves}
 use Rattle.factor_all.specs.Needs.{AllClear, factoringIn}
@@ -104,20 +104,20 @@ module _ (p s : ℕ) (A : Compressed) (S : Storage) (h : FromReady p s A S) wher
   holds : Invariant p n m (matrix A) f
   holds = schedule-holds p n m (matrix A) (h .lists .lent .prime) small pairs (h .pairs)
 
-  module _ (S₁ : Storage) (to : Pass) (q : PassOneLeaves p s m A S S₁ to) where
-    pub from-refused : to .so .over ≡ true → (S₂ : Storage) → AllClear S₂
+  module _ (S₁ : Storage) (to : Pass) (q : PassLeaves p s m A S S₁ to) where
+    pub from-refused : to .progress .over ≡ true → (S₂ : Storage) → AllClear S₂
         → Leaves (factoringIn p s A S) (record { outcome = Refused storageTooShort (to .stop); rank = 0; structural = 0 }) S₂
     unfolding factoringFrom
     from-refused e S₂ z = rw (q .stopped e) (leaves-refused storageTooShort (to .stop) S₂ z)
 
-    module _ (e : to .so .over ≡ false) where
+    module _ (e : to .progress .over ≡ false) where
       fitted : EntriesFit (length (S .L .cols)) (length (S .U .cols)) f
       unfolding lowersOf uppersOf entries
       fitted = none-over p m (matrix A) (length (S .L .cols)) (length (S .U .cols)) nothing (schedule n pairs) (record { L = omega arith; U = omega arith }) (q .fitted e)
 
       -- where the first pass kept every length
       module _ (k : KeptLengths S S₁) where
-        found : FoundFrom p A S₁ (to .so .r) (to .so .at) (to .so .l) (to .so .total) f
+        found : FoundFrom p A S₁ (to .progress .r) (to .progress .at) (to .progress .l) (to .progress .total) f
         unfolding pivotRows
         found =
             record {
@@ -129,25 +129,25 @@ module _ (p s : ℕ) (A : Compressed) (S : Storage) (h : FromReady p s A S) wher
               room = omega (arith, q .state e .L-entries, fitted .L, k .lc-long);
             }
 
-        pub from-complete : CompleteReady p A S₁ (to .so .r) (to .so .at) (to .so .l)
+        pub from-complete : CompleteReady p A S₁ (to .progress .r) (to .progress .at) (to .progress .l)
         from-complete =
             record {
               lists = lists-same p A S S₁ k (zeros-self (S₁ .work) (length (S .work)) (q .clear e)) (h .lists);
               f = f;
-              total = to .so .total;
+              total = to .progress .total;
               from = found;
             }
 
-        pub from-done : (S₂ : Storage) → S₂ .U ≡ S₁ .U → Completes p A S₁ S₂ (to .so .r) (to .so .at) (to .so .l)
-            → Leaves (factoringIn p s A S) (record { outcome = Passed; rank = to .so .r; structural = s }) S₂
+        pub from-done : (S₂ : Storage) → S₂ .U ≡ S₁ .U → Completes p A S₁ S₂ (to .progress .r) (to .progress .at) (to .progress .l)
+            → Leaves (factoringIn p s A S) (record { outcome = Passed; rank = to .progress .r; structural = s }) S₂
         unfolding factoringFrom factorFrom
         from-done S₂ same d =
             rw (q .fitted e, pairs-many s (S .R) (S .C) (h .rows-inside) (h .columns-inside))
-            (leaves-done s m (to .so .r) f S₂ (q .state e .rank) (rw (k .C-long) at (d .completed f (to .so .total) found)) (rw same upper)
+            (leaves-done s m (to .progress .r) f S₂ (q .state e .rank) (rw (k .C-long) at (d .completed f (to .progress .total) found)) (rw same upper)
             (zeros-self (S₂ .work) (length (S₁ .work)) (d .clear)))
           where
             upper : FilledWith (compress (uppersOf f)) (S₁ .U)
-            upper = holds-filled (uppersOf f) (to .so .at) (S₁ .U) (q .state e .upper) (q .state e .U-entries ∙ entries-values (uppersOf f))
+            upper = holds-filled (uppersOf f) (to .progress .at) (S₁ .U) (q .state e .upper) (q .state e .U-entries ∙ entries-values (uppersOf f))
 
-      pub from-rank : to .so .r < 2 ^ 32
+      pub from-rank : to .progress .r < 2 ^ 32
       from-rank = omega (arith, h .lists .m-narrow, q .state e .rank, rank-most p n m (matrix A) f holds)

@@ -57,11 +57,11 @@ pub fn factor_from(
         work,
     );
     let stop = pass.stop;
-    let so = pass.so;
-    let over = so.over;
-    let r = so.r;
-    let at = so.at;
-    let l = so.l;
+    let progress = pass.progress;
+    let over = progress.over;
+    let r = progress.r;
+    let at = progress.at;
+    let l = progress.l;
     if over {
         clear_all(ro, co, ls, lc, lv, us, uc, uv, work);
         return Factored {

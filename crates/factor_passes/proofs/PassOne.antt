@@ -1,6 +1,5 @@
 -- The first pass: R is completed to the schedule, and C where the block needs it, then every row is taken.
 use mathlib.Core.Path.{_≡_, refl, sym, ap, _∙_, subst₂}
-use mathlib.Core.Bool.{false}
 use mathlib.Core.List.{List, _++_}
 use Prim.Native.Nat.{ℕ, _+_, _≤_}
 use native.Mathlib.Omega.{arith}
@@ -13,11 +12,11 @@ use Rattle.sparse.specs.Set.{Storage, storageOf}
 use Rattle.elimination.proofs.Selected.{pairs-columns}
 use Rattle.factor_order.specs.Needs.{Completable}
 use Rattle.factor_order.specs.Completion.{Completed}
-use Rattle.factor_turn.specs.Turning.{Lent}
-use Rattle.factor_turn.specs.Passing.{pairsIn, pairsOf, PassReady, PassLeaves}
+use Rattle.factor_turn.specs.Passing.{pairsIn, pairsOf, PassLeaves}
+use Rattle.factor_turn.specs.Needs.{Lent, PassReady}
+use Rattle.factor_turn.specs.declared.turn.Pass.{Pass}
 use Rattle.factor_turn.proofs.Schedules.{rows-are, columns-are, pairs-many}
-use Rattle.factor_first.specs.declared.dense.Pass.{Pass}
-use Rattle.factor_passes.specs.Needs.{FromReady, ColumnsCompleted, PassOneLeaves}
+use Rattle.factor_passes.specs.Needs.{FromReady, ColumnsCompleted}
 use Rattle.factor_passes.proofs.Orders.{distinct-front, distinct-cut, front-kept, order-long, order-completed}
 use Rattle.factor_passes.proofs.WorkingRow.{part-clear, whole-again, orders-same}
 
@@ -117,10 +116,10 @@ module _ (p s : ℕ) (A : Compressed) (S : Storage) (h : FromReady p s A S) wher
       same-pairs : pairsOf s R₁ C₁ ≡ pairsOf s (S .R) (S .C)
       same-pairs = λ t. pairsIn (front-kept s (S .R) (h .rows-inside) R₁ marks₁ cr t) (cc .front t)
 
-      lent : Lent p A R₁ C₁ (S .L) (S .U) (take m (S .work))
+      lent : Lent p A (storageOf R₁ C₁ (S .L) (S .U) (take m (S .work)))
       lent = rw C-kept at (orders-same p A S R₁ C₁ R-kept C-kept (h .lists) .lent)
 
-      pub one-pass : PassReady p s A R₁ C₁ (S .L) (S .U) (take m w₂)
+      pub one-pass : PassReady p s A (storageOf R₁ C₁ (S .L) (S .U) (take m w₂))
       one-pass =
           rw again (record {
             lent = lent;
@@ -139,14 +138,12 @@ module _ (p s : ℕ) (A : Compressed) (S : Storage) (h : FromReady p s A S) wher
           ∙ whole-again (S .work) (h .lists .clear) m (h .lists .m-fits) part (e ∙ ap zeros (sym last-part))
           ∙ h .lists .clear
 
-      pub one-passed : (R′ C′ : List ℕ) (L′ U′ : Compressed) (part : List ℕ) (to : Pass)
-          → PassLeaves p s A R₁ C₁ (length (take m w₂)) (length (S .L .cols)) (length (S .U .cols)) R′ C′ L′ U′ (to .so .over) (to .stop) (to .so .r) (to .so .at) (to .so .l) (to .so .total)
-          → (to .so .over ≡ false → part ≡ zeros (length (take m w₂)))
-          → PassOneLeaves p s m A S (storageOf R′ C′ L′ U′ (part ++ drop m w₂)) to
-      one-passed R′ C′ L′ U′ part to q z =
+      pub one-passed : (S′ : Storage) (to : Pass) → PassLeaves p s (length (take m w₂)) A (storageOf R₁ C₁ (S .L) (S .U) (take m w₂)) S′ to
+          → PassLeaves p s m A S (storageOf (S′ .R) (S′ .C) (S′ .L) (S′ .U) (S′ .work ++ drop m w₂)) to
+      one-passed S′ to q =
           record {
             stopped = rw (sym last-part, R-kept, same-pairs) at (q .stopped);
             fitted = rw (sym last-part, R-kept, same-pairs) at (q .fitted);
             state = rw (sym last-part, R-kept, same-pairs) at (q .state);
-            clear = λ e. one-clear part (z e);
+            clear = λ e. one-clear (S′ .work) (q .clear e);
           }

@@ -16,8 +16,8 @@ use Rattle.elimination.proofs.Invariant.{columns-many}
 use Rattle.factor_order.specs.Needs.{Completable}
 use Rattle.factor_order.specs.Completion.{Completed}
 use Rattle.factor_turn.specs.State.{pivotRows}
-use Rattle.factor_turn.specs.Turning.{Lent}
-use Rattle.factor_turn.specs.Filling.{FillFrom, FillReady, FillDone}
+use Rattle.factor_turn.specs.Needs.{Lent, FillReady}
+use Rattle.factor_turn.specs.Filling.{FillFrom, FillDone}
 use Rattle.factor_turn.proofs.Sizes.{columns-distinct, rank-most}
 use Rattle.factor_passes.specs.Needs.{PassLists, FoundFrom, CompleteReady, CompletedFor}
 use Rattle.factor_passes.proofs.Orders.{distinct-front}
@@ -75,8 +75,8 @@ module _ (p : ℕ) (A : Compressed) (S : Storage) (r at l : ℕ) (lists : PassLi
       R₁-front = ap (take r) (R₁-is ∙ g .rows) ∙ take-at (pivotRows f) (rest (pivotRows f) n) r (pivot-rows-many f ∙ sym (g .state .rank))
 
       -- the lists hold what they held
-      fill-from : FillFrom p A R₁ C₁ (S .L) (S .U) m r at l total f
-      fill-from =
+      fill-from : (part : List ℕ) → FillFrom p A (storageOf R₁ C₁ (S .L) (S .U) part) m r at l total f
+      fill-from part =
           record {
             holds = rw R₁-long (g .holds);
             state = record {
@@ -93,7 +93,7 @@ module _ (p : ℕ) (A : Compressed) (S : Storage) (r at l : ℕ) (lists : PassLi
             room = g .room;
           }
 
-      lent : Lent p A R₁ C₁ (S .L) (S .U) (take m (S .work))
+      lent : Lent p A (storageOf R₁ C₁ (S .L) (S .U) (take m (S .work)))
       lent = rw C₁-long at (orders-same p A S R₁ C₁ R₁-long C₁-long lists .lent)
 
 -- ---- the calls
@@ -146,22 +146,22 @@ module _ (p : ℕ) (A : Compressed) (S : Storage) (r at l : ℕ) (h : CompleteRe
       pub last-part : length (S .C) ≡ length (take (length (S .C)) w₂)
       last-part = sym (length-take-le (length (S .C)) w₂ (omega (arith, ap length again, h .lists .m-fits)))
 
-      pub two-fill : FillReady p A R₁ C₁ (S .L) (S .U) (take (length (S .C)) w₂) r at l
+      pub two-fill : FillReady p A (storageOf R₁ C₁ (S .L) (S .U) (take (length (S .C)) w₂)) r at l
       two-fill =
           rw again (record {
             lent = lent p A S r at l (h .lists) (h .f) (h .total) (h .from) C₁ marks₁ cc R₁ marks₂ cr;
             f = h .f;
             total = h .total;
-            from = rw (length-take-le (length (S .C)) (S .work) (h .lists .m-fits)) (fill-from p A S r at l (h .lists) (h .f) (h .total) (h .from) C₁ marks₁ cc R₁ marks₂ cr);
+            from = rw (length-take-le (length (S .C)) (S .work) (h .lists .m-fits)) (fill-from p A S r at l (h .lists) (h .f) (h .total) (h .from) C₁ marks₁ cc R₁ marks₂ cr (take (length (S .C)) (S .work)));
           })
 
-      pub two-done : (L′ U′ : Compressed) (w′ : List ℕ) → ((f : Found) (total : ℕ) → FillFrom p A R₁ C₁ (S .L) (S .U) (length (take (length (S .C)) w₂)) r at l total f → FillDone f L′)
+      pub two-done : (L′ U′ : Compressed) (w′ : List ℕ) → ((f : Found) (total : ℕ) → FillFrom p A (storageOf R₁ C₁ (S .L) (S .U) (take (length (S .C)) w₂)) (length (take (length (S .C)) w₂)) r at l total f → FillDone f L′)
           → (f : Found) (total : ℕ) → FoundFrom p A S r at l total f → CompletedFor f (length (S .C)) (storageOf R₁ C₁ L′ U′ w′)
       two-done L′ U′ w′ d f total g =
           record {
             rows = R₁-is p A S r at l (h .lists) f total g C₁ marks₁ cc R₁ marks₂ cr;
             columns = C₁-is p A S r at l (h .lists) f total g C₁ marks₁ cc;
-            lower = d f total (rw (sym last-part) (fill-from p A S r at l (h .lists) f total g C₁ marks₁ cc R₁ marks₂ cr));
+            lower = d f total (rw (sym last-part) (fill-from p A S r at l (h .lists) f total g C₁ marks₁ cc R₁ marks₂ cr (take (length (S .C)) w₂)));
           }
 
       pub two-clear : (part : List ℕ) → part ≡ zeros (length (take (length (S .C)) w₂)) → part ++ drop (length (S .C)) w₂ ≡ zeros (length (S .work))

@@ -3,13 +3,14 @@
 // while it is completed.
 ghost use Prim.Native.Nat.{_≤_};
 ghost use lib.ListN.{length};
+ghost use Rattle.factor_turn.specs.Passing.{PassLeaves};
 ghost use Rattle.factor_order.specs.Needs.{Completable};
-ghost use Rattle.factor_passes.specs.Needs.{FromReady, ColumnsCompleted, PassOneLeaves, CompleteReady, Completes};
+ghost use Rattle.factor_passes.specs.Needs.{FromReady, ColumnsCompleted, CompleteReady, Completes};
 ghost use Rattle.sparse.specs.Views.{before, after, storedAt, storedBefore, storageAt, storageBefore, storageAfter};
-use factor_first::dense::Pass;
 use factor_first::pass::find_pivots;
 use factor_order::complete::complete;
 use factor_turn::fill::fill_dependents;
+use factor_turn::turn::Pass;
 use residue::Modulus;
 
 // Completes C where what is left of n rows after the first s fits the block: its columns are then those after the first s.
@@ -44,7 +45,7 @@ pub fn pass_one(
     work: &mut [u64],
 ) -> Pass
     requires { ⌜ FromReady (q .p) s (storedAt starts cols vals) (storageAt ro co ls lc lv us uc uv work) ⌝ }
-    ensures { λ to. ⌜ PassOneLeaves (q .p) s (length (before co)) (storedBefore starts cols vals) (storageBefore ro co ls lc lv us uc uv work) (storageAfter ro co ls lc lv us uc uv work) to ⌝ }
+    ensures { λ to. ⌜ PassLeaves (q .p) s (length (before co)) (storedBefore starts cols vals) (storageBefore ro co ls lc lv us uc uv work) (storageAfter ro co ls lc lv us uc uv work) to ⌝ }
 {
     let n = ro.len();
     let m = co.len();

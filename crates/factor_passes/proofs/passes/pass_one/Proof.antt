@@ -60,7 +60,7 @@ same-length-9 c = last-long _ _ _ _ (c .before .before .before .before .before .
 
 returns : tie.Need-returns
 returns c = let s = c .before .before .before .before .before .before .before .before .before .before .before .before .before .before .before .before .before .before .before .before .before .before .before .before .before .before .before .before .before .before .before .before .before .before .before .before .before .before .before .before .before .before .before .before .before .before .before .before .before .before .before .before .before .before in let a = c .before .before .before .before .before .before .before .before .before .before .before .before .before .before .before .before .before .before .before .before .before .before .before .before .before .before .before .before .before .before .before .before .before .before .before .before .before .before .before .complete .ensures in let b = c .before .before .before .before .before .before .before .before .before .before .before .before .before .before .before .before .before .before .before .before .before .before .before .before .before .before .before .before .before .before .before .before .complete-columns .ensures in let d = c .before .before .before .before .before .before .before .before .before .before .before .before .before .before .before .before .before .before .find-pivots .ensures in
-    one-passed _ _ _ _ (s .pre) _ _ a _ _ b _ _ _ _ _ _ (d .0) (d .1)
+    one-passed _ _ _ _ (s .pre) _ _ a _ _ b _ _ d
 
 pub pass-one-spec : {M : Type 1} → statement M
 pass-one-spec =
