@@ -17,7 +17,7 @@ use Rattle.factor_passes.proofs.WorkingRow.{KeptLengths, part-clear, zeros-self
 use Rattle.factor_all.specs.Factorization.{factoring, Leaves}
 use Rattle.factor_all.specs.Needs.{AllClear, FactorReady}
 use Rattle.factor_all.specs.declared.factor.Factored.{Factored}
-use Rattle.factor_all.proofs.Outcomes.{leaves-refused}
+use Rattle.factor_all.proofs.FromPairs.{leaves-refused}
 use Rattle.call_factor.specs.Lengths.{lentOf, lentLengths, lentOutcome}
 use Rattle.call_factor.specs.Calls.{unlessRefused, factorCallOf}
 use Rattle.call_factor.specs.declared.Lent.{Lent}

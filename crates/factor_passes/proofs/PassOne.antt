@@ -16,7 +16,8 @@ use Rattle.factor_turn.specs.Passing.{pairsIn, pairsOf, PassLeaves}
 use Rattle.factor_turn.specs.Needs.{Lent, PassReady}
 use Rattle.factor_turn.specs.declared.turn.Pass.{Pass}
 use Rattle.factor_turn.proofs.Schedules.{rows-are, columns-are, pairs-many}
-use Rattle.factor_passes.specs.Needs.{FromReady, ColumnsCompleted}
+use Rattle.factor_passes.specs.Completing.{ColumnsCompleted}
+use Rattle.factor_passes.specs.Needs.{FromReady}
 use Rattle.factor_passes.proofs.Orders.{distinct-front, distinct-cut, front-kept, order-long, order-completed}
 use Rattle.factor_passes.proofs.WorkingRow.{part-clear, whole-again, orders-same}
 

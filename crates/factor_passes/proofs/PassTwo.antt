@@ -19,7 +19,8 @@ use Rattle.factor_turn.specs.State.{pivotRows}
 use Rattle.factor_turn.specs.Needs.{Lent, FillReady}
 use Rattle.factor_turn.specs.Filling.{FillFrom, FillDone}
 use Rattle.factor_turn.proofs.Sizes.{columns-distinct, rank-most}
-use Rattle.factor_passes.specs.Needs.{PassLists, FoundFrom, CompleteReady, CompletedFor}
+use Rattle.factor_passes.specs.Completing.{FoundFrom, CompletedFor}
+use Rattle.factor_passes.specs.Needs.{PassLists, CompleteReady}
 use Rattle.factor_passes.proofs.Orders.{distinct-front}
 use Rattle.factor_passes.proofs.WorkingRow.{part-clear, whole-again, orders-same}
 

@@ -29,7 +29,8 @@ use Rattle.factor_turn.specs.declared.turn.Pass.{Pass}
 use Rattle.factor_turn.proofs.Steps.{entries-values}
 use Rattle.factor_turn.proofs.Schedules.{pairs-many}
 use Rattle.factor_turn.proofs.Sizes.{rank-most}
-use Rattle.factor_passes.specs.Needs.{FromReady, FoundFrom, CompleteReady, CompletedFor, Completes}
+use Rattle.factor_passes.specs.Completing.{FoundFrom, CompletedFor, Completes}
+use Rattle.factor_passes.specs.Needs.{FromReady, CompleteReady}
 use Rattle.factor_passes.proofs.WorkingRow.{KeptLengths, lists-formed, lists-same, zeros-self}
 use Rattle.factor_all.specs.Factorization.{refusal, done, factoringFrom, Leaves}
 use Rattle.factor_all.specs.Needs.{AllClear, factoringIn}
