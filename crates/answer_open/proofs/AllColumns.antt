@@ -9,13 +9,12 @@ use Rattle.lists.specs.Tabulate.{tabulate}
 use Rattle.lists.proofs.Tabulate.{length-tabulate}
 use Rattle.algebra.specs.Matrix.{vector}
 use Rattle.sparse.specs.Matrix.{Compressed, matrix}
-use Rattle.sparse.specs.Set.{setOf}
-use Rattle.row_space.specs.Solve.{lowest, openColumns}
-use Rattle.answer_question.specs.Reducing.{lowestOf}
-use Rattle.answer_question.specs.Answering.{SetReady}
+use Rattle.sparse.specs.Set.{setOf, Set}
+use Rattle.row_space.specs.Solve.{lowestOf, openColumns}
+use Rattle.answer_question.specs.Needs.{SetReady}
 use Rattle.answer_question.proofs.AnswerLaws.{zeros-take, cleared, restored}
-use Rattle.sparse.specs.Set.{Set}
-use Rattle.answer_open.specs.Opening.{openCell, EchelonPassed, PivotsReady, ColumnsListed, ColumnsReady, AllColumns}
+use Rattle.answer_open.specs.Opening.{openCell, ColumnsListed, AllColumns}
+use Rattle.answer_open.specs.Needs.{EchelonPassed, PivotsReady, ColumnsReady}
 
 -- a set that is ready to answer has a U that is ready
 pub set-factor : (p n m : ℕ) (s : Set) → SetReady p n m s → EchelonPassed p (s .r) (s .U) (s .C) m
@@ -32,7 +31,7 @@ set-factor p n m s d =
 
 -- the cells depend on r, C and U only
 pub cells-columns : (p m r : ℕ) (R C : List ℕ) (L U : Compressed) → tabulate m (openCell p m (vector C) (matrix U) r) ≡ openColumns p m (setOf r R C L U)
-unfolding openCell openColumns lowest lowestOf
+unfolding openCell openColumns lowestOf
 cells-columns p m r R C L U = refl
 
 module _ (p r : ℕ) (U : Compressed) (C o₀ w₀ : List ℕ) (d : ColumnsReady p r U C o₀ w₀) where

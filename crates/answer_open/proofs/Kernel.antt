@@ -21,7 +21,7 @@ use Rattle.algebra.proofs.Dot.{dot-δ, δ-same, δ-other}
 use Rattle.algebra.proofs.Verdict.{not-both, verdict, closed-answer}
 use Rattle.row_space.proofs.Substitutions.{δ-small}
 use Rattle.row_space.proofs.Solutions.{lowest-cases}
-use Rattle.answer_question.specs.Reducing.{lowestOf}
+use Rattle.row_space.specs.Solve.{lowestOf}
 use Rattle.answer_open.specs.Opening.{openCell}
 
 -- y that is 0 at the pivot columns of the first k rows is not changed by them

@@ -17,8 +17,9 @@ use Rattle.sparse.proofs.Entries.{weigh-dot, row-columns}
 use Rattle.sparse.proofs.Rows.{form-row}
 use Rattle.pluq.proofs.Orders.{permutation-means}
 use Rattle.pluq.proofs.Shapes.{Upper, upper-means}
-use Rattle.answer_open.specs.Counting.{closedOthers, CountReady}
-use Rattle.answer_open.specs.Opening.{openCell, EchelonPassed, Known, PivotCellReady, PivotCell}
+use Rattle.answer_open.specs.Counting.{closedOthers}
+use Rattle.answer_open.specs.Needs.{CountReady, EchelonPassed, Known, PivotCellReady}
+use Rattle.answer_open.specs.Opening.{openCell, PivotCell}
 use Rattle.answer_open.proofs.Kernel.{open-vanishes, vanishes-open, closed-differs, differs-closed}
 use Rattle.answer_open.proofs.CountLaws.{ZeroAtOpen, count-none, count-one}
 

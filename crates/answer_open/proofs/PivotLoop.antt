@@ -16,7 +16,8 @@ use Rattle.algebra.proofs.Finite.{onto}
 use Rattle.sparse.specs.Row.{entry}
 use Rattle.sparse.specs.Matrix.{Compressed, rowOf, matrix}
 use Rattle.sparse.proofs.Entries.{row-columns, values-at, entry-at}
-use Rattle.answer_open.specs.Opening.{openCell, EchelonPassed, Known, PivotCellReady, PivotCell, PivotsReady}
+use Rattle.answer_open.specs.Opening.{openCell, PivotCell}
+use Rattle.answer_open.specs.Needs.{EchelonPassed, Known, PivotCellReady, PivotsReady}
 use Rattle.answer_open.proofs.Kernel.{other-closed}
 use Rattle.answer_open.proofs.PivotLaws.{order, shape, pivot-inside, row-of}
 

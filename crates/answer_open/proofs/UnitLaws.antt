@@ -16,12 +16,14 @@ use Rattle.algebra.proofs.Dot.{δ-other}
 use Rattle.sparse.specs.Row.{Below}
 use Rattle.sparse.specs.Matrix.{Compressed, matrix}
 use Rattle.sparse.proofs.Subtraction.{below-set}
-use Rattle.row_space.specs.Ready.{residues}
+use Rattle.row_space.specs.Substitution.{residues}
 use Rattle.row_space.proofs.Substitutions.{δ-small}
-use Rattle.answer_question.specs.Reducing.{Eliminated, Remains, lowestOf}
+use Rattle.answer_question.specs.Reducing.{Eliminated, Remains}
+use Rattle.row_space.specs.Solve.{lowestOf}
 use Rattle.answer_question.proofs.ReduceLoop.{reducing-turn, residue-cell, lowest-remains}
 use Rattle.answer_question.proofs.AnswerLaws.{unit-cell, cleared}
-use Rattle.answer_open.specs.Opening.{openCell, ReduceFromReady, UnitReady, PivotCell}
+use Rattle.answer_open.specs.Opening.{openCell, PivotCell}
+use Rattle.answer_open.specs.Needs.{ReduceFromReady, UnitReady}
 use Rattle.answer_open.proofs.Kernel.{reduced-kept}
 use Rattle.answer_open.proofs.PivotLaws.{order, pivot-inside}
 

@@ -1,83 +1,37 @@
 -- Which columns are open: the verdicts of the unit questions (document 01's open words).
---   openCell p m C U r j     1 where the unit question at column j is open, 0 where it is closed
---   EchelonPassed p r U C m    U with its column order, as a set that passed has them
---   ReduceFromReady ..             what the reduction of a working row by rows k to r - 1 of U needs
---   UnitReady ..             what the unit question of row k's pivot column needs: the working row is all zero
---   PivotCellReady ..            the same, and the list o has the open columns of the rows after k
---   PivotsReady ..           what all unit questions need, where the working row has a cell for each column
---   ColumnsReady ..          the same, where it may have more
---   Known ..                 o has the verdict of each column of row k but its pivot column
---   PivotCell v r w          the result is v, and the working row is all zero
---   ColumnsListed cells o w        the list o has those cells, and the working row is all zero
---   AllColumns ..            the list o is `openColumns` of every set with this column order and this U, and the working row is all zero
-use Prim.Native.Nat.{ℕ, _*_, _≤_, _<_}
+--   openCell p m C U r j        1 where the unit question at column j is open, 0 where it is closed
+--   ReducesOn p C U k r w₀ w    w stands for y reduced by r rows of U, for each y that w₀ stands for when reduced by k rows
+--   PivotCell v r w             the result is v, and the working row is all zero
+--   ColumnsListed cells o w     the list o has those cells, and the working row is all zero
+--   AllColumns p r C U o w      the list o is `openColumns` of every set with this column order and this U, and the working row is all zero
+use Prim.Native.Nat.{ℕ}
 use mathlib.Core.Path.{_≡_}
-use mathlib.Core.Bool.{true, cond}
+use mathlib.Core.Bool.{cond}
 use mathlib.Core.List.{List}
 use lib.Dec.{leb}
-use lib.ListN.{length, getD}
+use lib.ListN.{length}
 use Rattle.lists.specs.Filled.{zeros}
 use Rattle.algebra.specs.Sum.{δ}
-use Rattle.algebra.specs.Prime.{Prime}
-use Rattle.algebra.specs.Matrix.{Vector, Matrix, vector}
+use Rattle.algebra.specs.Matrix.{Vector, Matrix}
 use Rattle.algebra.specs.Reduction.{reduced}
-use Rattle.sparse.specs.Row.{Below}
-use Rattle.sparse.specs.Matrix.{Compressed, rowOf, matrix, form}
-use Rattle.pluq.specs.Order.{permutation}
-use Rattle.pluq.specs.Shape.{upper}
+use Rattle.sparse.specs.Matrix.{Compressed}
 use Rattle.sparse.specs.Set.{setOf}
-use Rattle.row_space.specs.Solve.{openColumns}
-use Rattle.answer_question.specs.Reducing.{lowestOf}
+use Rattle.row_space.specs.Solve.{lowestOf, openColumns}
+use Rattle.answer_question.specs.Reducing.{Remains}
 
 unfoldable pub openCell : (p m : ℕ) (C : Vector) (U : Matrix) (r j : ℕ) → ℕ
 openCell p m C U r j = cond (leb m (lowestOf m (reduced p C U r (δ j)))) 1 0
 
-pub record EchelonPassed (p r : ℕ) (U : Compressed) (C : List ℕ) (m : ℕ) : Type 0 where
-  pub prime : Prime p
-  pub formed : form p m U ≡ true
-  pub rows : r < length (U .starts)
-  pub columns : permutation C ≡ true
-  pub long : length C ≡ m
-  pub rank : r ≤ m
-  pub shaped : upper r (vector C) (matrix U) ≡ true
-
-pub record ReduceFromReady (p k r : ℕ) (U : Compressed) (C w : List ℕ) : Type 0 where
-  pub factor : EchelonPassed p r U C (length w)
-  pub inside : k ≤ r
-  pub below : Below (p * p) w
-
-pub record UnitReady (p k r : ℕ) (U : Compressed) (C w : List ℕ) : Type 0 where
-  pub factor : EchelonPassed p r U C (length w)
-  pub inside : k < r
-  pub clear : w ≡ zeros (length w)
-
-abbrev pub Known : (p r : ℕ) (U : Compressed) (C : List ℕ) (k : ℕ) (o : List ℕ) → Type 0
-Known p r U C k o =
-    (t : ℕ) → t < length (rowOf (U .starts) k (U .cols)) → (getD (rowOf (U .starts) k (U .cols)) t 0 ≡ getD C k 0 → ⊥)
-    → getD o (getD (rowOf (U .starts) k (U .cols)) t 0) 0 ≡ openCell p (length o) (vector C) (matrix U) r (getD (rowOf (U .starts) k (U .cols)) t 0)
-
-pub record PivotCellReady (p k r : ℕ) (U : Compressed) (C o w : List ℕ) : Type 0 where
-  pub unit : UnitReady p k r U C w
-  pub long : length o ≡ length w
-  pub known : Known p r U C k o
+abbrev pub ReducesOn : (p : ℕ) (C : Vector) (U : Matrix) (k r : ℕ) (w₀ w : List ℕ) → Type 0
+ReducesOn p C U k r w₀ w = (y : Vector) → Remains p C U k y w₀ → Remains p C U r y w
 
 pub record PivotCell (v r : ℕ) (w : List ℕ) : Type 0 where
   pub value : r ≡ v
   pub row : w ≡ zeros (length w)
 
-pub record PivotsReady (p r : ℕ) (U : Compressed) (C o w : List ℕ) : Type 0 where
-  pub factor : EchelonPassed p r U C (length o)
-  pub long : length o ≡ length w
-  pub clear : w ≡ zeros (length w)
-
 pub record ColumnsListed (cells o w : List ℕ) : Type 0 where
   pub list : o ≡ cells
   pub row : w ≡ zeros (length w)
-
-pub record ColumnsReady (p r : ℕ) (U : Compressed) (C o w : List ℕ) : Type 0 where
-  pub factor : EchelonPassed p r U C (length o)
-  pub room : length o ≤ length w
-  pub clear : w ≡ zeros (length w)
 
 pub record AllColumns (p r : ℕ) (C : List ℕ) (U : Compressed) (o w : List ℕ) : Type 0 where
   pub list : (R : List ℕ) (L : Compressed) → o ≡ openColumns p (length o) (setOf r R C L U)

@@ -1,10 +1,9 @@
 // All open columns, from the last row of U up.
 ghost use lib.ListN.{length, getD};
 ghost use Rattle.lists.specs.Tabulate.{tabulate};
-ghost use Rattle.algebra.specs.Matrix.{vector};
-ghost use Rattle.sparse.specs.Matrix.{matrix};
-ghost use Rattle.sparse.specs.Views.{before, after, viewAt, viewBefore, viewedAt, viewedBefore};
-ghost use Rattle.answer_open.specs.Opening.{openCell, PivotCellReady, PivotCell, PivotsReady, ColumnsListed, ColumnsReady, AllColumns};
+ghost use Rattle.sparse.specs.Views.{before, after, viewAt, viewBefore, viewedAt, viewedBefore, vectorBefore, matrixBefore};
+ghost use Rattle.answer_open.specs.Opening.{openCell, PivotCell, ColumnsListed, AllColumns};
+ghost use Rattle.answer_open.specs.Needs.{PivotCellReady, PivotsReady, ColumnsReady};
 use crate::count::row_closed;
 use crate::unit::unit_open;
 use lists::clear;
@@ -30,7 +29,7 @@ fn pivot_open(
     work: &mut [u64],
 ) -> u32
     requires { ⌜ PivotCellReady (q .p) k r (viewedAt us usb uc ucb uv uvb) (viewAt co cob) (now marks) (now work) ⌝ }
-    ensures { λ v. ⌜ PivotCell (openCell (q .p) (length (before work)) (vector (viewBefore co cob)) (matrix (viewedBefore us usb uc ucb uv uvb)) r (getD (viewBefore co cob) k 0)) v (after work) ⌝ }
+    ensures { λ v. ⌜ PivotCell (openCell (q .p) (length (before work)) (vectorBefore co cob) (matrixBefore us usb uc ucb uv uvb) r (getD (viewBefore co cob) k 0)) v (after work) ⌝ }
 {
     let d = word(co, cob, k);
     let closed = row_closed(us, usb, uc, ucb, uv, uvb, marks, q.p, k, d);
@@ -59,7 +58,7 @@ fn open_pivots(
     work: &mut [u64],
 )
     requires { ⌜ PivotsReady (q .p) r (viewedAt us usb uc ucb uv uvb) (viewAt co cob) (now marks) (now work) ⌝ }
-    ensures { λ _. ⌜ ColumnsListed (tabulate (length (before marks)) (openCell (q .p) (length (before marks)) (vector (viewBefore co cob)) (matrix (viewedBefore us usb uc ucb uv uvb)) r)) (after marks) (after work) ⌝ }
+    ensures { λ _. ⌜ ColumnsListed (tabulate (length (before marks)) (openCell (q .p) (length (before marks)) (vectorBefore co cob) (matrixBefore us usb uc ucb uv uvb) r)) (after marks) (after work) ⌝ }
 {
     clear(marks);
     let mut k = r;

@@ -1,10 +1,8 @@
 // The unit question of a pivot column, answered by reduction.
 ghost use lib.ListN.{length, getD};
-ghost use Rattle.algebra.specs.Matrix.{Vector, vector};
-ghost use Rattle.sparse.specs.Matrix.{matrix};
-ghost use Rattle.sparse.specs.Views.{before, after, viewAt, viewBefore, viewedAt, viewedBefore};
-ghost use Rattle.answer_question.specs.Reducing.{Remains};
-ghost use Rattle.answer_open.specs.Opening.{openCell, ReduceFromReady, UnitReady, PivotCell};
+ghost use Rattle.sparse.specs.Views.{before, after, viewAt, viewBefore, viewedAt, vectorBefore, matrixBefore};
+ghost use Rattle.answer_open.specs.Opening.{openCell, ReducesOn, PivotCell};
+ghost use Rattle.answer_open.specs.Needs.{ReduceFromReady, UnitReady};
 use answer_question::reduce::lowest_nonzero;
 use answer_question::reduce::reduce_by_row;
 use lists::clear_row;
@@ -28,7 +26,7 @@ fn reduce_from(
     work: &mut [u64],
 )
     requires { ⌜ ReduceFromReady (q .p) k r (viewedAt us usb uc ucb uv uvb) (viewAt co cob) (now work) ⌝ }
-    ensures { λ _. ⌜ ((y : Vector) → Remains (q .p) (vector (viewBefore co cob)) (matrix (viewedBefore us usb uc ucb uv uvb)) k y (before work) → Remains (q .p) (vector (viewBefore co cob)) (matrix (viewedBefore us usb uc ucb uv uvb)) r y (after work)) ⌝ }
+    ensures { λ _. ⌜ ReducesOn (q .p) (vectorBefore co cob) (matrixBefore us usb uc ucb uv uvb) k r (before work) (after work) ⌝ }
 {
     let mut i = k;
     while i < r {
@@ -54,7 +52,7 @@ pub fn unit_open(
     work: &mut [u64],
 ) -> u32
     requires { ⌜ UnitReady (q .p) k r (viewedAt us usb uc ucb uv uvb) (viewAt co cob) (now work) ⌝ }
-    ensures { λ v. ⌜ PivotCell (openCell (q .p) (length (before work)) (vector (viewBefore co cob)) (matrix (viewedBefore us usb uc ucb uv uvb)) r (getD (viewBefore co cob) k 0)) v (after work) ⌝ }
+    ensures { λ v. ⌜ PivotCell (openCell (q .p) (length (before work)) (vectorBefore co cob) (matrixBefore us usb uc ucb uv uvb) r (getD (viewBefore co cob) k 0)) v (after work) ⌝ }
 {
     let m = work.len();
     let j = index(word(co, cob, k));

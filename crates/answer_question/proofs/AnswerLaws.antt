@@ -20,19 +20,19 @@ use Rattle.sparse.specs.Row.{Below}
 use Rattle.sparse.specs.Matrix.{Compressed, matrix}
 use Rattle.sparse.specs.Set.{Set}
 use Rattle.sparse.proofs.Subtraction.{below-set}
-use Rattle.row_space.specs.Substitution.{backL, backU}
-use Rattle.row_space.specs.Solve.{coefficients, lowest, opened, closed, solve}
-use Rattle.row_space.specs.Ready.{residues, LowerOrder, UpperReady}
+use Rattle.row_space.specs.Substitution.{backU, throughL, throughU, residues}
+use Rattle.row_space.specs.Solve.{remainder, multiplesOf, lowestOf, opened, closed, solve}
+use Rattle.row_space.specs.Needs.{LowerOrder, UpperReady}
 use Rattle.row_space.proofs.LowerLoop.{backL-ext}
 use Rattle.row_space.proofs.UpperLoop.{backU-ext}
-use Rattle.answer_question.specs.Reducing.{MultiplesReady, Reduced, lowestOf, QuestionReady, QuestionReduced}
-use Rattle.answer_question.specs.Answering.{OpenReady, ClosedReady}
+use Rattle.answer_question.specs.Needs.{MultiplesReady, QuestionReady, OpenReady, ClosedReady}
+use Rattle.answer_question.specs.Reducing.{Reduced, QuestionReduced}
 use Rattle.answer_question.proofs.ReduceLoop.{residue-cell, lowest-remains}
 
 -- ---- x and z depend on the cells that are read only
 
 pub x-ext : (n r : ℕ) (R : Vector) (p : ℕ) (L : Matrix) (d d′ : Vector) → ((l : ℕ) → l < r → d l ≡ d′ l)
-    → tabulate n (place r R (backL p L r d)) ≡ tabulate n (place r R (backL p L r d′))
+    → throughL p n r R L d ≡ throughL p n r R L d′
 x-ext n r R p L d d′ h = λ j. tabulate n (place r R (λ i. backL-ext p L r d d′ h i j))
 
 pub residues-take : (p n : ℕ) (l : List ℕ) (i : ℕ) → i < n → residues p (take n l) i ≡ residues p l i
@@ -46,30 +46,32 @@ unit-cell m j t h = elim (ℕ-discrete j t) [
 ]
 
 pub z-unit : (p m : ℕ) (C : Vector) (U : Matrix) (r j : ℕ) → j < m
-    → tabulate m (backU p m C U r (vector (set (zeros m) j 1))) ≡ tabulate m (backU p m C U r (δ j))
+    → throughU p m r C U (vector (set (zeros m) j 1)) ≡ throughU p m r C U (δ j)
 z-unit p m C U r j h =
     tabulate-ext m (backU p m C U r (vector (set (zeros m) j 1))) (backU p m C U r (δ j))
     (backU-ext p m C U r (vector (set (zeros m) j 1)) (δ j) (λ t b. unit-cell m j t h))
 
 -- ---- the two cases of `solve`
 
-module _ (p n m : ℕ) (s : Set) (y : Vector) (j : ℕ) (e : j ≡ lowestOf m (reduced p (vector (s .C)) (matrix (s .U)) (s .r) y)) where
-  is-lowest : j ≡ lowest p m s y
-  unfolding lowest lowestOf
-  is-lowest = e
+module _ (p n m : ℕ) (s : Set) (y : Vector) (j : ℕ) (e : j ≡ lowestOf m (remainder p s y)) where
+  abbrev x-open : List ℕ
+  x-open = throughL p n (s .r) (vector (s .R)) (matrix (s .L)) (multiplesOf p s y)
 
-  pub solve-is-open : m ≤ j → solve p n m s y ≡ opened m (tabulate n (place (s .r) (vector (s .R)) (backL p (matrix (s .L)) (s .r) (coefficients p s y))))
+  abbrev z-closed : ℕ → List ℕ
+  z-closed i = throughU p m (s .r) (vector (s .C)) (matrix (s .U)) (δ i)
+
+  pub solve-is-open : m ≤ j → solve p n m s y ≡ opened m x-open
   unfolding solve
   solve-is-open h =
-      ap (λ (b : Bool). cond b (opened m (tabulate n (place (s .r) (vector (s .R)) (backL p (matrix (s .L)) (s .r) (coefficients p s y))))) (closed n (tabulate m (backU p m (vector (s .C)) (matrix (s .U)) (s .r) (δ (lowest p m s y))))))
-      (le-leb m (lowest p m s y) (omega (arith, is-lowest)))
+      ap (λ (b : Bool). cond b (opened m x-open) (closed n (z-closed (lowestOf m (remainder p s y)))))
+      (le-leb m (lowestOf m (remainder p s y)) (omega (arith, e)))
 
-  pub solve-is-closed : j < m → solve p n m s y ≡ closed n (tabulate m (backU p m (vector (s .C)) (matrix (s .U)) (s .r) (δ j)))
+  pub solve-is-closed : j < m → solve p n m s y ≡ closed n (z-closed j)
   unfolding solve
   solve-is-closed h =
-      ap (λ (b : Bool). cond b (opened m (tabulate n (place (s .r) (vector (s .R)) (backL p (matrix (s .L)) (s .r) (coefficients p s y))))) (closed n (tabulate m (backU p m (vector (s .C)) (matrix (s .U)) (s .r) (δ (lowest p m s y))))))
-      (lt-leb m (lowest p m s y) (omega (arith, is-lowest)))
-      ∙ ap (λ (i : ℕ). closed n (tabulate m (backU p m (vector (s .C)) (matrix (s .U)) (s .r) (δ i)))) (sym is-lowest)
+      ap (λ (b : Bool). cond b (opened m x-open) (closed n (z-closed (lowestOf m (remainder p s y)))))
+      (lt-leb m (lowestOf m (remainder p s y)) (omega (arith, e)))
+      ∙ ap (λ (i : ℕ). closed n (z-closed i)) (sym e)
 
 -- ---- cleared lists
 
@@ -147,11 +149,11 @@ module _ (p : ℕ) (L : Compressed) (R x₀ z₀ w₀ w₁ x₁ : List ℕ) (d :
         clear = cleared x₁ (length x₀) clear;
       }
 
-  pub open-done : (x₂ : List ℕ) → x₂ ≡ tabulate (length x₁) (place (length w₁) (vector R) (backL p (matrix L) (length w₁) (residues p w₁)))
-      → x₂ ≡ tabulate (length x₀) (place (length w₀) (vector R) (backL p (matrix L) (length w₀) (residues p z₀)))
+  pub open-done : (x₂ : List ℕ) → x₂ ≡ throughL p (length x₁) (length w₁) (vector R) (matrix L) (residues p w₁)
+      → x₂ ≡ throughL p (length x₀) (length w₀) (vector R) (matrix L) (residues p z₀)
   open-done x₂ e =
       e
-      ∙ (λ i. tabulate (long-x i) (place (long-w i) (vector R) (backL p (matrix L) (long-w i) (residues p (loaded i)))))
+      ∙ (λ i. throughL p (long-x i) (long-w i) (vector R) (matrix L) (residues p (loaded i)))
       ∙ x-ext (length x₀) (length w₀) (vector R) p (matrix L) (residues p (take (length w₀) z₀)) (residues p z₀) (residues-take p (length w₀) z₀)
 
 -- ---- closed
@@ -171,9 +173,9 @@ module _ (p r j : ℕ) (U : Compressed) (C z₀ z₁ : List ℕ) (d : ClosedRead
         small = below-set p z₁ j 1 (λ i h. omega (arith, d .prime .two, ap (λ (l : List ℕ). getD l i 0) clear ∙ zeros-at (length z₀) i)) (d .prime .two);
       }
 
-  pub closed-done : (z₂ : List ℕ) → z₂ ≡ tabulate (length (set z₁ j 1)) (backU p (length (set z₁ j 1)) (vector C) (matrix U) r (vector (set z₁ j 1)))
-      → z₂ ≡ tabulate (length z₀) (backU p (length z₀) (vector C) (matrix U) r (δ j))
+  pub closed-done : (z₂ : List ℕ) → z₂ ≡ throughU p (length (set z₁ j 1)) r (vector C) (matrix U) (vector (set z₁ j 1))
+      → z₂ ≡ throughU p (length z₀) r (vector C) (matrix U) (δ j)
   closed-done z₂ e =
       e
-      ∙ (λ i. tabulate (long-z i) (backU p (long-z i) (vector C) (matrix U) r (vector (set (clear i) j 1))))
+      ∙ (λ i. throughU p (long-z i) r (vector C) (matrix U) (vector (set (clear i) j 1)))
       ∙ z-unit p (length z₀) (vector C) (matrix U) r j (d .inside)

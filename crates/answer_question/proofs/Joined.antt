@@ -7,8 +7,7 @@ use native.Mathlib.Omega.{arith}
 use lib.ListN.{length, take, drop}
 use lib.Seq.{length-take-le}
 use Rattle.lists.specs.Filled.{zeros}
-use Rattle.lists.specs.Tabulate.{tabulate}
-use Rattle.algebra.specs.Sum.{δ, place}
+use Rattle.algebra.specs.Sum.{δ}
 use Rattle.algebra.specs.Matrix.{vector}
 use Rattle.algebra.specs.Reduction.{reduced}
 use Rattle.algebra.proofs.Reduction.{reduced-small}
@@ -16,12 +15,12 @@ use Rattle.sparse.specs.Row.{Below}
 use Rattle.sparse.specs.Matrix.{matrix}
 use Rattle.sparse.specs.Set.{Set}
 use Rattle.pluq.proofs.Orders.{permutation-means}
-use Rattle.row_space.specs.Substitution.{backL, backU}
-use Rattle.row_space.specs.Solve.{coefficients, solve}
-use Rattle.row_space.specs.Ready.{residues}
+use Rattle.row_space.specs.Substitution.{throughL, throughU, residues}
+use Rattle.row_space.specs.Solve.{multiplesOf, remainder, lowestOf, solve}
 use Rattle.row_space.specs.declared.Verdict.the-variants.{Open, Closed}
-use Rattle.answer_question.specs.Reducing.{lowestOf, QuestionReady, QuestionReduced}
-use Rattle.answer_question.specs.Answering.{OpenReady, Opened, ClosedReady, ClosedAs, AnswerReady, Answered}
+use Rattle.answer_question.specs.Needs.{QuestionReady, OpenReady, ClosedReady, AnswerReady}
+use Rattle.answer_question.specs.Reducing.{QuestionReduced}
+use Rattle.answer_question.specs.Answering.{Opened, ClosedAs, Answered}
 use Rattle.answer_question.proofs.AnswerLaws.{x-ext, solve-is-open, solve-is-closed, cleared, restored}
 
 module _ (p : ℕ) (s : Set) (y x₀ z₀ w₀ : List ℕ) (d : AnswerReady p s y x₀ z₀ w₀) where
@@ -62,8 +61,8 @@ module _ (p : ℕ) (s : Set) (y x₀ z₀ w₀ : List ℕ) (d : AnswerReady p s 
     pub row-again : part ++ drop (length z₀) w₀ ≡ w₀
     row-again = restored m w₀ part (d .room) (d .clear) wide (t .row)
 
-    lowest-is : j ≡ lowestOf m (reduced p (vector (s .C)) (matrix (s .U)) (s .r) (vector y))
-    lowest-is = t .lowest ∙ ap (λ (i : ℕ). lowestOf i (reduced p (vector (s .C)) (matrix (s .U)) (s .r) (vector y))) wide
+    lowest-is : j ≡ lowestOf m (remainder p s (vector y))
+    lowest-is = t .lowest ∙ ap (λ (i : ℕ). lowestOf i (remainder p s (vector y))) wide
 
     pub answer-closes : j < length z₀ → ClosedReady p (s .r) j (s .U) (s .C) z₁
     answer-closes h =
@@ -77,14 +76,14 @@ module _ (p : ℕ) (s : Set) (y x₀ z₀ w₀ : List ℕ) (d : AnswerReady p s 
         }
 
     pub answer-closed : (x₂ z₂ : List ℕ) → j < length z₀ → length x₂ ≡ length x₀
-        → ClosedAs (tabulate (length z₁) (backU p (length z₁) (vector (s .C)) (matrix (s .U)) (s .r) (δ j))) x₂ z₂
+        → ClosedAs (throughU p (length z₁) (s .r) (vector (s .C)) (matrix (s .U)) (δ j)) x₂ z₂
         → Answered (solve p (length x₀) (length z₀) s (vector y)) Closed x₂ z₂ (part ++ drop (length z₀) w₀)
     answer-closed x₂ z₂ h long a =
         rw (solve-is-closed p n m s (vector y) j lowest-is h)
         (record {
           verdict = refl;
           x-is = a .x-is ∙ ap zeros long;
-          z-is = a .z-is ∙ ap (λ (i : ℕ). tabulate i (backU p i (vector (s .C)) (matrix (s .U)) (s .r) (δ j))) long-z;
+          z-is = a .z-is ∙ ap (λ (i : ℕ). throughU p i (s .r) (vector (s .C)) (matrix (s .U)) (δ j)) long-z;
           row = cleared (part ++ drop m w₀) (length w₀) (row-again ∙ d .clear);
         })
 
@@ -116,7 +115,7 @@ module _ (p : ℕ) (s : Set) (y x₀ z₀ w₀ : List ℕ) (d : AnswerReady p s 
         }
 
     pub answer-opened : (x₂ z₂ part₂ : List ℕ) → length z₀ ≤ j → length z₂ ≡ length z₀ → length part₂ ≡ length (take (s .r) (part ++ drop (length z₀) w₀))
-        → Opened (tabulate (length x₀) (place (length (take (s .r) (part ++ drop (length z₀) w₀))) (vector (s .R)) (backL p (matrix (s .L)) (length (take (s .r) (part ++ drop (length z₀) w₀))) (residues p z₁)))) x₂ z₂ part₂
+        → Opened (throughL p (length x₀) (length (take (s .r) (part ++ drop (length z₀) w₀))) (vector (s .R)) (matrix (s .L)) (residues p z₁)) x₂ z₂ part₂
         → Answered (solve p (length x₀) (length z₀) s (vector y)) Open x₂ z₂ (part₂ ++ drop (s .r) (part ++ drop (length z₀) w₀))
     answer-opened x₂ z₂ part₂ h long-z₂ long-part₂ a =
         rw (solve-is-open p n m s (vector y) j lowest-is h)
@@ -124,8 +123,8 @@ module _ (p : ℕ) (s : Set) (y x₀ z₀ w₀ : List ℕ) (d : AnswerReady p s 
           verdict = refl;
           x-is =
               a .x-is
-              ∙ ap (λ (i : ℕ). tabulate n (place i (vector (s .R)) (backL p (matrix (s .L)) i (residues p z₁)))) (rank-part .1)
-              ∙ x-ext n (s .r) (vector (s .R)) p (matrix (s .L)) (residues p z₁) (coefficients p s (vector y))
+              ∙ ap (λ (i : ℕ). throughL p n i (vector (s .R)) (matrix (s .L)) (residues p z₁)) (rank-part .1)
+              ∙ x-ext n (s .r) (vector (s .R)) p (matrix (s .L)) (residues p z₁) (multiplesOf p s (vector y))
               (λ l b. ap (λ (v : ℕ). v % p) (t .multiples l b) ∙ mod-eq-of-lt (multiple-small l b));
           z-is = a .z-is ∙ ap zeros long-z₂;
           row =

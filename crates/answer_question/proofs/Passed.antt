@@ -21,7 +21,7 @@ use Rattle.pluq.specs.Shape.{lower, upper}
 use Rattle.pluq.specs.Judge.{judge, judgeFactors}
 use Rattle.refusals.proofs.Refusals.{unless-passed}
 use Rattle.row_space.specs.Question.{questionOutcome}
-use Rattle.answer_question.specs.Answering.{SetReady}
+use Rattle.answer_question.specs.Needs.{SetReady}
 
 pub passed-ready : (p n m : ℕ) (A : Compressed) (s : Set) → Prime p
     → length (s .R) ≡ n → length (s .C) ≡ m → length (s .L .starts) ≡ n + 1 → length (s .U .starts) ≡ s .r + 1

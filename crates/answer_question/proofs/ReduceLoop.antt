@@ -16,9 +16,10 @@ use Rattle.sparse.specs.Row.{Below}
 use Rattle.sparse.specs.Matrix.{Compressed, matrix}
 use Rattle.sparse.specs.WorkingRow.{Subtracted}
 use Rattle.sparse.proofs.Subtraction.{subtracted-none, subtracted-ext}
-use Rattle.row_space.specs.Ready.{residues}
+use Rattle.row_space.specs.Substitution.{residues}
 use Rattle.row_space.proofs.LowerLoop.{subtracted-less}
-use Rattle.answer_question.specs.Reducing.{Eliminated, Remains, Multiples, Reduced, lowestOf}
+use Rattle.answer_question.specs.Reducing.{Eliminated, Remains, Multiples, Reduced}
+use Rattle.row_space.specs.Solve.{lowestOf}
 
 -- a residue is a cell
 pub residue-cell : (p x : ℕ) → x < p → x < p * p

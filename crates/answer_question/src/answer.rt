@@ -1,14 +1,12 @@
 // The answer to a question from a set that passed, in place in the lent lists x and z.
 ghost use lib.ListN.{length};
-ghost use Rattle.lists.specs.Tabulate.{tabulate};
-ghost use Rattle.algebra.specs.Sum.{δ, place};
+ghost use Rattle.algebra.specs.Sum.{δ};
 ghost use Rattle.algebra.specs.Matrix.{vector};
-ghost use Rattle.sparse.specs.Matrix.{matrix};
-ghost use Rattle.sparse.specs.Views.{before, after, viewAt, viewBefore, viewedAt, viewedBefore, viewedSetAt, viewedSetBefore};
-ghost use Rattle.row_space.specs.Substitution.{backL, backU};
+ghost use Rattle.sparse.specs.Views.{before, after, viewAt, viewedAt, viewedSetAt, viewedSetBefore, vectorBefore, matrixBefore};
+ghost use Rattle.row_space.specs.Substitution.{throughL, throughU, residues};
 ghost use Rattle.row_space.specs.Solve.{solve};
-ghost use Rattle.row_space.specs.Ready.{residues};
-ghost use Rattle.answer_question.specs.Answering.{OpenReady, Opened, ClosedReady, ClosedAs, AnswerReady, Answered};
+ghost use Rattle.answer_question.specs.Needs.{OpenReady, ClosedReady, AnswerReady};
+ghost use Rattle.answer_question.specs.Answering.{Opened, ClosedAs, Answered};
 use crate::reduce::load;
 use crate::reduce::reduce_question;
 use lists::clear;
@@ -33,7 +31,7 @@ pub fn open_answer(
     work: &mut [u64],
 )
     requires { ⌜ OpenReady (q .p) (viewedAt ls lsb lc lcb lv lvb) (viewAt ro rob) (now x) (now z) (now work) ⌝ }
-    ensures { λ _. ⌜ Opened (tabulate (length (before x)) (place (length (before work)) (vector (viewBefore ro rob)) (backL (q .p) (matrix (viewedBefore ls lsb lc lcb lv lvb)) (length (before work)) (residues (q .p) (before z))))) (after x) (after z) (after work) ⌝ }
+    ensures { λ _. ⌜ Opened (throughL (q .p) (length (before x)) (length (before work)) (vectorBefore ro rob) (matrixBefore ls lsb lc lcb lv lvb) (residues (q .p) (before z))) (after x) (after z) (after work) ⌝ }
 {
     load(z, work);
     clear(x);
@@ -58,7 +56,7 @@ pub fn closed_answer(
     z: &mut [u32],
 )
     requires { ⌜ ClosedReady (q .p) r j (viewedAt us usb uc ucb uv uvb) (viewAt co cob) (now z) ⌝ }
-    ensures { λ _. ⌜ ClosedAs (tabulate (length (before z)) (backU (q .p) (length (before z)) (vector (viewBefore co cob)) (matrix (viewedBefore us usb uc ucb uv uvb)) r (δ j))) (after x) (after z) ⌝ }
+    ensures { λ _. ⌜ ClosedAs (throughU (q .p) (length (before z)) r (vectorBefore co cob) (matrixBefore us usb uc ucb uv uvb) (δ j)) (after x) (after z) ⌝ }
 {
     clear(x);
     clear(z);

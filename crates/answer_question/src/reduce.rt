@@ -3,9 +3,10 @@ ghost use mathlib.Core.Path.{_≡_};
 ghost use Prim.Native.Nat.{_%_, _≤_, _<_};
 ghost use lib.ListN.{length, getD, take};
 ghost use Rattle.algebra.specs.Matrix.{vector};
-ghost use Rattle.sparse.specs.Matrix.{matrix};
-ghost use Rattle.sparse.specs.Views.{before, after, viewAt, viewBefore, viewedAt, viewedBefore};
-ghost use Rattle.answer_question.specs.Reducing.{EliminationReady, Eliminated, MultiplesReady, Reduced, lowestOf, QuestionReady, QuestionReduced};
+ghost use Rattle.sparse.specs.Views.{before, after, viewAt, viewedAt, viewedBefore, vectorBefore, matrixBefore};
+ghost use Rattle.answer_question.specs.Needs.{EliminationReady, MultiplesReady, QuestionReady};
+ghost use Rattle.answer_question.specs.Reducing.{Eliminated, Reduced, QuestionReduced};
+ghost use Rattle.row_space.specs.Solve.{lowestOf};
 use lists::clear_row;
 use lists::index;
 use residue::Modulus;
@@ -65,7 +66,7 @@ pub fn reduce(
     work: &mut [u64],
 )
     requires { ⌜ MultiplesReady (q .p) r (viewedAt us usb uc ucb uv uvb) (viewAt co cob) (now multiples) (now work) ⌝ }
-    ensures { λ _. ⌜ Reduced (q .p) (vector (viewBefore co cob)) (matrix (viewedBefore us usb uc ucb uv uvb)) r (vector (before work)) (after multiples) (after work) ⌝ }
+    ensures { λ _. ⌜ Reduced (q .p) (vectorBefore co cob) (matrixBefore us usb uc ucb uv uvb) r (vector (before work)) (after multiples) (after work) ⌝ }
 {
     let mut k = 0;
     while k < r {
@@ -100,7 +101,7 @@ pub fn reduce_question(
     work: &mut [u64],
 ) -> usize
     requires { ⌜ QuestionReady (q .p) r (viewedAt us usb uc ucb uv uvb) (viewAt co cob) (now y) (now multiples) (now work) ⌝ }
-    ensures { λ j. ⌜ QuestionReduced (q .p) (vector (viewBefore co cob)) (matrix (viewedBefore us usb uc ucb uv uvb)) r (vector (before y)) (after multiples) (after work) j ⌝ }
+    ensures { λ j. ⌜ QuestionReduced (q .p) (vectorBefore co cob) (matrixBefore us usb uc ucb uv uvb) r (vector (before y)) (after multiples) (after work) j ⌝ }
 {
     load(y, work);
     reduce(q, us, usb, uc, ucb, uv, uvb, co, cob, r, multiples, work);

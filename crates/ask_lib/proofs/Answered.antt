@@ -18,7 +18,7 @@ use Rattle.algebra.specs.Matrix.{Vector, vector}
 use Rattle.sparse.specs.Matrix.{Compressed, matrix}
 use Rattle.sparse.specs.Set.{Set}
 use Rattle.row_space.specs.Substitution.{backL, backU}
-use Rattle.row_space.specs.Solve.{Solved, coefficients, opened, closed, lowest, solve}
+use Rattle.row_space.specs.Solve.{remainder, multiplesOf, lowestOf, Solved, opened, closed, solve}
 use Rattle.row_space.specs.declared.Verdict.{Verdict}
 use Rattle.limits.specs.Limits.{workLength}
 use Rattle.call_check.specs.Calls.{checkFactorsOf}
@@ -39,13 +39,13 @@ Sized n m a = (length (a .x) ≡ n) × (length (a .z) ≡ m)
 
 pub solved-sized : (p n m : ℕ) (s : Set) (y : Vector) → Sized n m (solve p n m s y)
 unfolding solve
-solved-sized p n m s y = go (leb m (lowest p m s y))
+solved-sized p n m s y = go (leb m (lowestOf m (remainder p s y)))
   where
     x : ℕ → ℕ
-    x = place (s .r) (vector (s .R)) (backL p (matrix (s .L)) (s .r) (coefficients p s y))
+    x = place (s .r) (vector (s .R)) (backL p (matrix (s .L)) (s .r) (multiplesOf p s y))
 
     z : ℕ → ℕ
-    z = backU p m (vector (s .C)) (matrix (s .U)) (s .r) (δ (lowest p m s y))
+    z = backU p m (vector (s .C)) (matrix (s .U)) (s .r) (δ (lowestOf m (remainder p s y)))
 
     go : (t : Bool) → Sized n m (cond t (opened m (tabulate n x)) (closed n (tabulate m z)))
     go true = (length-tabulate n x, length-zeros m)

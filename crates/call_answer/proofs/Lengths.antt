@@ -27,18 +27,11 @@ module _ (n m : ℕ) (y : List ℕ) (a b : ℕ) where
 
 -- ---- what passed
 
--- a question of the right lengths
-pub record Long (n m : ℕ) (y : List ℕ) (a b : ℕ) : Type 0 where
-  pub values : length y ≡ m
-  pub rows : a ≡ n
-  pub columns : b ≡ m
-
-pub lengths-are : (n m : ℕ) (y : List ℕ) (a b : ℕ) → questionLengths n m y a b ≡ true → Long n m y a b
+pub lengths-are : (n m : ℕ) (y : List ℕ) (a b : ℕ) → questionLengths n m y a b ≡ true → (length y ≡ m) × (a ≡ n) × (b ≡ m)
 unfolding questionLengths
 lengths-are n m y a b h =
-    let cells = and-right (eqb (length y) m) (eqb a n && eqb b m) h in
-    record {
-      values = eqb-true (length y) m (and-left (eqb (length y) m) (eqb a n && eqb b m) h);
-      rows = eqb-true a n (and-left (eqb a n) (eqb b m) cells);
-      columns = eqb-true b m (and-right (eqb a n) (eqb b m) cells);
-    }
+    let cells = and-right (eqb (length y) m) (eqb a n && eqb b m) h in (
+      eqb-true (length y) m (and-left (eqb (length y) m) (eqb a n && eqb b m) h),
+      eqb-true a n (and-left (eqb a n) (eqb b m) cells),
+      eqb-true b m (and-right (eqb a n) (eqb b m) cells),
+    )

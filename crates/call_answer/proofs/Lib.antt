@@ -1,4 +1,3 @@
-pub mod Checked
 pub mod Lengths
 pub mod Ways
 pub mod Theorems

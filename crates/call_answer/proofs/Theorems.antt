@@ -35,10 +35,9 @@ use Rattle.sparse.specs.Matrix.{Compressed, matrix}
 use Rattle.sparse.specs.Set.{Set}
 use Rattle.pluq.specs.Judge.{Passes}
 use Rattle.row_space.specs.Question.{questionOutcome}
-use Rattle.row_space.specs.Solve.{Solved, solve, lowest}
+use Rattle.row_space.specs.Solve.{Solved, solve, remainder, lowestOf}
 use Rattle.row_space.specs.declared.Verdict.{Verdict}
 use Rattle.row_space.proofs.Theorems as sets
-use Rattle.answer_question.proofs.Passed.{question-passed}
 use Rattle.certificate.specs.Layout.{Sized}
 use Rattle.certificate.specs.Reading.{headerOk, setOfCertificate}
 use Rattle.limits.specs.Limits.{workLength}
@@ -49,7 +48,7 @@ use Rattle.call_check.proofs.Theorems.{factors-none, certificate-none, stored-p
 use Rattle.call_answer.specs.Calls.{answerNumber, answerOf, questionLengths, questionAfter, given, answerFactorsOf, answerCertificateOf, Answers}
 use Rattle.call_answer.specs.Meaning.{Askable, LeftOpen, LeftClosed, AnswersRight, AnswerOf, fromStored, fromBytes}
 use Rattle.call_answer.specs.declared.Answer.{Answer}
-use Rattle.call_answer.proofs.Checked.{Checked, SetTest, stored-test, bytes-test}
+use Rattle.call_check.proofs.Checked.{Checked, SetTest, stored-test, bytes-test}
 use Rattle.call_answer.proofs.Ways.{asked-parts}
 
 -- ---- verdicts and answers
@@ -128,8 +127,8 @@ module _ (X : Type 0) (p n m : ℕ) (A : Compressed) (s : Set) (y : List ℕ) (r
   unfolding questionAfter
   answered = (
     (λ e.
-        let (long, judged, small) = asked-parts (t .check) p n m y (length x₀) (length z₀) (asked-passed .0 e) in
-        (t .exactly .0 judged, record { values = long .values; rows = long .rows; columns = long .columns; residues = question-passed p y small })),
+        let (ask, judged) = asked-parts (t .check) p n m y (length x₀) (length z₀) (asked-passed .0 e) in
+        (t .exactly .0 judged, ask)),
     λ h.
         asked-passed .1
         (unless-holds (questionLengths n m y (length x₀) (length z₀)) 9 0 (t .check ▷ questionOutcome p y) (askable-lengths p n m y (length x₀) (length z₀) (h .1))
@@ -199,7 +198,7 @@ module _ (X : Type 0) (p n m : ℕ) (A : Compressed) (s : Set) (y : List ℕ) (r
         let is-z = z-left long in
         record {
           length-z = ap length is-z ∙ long;
-          answer = subst (λ (l : List ℕ). ClosedAnswer p n m (s .r) (matrix A) (vector (s .C)) (lowest p m s (vector y)) (vector l)) (sym is-z) right;
+          answer = subst (λ (l : List ℕ). ClosedAnswer p n m (s .r) (matrix A) (vector (s .C)) (lowestOf m (remainder p s (vector y))) (vector l)) (sym is-z) right;
           differs =
               subst (λ (l : List ℕ). ¬ (dot m (vector y) (vector l) ≈⟨ p ⟩ 0)) (sym is-z)
               (sets.closed-differs (c .prime) n m A s (c .sized .row-order) (c .sized .column-order) (c .judged) y inside (closed e));

@@ -10,19 +10,21 @@ use Rattle.refusals.specs.Refusals.{_▷_, numberOf, detailOf}
 use Rattle.refusals.specs.declared.Outcome.{Outcome}
 use Rattle.lists.proofs.Filled.{length-zeros, filled-none, filled-whole}
 use Rattle.refusals.proofs.Refusals.{fails, holds, refused, passed, both-passed, unless-passed}
-use Rattle.answer_question.proofs.Passed.{question-passed}
+use Rattle.answer_question.proofs.Passed.{question-passed, passed-ready}
 use Rattle.algebra.specs.Matrix.{vector}
 use Rattle.sparse.specs.Matrix.{Compressed}
 use Rattle.sparse.specs.Set.{Set}
 use Rattle.row_space.specs.Question.{questionOutcome}
 use Rattle.row_space.specs.Solve.{Solved, solve}
 use Rattle.row_space.specs.declared.Verdict.{Verdict}
-use Rattle.answer_question.specs.Answering.{SetReady, AnswerReady, Answered}
+use Rattle.answer_question.specs.Needs.{SetReady, AnswerReady}
+use Rattle.answer_question.specs.Answering.{Answered}
 use Rattle.call_check.specs.Calls.{Checks}
 use Rattle.call_answer.specs.Calls.{answerNumber, answerDetail, answerOf, questionLengths, questionAfter, given, Answers}
+use Rattle.call_answer.specs.Meaning.{Askable}
 use Rattle.call_answer.specs.declared.Answer.{Answer}
-use Rattle.call_answer.proofs.Checked.{Checked, checked-ready}
-use Rattle.call_answer.proofs.Lengths.{Long, lengths-are}
+use Rattle.call_check.proofs.Checked.{Checked}
+use Rattle.call_answer.proofs.Lengths.{lengths-are}
 
 -- ---- the tests
 
@@ -41,24 +43,26 @@ module _ (check : Outcome) (p n m : ℕ) (y : List ℕ) (a b : ℕ) where
     question-tested f t e = holds (questionLengths n m y a b) 9 0 (check ▷ questionOutcome p y) t long (passed o check (questionOutcome p y) t f same e)
 
   -- the parts of a question that passed
-  pub asked-parts : questionAfter check p n m y a b ≡ Outcome.Passed → Long n m y a b × (check ≡ Outcome.Passed) × (questionOutcome p y ≡ Outcome.Passed)
+  pub asked-parts : questionAfter check p n m y a b ≡ Outcome.Passed → Askable p n m y a b × (check ≡ Outcome.Passed)
   unfolding questionAfter
   asked-parts h =
       let (long, rest) = unless-passed (questionLengths n m y a b) 9 0 (check ▷ questionOutcome p y) h in
       let (judged, small) = both-passed check (questionOutcome p y) rest in
-      (lengths-are n m y a b long, judged, small)
+      let (values, rows, columns) = lengths-are n m y a b long in
+      (record { values = values; rows = rows; columns = columns; residues = question-passed p y small }, judged)
 
 -- ---- what the answer needs
 
 answer-ready : (p n m : ℕ) (A : Compressed) (s : Set) (y x z w : List ℕ) (width : ℕ)
-    → Long n m y (length x) (length z) → Checked p n m A s width → questionOutcome p y ≡ Outcome.Passed → w ≡ zeros width
+    → Askable p n m y (length x) (length z) → Checked p n m A s width → w ≡ zeros width
     → AnswerReady p s y x z w
-answer-ready p n m A s y x z w width l c small clear =
+answer-ready p n m A s y x z w width l c clear =
     let wide : length w ≡ width = ap length clear ∙ length-zeros width in
+    let set-ready = passed-ready p n m A s (c .prime) (c .sized .row-order) (c .sized .column-order) (c .sized .lower-starts) (c .sized .upper-starts) (c .judged) in
     record {
-      set = subst (λ (k : ℕ). SetReady p k (length z) s) (sym (l .rows)) (subst (λ (k : ℕ). SetReady p n k s) (sym (l .columns)) (checked-ready p n m A s width c));
+      set = subst (λ (k : ℕ). SetReady p k (length z) s) (sym (l .rows)) (subst (λ (k : ℕ). SetReady p n k s) (sym (l .columns)) set-ready);
       long = l .values ∙ sym (l .columns);
-      small = question-passed p y small;
+      small = l .residues;
       room = omega (arith, l .columns, c .room);
       clear = clear ∙ ap zeros (sym wide);
     }
@@ -117,7 +121,7 @@ module _ (check : Outcome) (p n m : ℕ) (s : Set) (y x₀ z₀ w₀ w₁ : List
       → (v : Verdict) (r : Answer) → r ≡ answerOf v → Answered (solve p (length x₀) (length z₀) s (vector y)) v x z w
       → Answers (given asked (solve p n m s (vector y))) r x₀ x z₀ z w₀ w
   answers f x z w lx lz lw v r g a =
-      let (l, judged, small) = asked-parts check p n m y (length x₀) (length z₀) (sym (q .outcome) ∙ f) in
+      let (l, judged) = asked-parts check p n m y (length x₀) (length z₀) (sym (q .outcome) ∙ f) in
       answered-leaves asked (solve p n m s (vector y)) x₀ x z₀ z w₀ w (sym f ∙ q .outcome) lx lz (lw ∙ ap length (q .cleared) ∙ length-zeros (length w₀)) v r g
       (subst (λ (t : Solved). Answered t v x z w) (λ j. solve p (l .rows j) (l .columns j) s (vector y)) a)
 
@@ -127,5 +131,5 @@ module _ (check : Outcome) (p n m : ℕ) (s : Set) (y x₀ z₀ w₀ w₁ : List
   -- what the answer needs
   pub ready : o ≡ Outcome.Passed → (A : Compressed) → (check ≡ Outcome.Passed → Checked p n m A s (length w₀)) → AnswerReady p s y x₀ z₀ w₁
   ready f A checked =
-      let (l, judged, small) = asked-parts check p n m y (length x₀) (length z₀) (sym (q .outcome) ∙ f) in
-      answer-ready p n m A s y x₀ z₀ w₁ (length w₀) l (checked judged) small (q .cleared)
+      let (l, judged) = asked-parts check p n m y (length x₀) (length z₀) (sym (q .outcome) ∙ f) in
+      answer-ready p n m A s y x₀ z₀ w₁ (length w₀) l (checked judged) (q .cleared)

@@ -8,8 +8,8 @@
 --   given o a                     a refusal with no list, or the answer a
 --   answerFactorsOf ..            the answer from stored factors
 --   answerCertificateOf ..        the answer from a certificate
---   AnswerPartsReady ..                 what the answer from the parts of a certificate needs
 --   Answers g r x₀ x z₀ z w₀ w    the contract of such a call: its result, every cell of x and z, and the working row left all zero
+--   AnswersIn g r x z work        the same of lent lists, where g makes what is given from their lengths
 use Prim.Native.Nat.{ℕ}
 use mathlib.Core.Path.{_≡_}
 use mathlib.Core.Bool.{Bool, _&&_}
@@ -23,11 +23,11 @@ use Rattle.refusals.specs.declared.Outcome.{Outcome}
 use Rattle.algebra.specs.Matrix.{vector}
 use Rattle.sparse.specs.Matrix.{Compressed}
 use Rattle.sparse.specs.Set.{Set}
+use Rattle.sparse.specs.Views.{LentList, before, after}
 use Rattle.row_space.specs.Solve.{Solved, solve}
 use Rattle.row_space.specs.Question.{questionOutcome}
 use Rattle.row_space.specs.declared.Verdict.{Verdict}
-use Rattle.answer_question.specs.Answering.{AnswerReady}
-use Rattle.certificate.specs.Reading.{placesIn, setOfCertificate}
+use Rattle.certificate.specs.Reading.{setOfCertificate}
 use Rattle.call_check.specs.Calls.{checkFactorsOf, checkCertificateOf}
 use Rattle.call_answer.specs.declared.Answer.{Answer}
 
@@ -83,6 +83,6 @@ pub record Answers (g : Given) (r : Answer) (x₀ x z₀ z w₀ w : List ℕ) : 
   pub z-is : z ≡ filled (length z₀) (g .z)
   pub cleared : w ≡ zeros (length w₀)
 
-pub record AnswerPartsReady (p n m : ℕ) (cert y x z w : List ℕ) : Type 0 where
-  pub long : length cert ≡ placesIn n m cert .end
-  pub ready : AnswerReady p (setOfCertificate n m cert) y x z w
+abbrev pub AnswersIn : (ℕ → ℕ → ℕ → Given) → Answer → (x z work : LentList) → Type 0
+AnswersIn g r x z work =
+    Answers (g (length (before x)) (length (before z)) (length (before work))) r (before x) (after x) (before z) (after z) (before work) (after work)

@@ -25,7 +25,7 @@ use Rattle.algebra.specs.Settings.{Determined, Undetermined}
 use Rattle.sparse.specs.Row.{Below}
 use Rattle.sparse.specs.Matrix.{Compressed, matrix}
 use Rattle.sparse.specs.Set.{Set}
-use Rattle.row_space.specs.Solve.{lowest}
+use Rattle.row_space.specs.Solve.{remainder, lowestOf}
 use Rattle.call_answer.specs.Calls.{answerNumber, answerFactorsOf, answerCertificateOf, Answers}
 use Rattle.call_answer.specs.declared.Answer.{Answer}
 
@@ -42,7 +42,7 @@ pub record LeftOpen (p n m : ℕ) (A : Compressed) (s : Set) (y x z : List ℕ) 
 
 pub record LeftClosed (p n m : ℕ) (A : Compressed) (s : Set) (y x z : List ℕ) : Type 0 where
   pub length-z : length z ≡ m
-  pub answer : ClosedAnswer p n m (s .r) (matrix A) (vector (s .C)) (lowest p m s (vector y)) (vector z)
+  pub answer : ClosedAnswer p n m (s .r) (matrix A) (vector (s .C)) (lowestOf m (remainder p s (vector y))) (vector z)
   pub differs : ¬ (dot m (vector y) (vector z) ≈⟨ p ⟩ 0)
   pub x-is : x ≡ zeros n
 

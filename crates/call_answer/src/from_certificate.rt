@@ -5,7 +5,8 @@ ghost use Rattle.row_space.specs.Solve.{solve};
 ghost use Rattle.answer_question.specs.Answering.{Answered};
 ghost use Rattle.certificate.specs.Reading.{setOfCertificate};
 ghost use Rattle.call_check.specs.Calls.{checkCertificateOf, Checks};
-ghost use Rattle.call_answer.specs.Calls.{questionAfter, answerCertificateOf, AnswerPartsReady, Answers};
+ghost use Rattle.call_answer.specs.Calls.{questionAfter, answerCertificateOf, AnswersIn};
+ghost use Rattle.call_answer.specs.Needs.{AnswerPartsReady};
 ghost use Rattle.sparse.specs.Views.{before, after, storedBefore};
 use crate::Answer;
 use crate::answer_of;
@@ -119,7 +120,7 @@ pub fn answer_from_certificate(
     z: &mut [u32],
     work: &mut [u64],
 ) -> Answer
-    ensures { λ a. ⌜ Answers (answerCertificateOf p n m (storedBefore starts cols vals) (before cert) (before y) (length (before x)) (length (before z)) (length (before work))) a (before x) (after x) (before z) (after z) (before work) (after work) ⌝ }
+    ensures { λ a. ⌜ AnswersIn (answerCertificateOf p n m (storedBefore starts cols vals) (before cert) (before y)) a x z work ⌝ }
 {
     let q = Modulus { p };
     let asked = asked_of_certificate(q, n, m, starts, cols, vals, cert, y, x.len(), z.len(), work);

@@ -2,9 +2,10 @@
 ghost use lib.ListN.{length};
 ghost use Rattle.algebra.specs.Matrix.{vector};
 ghost use Rattle.row_space.specs.Solve.{solve};
-ghost use Rattle.answer_question.specs.Answering.{AnswerReady, Answered};
+ghost use Rattle.answer_question.specs.Needs.{AnswerReady};
+ghost use Rattle.answer_question.specs.Answering.{Answered};
 ghost use Rattle.call_check.specs.Calls.{checkFactorsOf, Checks};
-ghost use Rattle.call_answer.specs.Calls.{questionAfter, answerFactorsOf, Answers};
+ghost use Rattle.call_answer.specs.Calls.{questionAfter, answerFactorsOf, AnswersIn};
 ghost use Rattle.sparse.specs.Views.{before, after, storedBefore, setAt, setBefore};
 use crate::Answer;
 use crate::answer_of;
@@ -145,7 +146,7 @@ pub fn answer_from_factors(
     z: &mut [u32],
     work: &mut [u64],
 ) -> Answer
-    ensures { λ a. ⌜ Answers (answerFactorsOf p n m (storedBefore starts cols vals) (setBefore r ro co ls lc lv us uc uv) (before y) (length (before x)) (length (before z)) (length (before work))) a (before x) (after x) (before z) (after z) (before work) (after work) ⌝ }
+    ensures { λ a. ⌜ AnswersIn (answerFactorsOf p n m (storedBefore starts cols vals) (setBefore r ro co ls lc lv us uc uv) (before y)) a x z work ⌝ }
 {
     let q = Modulus { p };
     let asked = asked_of_factors(

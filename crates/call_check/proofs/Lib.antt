@@ -3,3 +3,4 @@ pub mod Stored
 pub mod Outcomes
 pub mod Numbers
 pub mod Theorems
+pub mod Checked

@@ -2,9 +2,8 @@
 use mathlib.Core.Path.{_≡_}
 use mathlib.Core.List.{List, []}
 use Prim.Native.Nat.{ℕ}
-use Rattle.refusals.specs.declared.Outcome.{Outcome}
 use Rattle.sparse.specs.Words.{view}
-use Rattle.sparse.specs.Matrix.{Compressed, compressed, viewed}
+use Rattle.sparse.specs.Matrix.{compressed, viewed}
 use Rattle.sparse.specs.Set.{Set, setOf}
 use Rattle.sparse.proofs.WordLaws.{view-list}
 use Rattle.call_plan.proofs.Lists.{viewed-lists}
@@ -14,12 +13,7 @@ pub set-lists : (r : ℕ) (R C Ls Lc Lv Us Uc Uv : List ℕ)
 set-lists r R C Ls Lc Lv Us Uc Uv = λ j. setOf r (view-list R j) (view-list C j) (viewed-lists Ls Lc Lv j) (viewed-lists Us Uc Uv j)
 
 -- whatever holds of the lists holds of them with no bytes beside
-pub from-lists : (P : Compressed → Set → Type 0) (a b c : List ℕ) (r : ℕ) (R C Ls Lc Lv Us Uc Uv : List ℕ)
-    → P (compressed a b c) (setOf r R C (compressed Ls Lc Lv) (compressed Us Uc Uv))
-    → P (viewed a [] b [] c []) (setOf r (view R []) (view C []) (viewed Ls [] Lc [] Lv []) (viewed Us [] Uc [] Uv []))
-from-lists P a b c r R C Ls Lc Lv Us Uc Uv h = rw (viewed-lists a b c, set-lists r R C Ls Lc Lv Us Uc Uv) h
-
-pub by-lists : (f : Compressed → Set → Outcome) (a b c : List ℕ) (r : ℕ) (R C Ls Lc Lv Us Uc Uv : List ℕ)
-    → f (viewed a [] b [] c []) (setOf r (view R []) (view C []) (viewed Ls [] Lc [] Lv []) (viewed Us [] Uc [] Uv []))
-    ≡ f (compressed a b c) (setOf r R C (compressed Ls Lc Lv) (compressed Us Uc Uv))
-by-lists f a b c r R C Ls Lc Lv Us Uc Uv = λ j. f (viewed-lists a b c j) (set-lists r R C Ls Lc Lv Us Uc Uv j)
+pub from-lists : (P : Set → Type 0) (r : ℕ) (R C Ls Lc Lv Us Uc Uv : List ℕ)
+    → P (setOf r R C (compressed Ls Lc Lv) (compressed Us Uc Uv))
+    → P (setOf r (view R []) (view C []) (viewed Ls [] Lc [] Lv []) (viewed Us [] Uc [] Uv []))
+from-lists P r R C Ls Lc Lv Us Uc Uv h = rw (set-lists r R C Ls Lc Lv Us Uc Uv) h

@@ -11,8 +11,8 @@ use Rattle.lists.specs.Filled.{zeros}
 use Rattle.refusals.specs.Refusals.{_▷_, unless}
 use Rattle.refusals.specs.declared.Outcome.{Outcome}
 use Rattle.refusals.specs.declared.Outcome.the-variants.{Passed, Refused}
-use Rattle.lists.proofs.Bools.{and-left, and-right, chain-false, chain-true, and-both}
-use Rattle.refusals.proofs.Refusals.{fails, holds, passed, unless-true}
+use Rattle.lists.proofs.Bools.{and-left, and-right, chain-false, and-both}
+use Rattle.refusals.proofs.Refusals.{passed, unless-true}
 use Rattle.sparse.specs.Matrix.{Compressed}
 use Rattle.sparse.specs.Set.{Set}
 use Rattle.check_set.specs.Needs.{Checkable}
@@ -21,20 +21,11 @@ use Rattle.certificate.specs.Layout.{Sized}
 use Rattle.limits.specs.Limits.{workLength}
 use Rattle.call_plan.specs.Tests.{pairedLengths, planLengths, setLengths, planOutcome, callOutcome}
 use Rattle.call_plan.specs.Accepted.{GoodPlan}
+use Rattle.call_plan.proofs.Outcomes.{plan-length, other-length, plan-next}
 use Rattle.call_plan.proofs.Plans.{good-plan, good-positive}
 use Rattle.call_check.specs.Calls.{factorsOutcome, certificateOutcome}
 
 -- ---- the lengths
-
-module _ (p n m : ℕ) (A : Compressed) (lengths : Bool) where
-  pub plan-length : planLengths n A ≡ false → Refused 9 0 ≡ callOutcome lengths p n m A
-  plan-length e = fails (planLengths n A && lengths) 9 0 (planOutcome p n m A) (sym (chain-false (planLengths n A) lengths e))
-
-  pub other-length : planLengths n A ≡ true → lengths ≡ false → Refused 9 0 ≡ callOutcome lengths p n m A
-  other-length e f = fails (planLengths n A && lengths) 9 0 (planOutcome p n m A) (sym (chain-true (planLengths n A) lengths false e (sym f)))
-
-  pub plan-next : planLengths n A ≡ true → lengths ≡ true → (o : Outcome) → o ≡ planOutcome p n m A → o ≡ callOutcome lengths p n m A
-  plan-next e f o q = holds (planLengths n A && lengths) 9 0 (planOutcome p n m A) o (sym (chain-true (planLengths n A) lengths true e (sym f))) q
 
 both-false : (a b : Bool) → a ≡ true → b ≡ false → (a && b) ≡ false
 both-false a b e f = ap (λ (t : Bool). t && b) e ∙ f
@@ -118,9 +109,9 @@ checkable p n m A s w g z wide clear =
       cleared = clear;
     }
 
--- a plan and a set that are equal to such
-pub checkable-as : (p n m : ℕ) (A A′ : Compressed) (s s′ : Set) (w : List ℕ) → A ≡ A′ → s ≡ s′ → Checkable p n m A′ s′ w → Checkable p n m A s w
-checkable-as p n m A A′ s s′ w e f h = subst (λ (B : Compressed). Checkable p n m B s w) (sym e) (subst (λ (t : Set). Checkable p n m A′ t w) (sym f) h)
+-- a set that is equal to such
+pub checkable-as : (p n m : ℕ) (A : Compressed) (s s′ : Set) (w : List ℕ) → s ≡ s′ → Checkable p n m A s′ w → Checkable p n m A s w
+checkable-as p n m A s s′ w e h = subst (λ (t : Set). Checkable p n m A t w) (sym e) h
 
 pub factors-good : (p n m : ℕ) (A : Compressed) (s : Set) (w : ℕ) → factorsOutcome p n m A s w ≡ Passed → GoodPlan p n m A × Sized n m s × (w ≡ workLength)
 unfolding factorsOutcome

@@ -4,6 +4,7 @@
 --   checkFactorsOf ..        the check of stored factors
 --   checkCertificateOf ..    the check of a certificate
 --   Checks o r w₀ w          the contract of a check: its result, with document 01's number and detail, and the working row left all zero
+--   ChecksIn g r work        the same of a lent working row, where g makes the outcome from its length
 use Prim.Native.Nat.{ℕ}
 use mathlib.Core.Path.{_≡_}
 use mathlib.Core.Bool.{_&&_}
@@ -16,6 +17,7 @@ use Rattle.refusals.specs.Refusals.{_▷_, unless, numberOf, detailOf}
 use Rattle.refusals.specs.declared.Outcome.{Outcome}
 use Rattle.sparse.specs.Matrix.{Compressed}
 use Rattle.sparse.specs.Set.{Set}
+use Rattle.sparse.specs.Views.{LentList, before, after}
 use Rattle.pluq.specs.Judge.{judge}
 use Rattle.certificate.specs.Reading.{headerOk, setOfCertificate}
 use Rattle.limits.specs.Limits.{workLength}
@@ -38,3 +40,6 @@ pub record Checks (o r : Outcome) (w₀ w : List ℕ) : Type 0 where
   pub number : numberOf r ≡ numberOf o
   pub detail : detailOf r ≡ detailOf o
   pub cleared : w ≡ zeros (length w₀)
+
+abbrev pub ChecksIn : (ℕ → Outcome) → Outcome → (work : LentList) → Type 0
+ChecksIn g r work = Checks (g (length (before work))) r (before work) (after work)

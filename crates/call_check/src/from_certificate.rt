@@ -1,8 +1,7 @@
 // The public call that checks a certificate against a stored plan. Any content of the working row is accepted.
 ghost use mathlib.Core.Path.{_≡_};
-ghost use lib.ListN.{length};
-ghost use Rattle.call_check.specs.Calls.{certificateOutcome, checkCertificateOf, Checks};
-ghost use Rattle.sparse.specs.Views.{before, after, storedBefore};
+ghost use Rattle.call_check.specs.Calls.{certificateOutcome, checkCertificateOf, ChecksIn};
+ghost use Rattle.sparse.specs.Views.{before, storedBefore};
 use call_plan::plan_lengths;
 use call_plan::plan_outcome;
 use certificate::header::header_ok;
@@ -56,7 +55,7 @@ pub fn check_bytes(
     cert: &[u8],
     work: &mut [u64],
 ) -> Outcome
-    ensures { λ o. ⌜ Checks (checkCertificateOf (q .p) n m (storedBefore starts cols vals) (before cert) (length (before work))) o (before work) (after work) ⌝ }
+    ensures { λ o. ⌜ ChecksIn (checkCertificateOf (q .p) n m (storedBefore starts cols vals) (before cert)) o work ⌝ }
 {
     clear_row(work);
     let tested = certificate_outcome(q.p, n, m, starts, cols, vals, cert, work.len());
@@ -74,16 +73,12 @@ pub fn check_bytes(
     let uc = places.uc;
     let uv = places.uv;
     let end = places.end;
-    let none: &[u8] = b"";
     let empty: &[u32] = &[];
     check(
         q,
         starts,
-        none,
         cols,
-        none,
         vals,
-        none,
         empty,
         &cert[ro..co],
         empty,
@@ -122,7 +117,7 @@ pub fn check_certificate(
     cert: &[u8],
     work: &mut [u64],
 ) -> Outcome
-    ensures { λ o. ⌜ Checks (checkCertificateOf p n m (storedBefore starts cols vals) (before cert) (length (before work))) o (before work) (after work) ⌝ }
+    ensures { λ o. ⌜ ChecksIn (checkCertificateOf p n m (storedBefore starts cols vals) (before cert)) o work ⌝ }
 {
     let q = Modulus { p };
     check_bytes(q, n, m, starts, cols, vals, cert, work)

@@ -1,8 +1,7 @@
 // The public call that checks stored factors against a stored plan. Any content of the working row is accepted.
 ghost use mathlib.Core.Path.{_≡_};
-ghost use lib.ListN.{length};
-ghost use Rattle.call_check.specs.Calls.{factorsOutcome, checkFactorsOf, Checks};
-ghost use Rattle.sparse.specs.Views.{before, after, storedBefore, setBefore};
+ghost use Rattle.call_check.specs.Calls.{factorsOutcome, checkFactorsOf, ChecksIn};
+ghost use Rattle.sparse.specs.Views.{storedBefore, setBefore};
 use call_plan::plan_lengths;
 use call_plan::plan_outcome;
 use call_plan::set_lengths;
@@ -65,7 +64,7 @@ pub fn check_stored(
     uv: &[u32],
     work: &mut [u64],
 ) -> Outcome
-    ensures { λ o. ⌜ Checks (checkFactorsOf (q .p) n m (storedBefore starts cols vals) (setBefore r ro co ls lc lv us uc uv) (length (before work))) o (before work) (after work) ⌝ }
+    ensures { λ o. ⌜ ChecksIn (checkFactorsOf (q .p) n m (storedBefore starts cols vals) (setBefore r ro co ls lc lv us uc uv)) o work ⌝ }
 {
     clear_row(work);
     let tested = factors_outcome(
@@ -93,11 +92,8 @@ pub fn check_stored(
     check(
         q,
         starts,
-        none,
         cols,
-        none,
         vals,
-        none,
         ro,
         none,
         co,
@@ -144,7 +140,7 @@ pub fn check_factors(
     uv: &[u32],
     work: &mut [u64],
 ) -> Outcome
-    ensures { λ o. ⌜ Checks (checkFactorsOf p n m (storedBefore starts cols vals) (setBefore r ro co ls lc lv us uc uv) (length (before work))) o (before work) (after work) ⌝ }
+    ensures { λ o. ⌜ ChecksIn (checkFactorsOf p n m (storedBefore starts cols vals) (setBefore r ro co ls lc lv us uc uv)) o work ⌝ }
 {
     let q = Modulus { p };
     check_stored(

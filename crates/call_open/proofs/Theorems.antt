@@ -32,7 +32,7 @@ use Rattle.limits.specs.Limits.{workLength}
 use Rattle.call_plan.specs.Accepted.{GoodPlan}
 use Rattle.call_check.specs.Passing.{StoredPasses, CertificatePasses}
 use Rattle.call_check.proofs.Theorems.{factors-none, certificate-none}
-use Rattle.call_answer.proofs.Checked.{SetTest, stored-test, bytes-test}
+use Rattle.call_check.proofs.Checked.{SetTest, stored-test, bytes-test}
 use Rattle.call_open.specs.Calls.{columnsAfter, listed, openFactorsOf, openCertificateOf, Lists}
 use Rattle.call_open.specs.Meaning.{MarksOpen}
 

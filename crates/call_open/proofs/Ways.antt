@@ -15,10 +15,12 @@ use Rattle.refusals.proofs.Refusals.{fails, holds}
 use Rattle.sparse.specs.Matrix.{Compressed}
 use Rattle.sparse.specs.Set.{Set}
 use Rattle.row_space.specs.Solve.{openColumns}
-use Rattle.answer_open.specs.Opening.{EchelonPassed, ColumnsListed, ColumnsReady, AllColumns}
+use Rattle.answer_question.proofs.Passed.{passed-ready}
+use Rattle.answer_open.specs.Needs.{EchelonPassed, ColumnsReady}
+use Rattle.answer_open.specs.Opening.{ColumnsListed, AllColumns}
 use Rattle.answer_open.proofs.AllColumns.{set-factor}
 use Rattle.call_check.specs.Calls.{Checks}
-use Rattle.call_answer.proofs.Checked.{Checked, checked-ready}
+use Rattle.call_check.proofs.Checked.{Checked}
 use Rattle.call_open.specs.Calls.{columnsAfter, Listed, listed, Lists}
 
 -- what the open columns need
@@ -27,7 +29,7 @@ pub columns-ready : (p n m : ℕ) (A : Compressed) (s : Set) (l w : List ℕ) (w
 columns-ready p n m A s l w width long c clear =
     let wide : length w ≡ width = ap length clear ∙ length-zeros width in
     record {
-      factor = subst (EchelonPassed p (s .r) (s .U) (s .C)) (sym long) (set-factor p n m s (checked-ready p n m A s width c));
+      factor = subst (EchelonPassed p (s .r) (s .U) (s .C)) (sym long) (set-factor p n m s (passed-ready p n m A s (c .prime) (c .sized .row-order) (c .sized .column-order) (c .sized .lower-starts) (c .sized .upper-starts) (c .judged)));
       room = omega (arith, c .room);
       clear = clear ∙ ap zeros (sym wide);
     }

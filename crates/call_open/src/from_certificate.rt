@@ -3,7 +3,8 @@ ghost use lib.ListN.{length};
 ghost use Rattle.row_space.specs.Solve.{openColumns};
 ghost use Rattle.answer_open.specs.Opening.{ColumnsListed};
 ghost use Rattle.certificate.specs.Reading.{setOfCertificate};
-ghost use Rattle.call_open.specs.Calls.{openCertificateOf, OpenPartsReady, Lists};
+ghost use Rattle.call_open.specs.Calls.{openCertificateOf, ListsIn};
+ghost use Rattle.call_open.specs.Needs.{OpenPartsReady};
 ghost use Rattle.sparse.specs.Views.{before, after, storedBefore};
 use answer_open::pivots::open_columns;
 use call_check::from_certificate::check_bytes;
@@ -67,7 +68,7 @@ pub fn open_columns_from_certificate(
     marks: &mut [u32],
     work: &mut [u64],
 ) -> Outcome
-    ensures { λ o. ⌜ Lists (openCertificateOf p n m (storedBefore starts cols vals) (before cert) (length (before marks)) (length (before work))) o (before marks) (after marks) (before work) (after work) ⌝ }
+    ensures { λ o. ⌜ ListsIn (openCertificateOf p n m (storedBefore starts cols vals) (before cert)) o marks work ⌝ }
 {
     let q = Modulus { p };
     if marks.len() != m as usize {

@@ -1,7 +1,6 @@
 // The public call that lists the open columns from stored factors. Any content of the list and of the working row is accepted.
-ghost use lib.ListN.{length};
-ghost use Rattle.call_open.specs.Calls.{openFactorsOf, Lists};
-ghost use Rattle.sparse.specs.Views.{before, after, storedBefore, setBefore};
+ghost use Rattle.call_open.specs.Calls.{openFactorsOf, ListsIn};
+ghost use Rattle.sparse.specs.Views.{storedBefore, setBefore};
 use answer_open::pivots::open_columns;
 use call_check::from_factors::check_stored;
 use lists::clear;
@@ -35,7 +34,7 @@ pub fn open_columns_from_factors(
     marks: &mut [u32],
     work: &mut [u64],
 ) -> Outcome
-    ensures { λ o. ⌜ Lists (openFactorsOf p n m (storedBefore starts cols vals) (setBefore r ro co ls lc lv us uc uv) (length (before marks)) (length (before work))) o (before marks) (after marks) (before work) (after work) ⌝ }
+    ensures { λ o. ⌜ ListsIn (openFactorsOf p n m (storedBefore starts cols vals) (setBefore r ro co ls lc lv us uc uv)) o marks work ⌝ }
 {
     let q = Modulus { p };
     if marks.len() != m as usize {

@@ -14,7 +14,7 @@ use Rattle.refusals.proofs.Refusals.{fails, holds}
 use Rattle.residue.specs.Range.{isModulus}
 use Rattle.sparse.specs.Matrix.{Compressed, form}
 use Rattle.sparse.specs.Set.{Set}
-use Rattle.call_plan.specs.Tests.{pairedLengths, planLengths, setLengths, limitsOk, planOutcome}
+use Rattle.call_plan.specs.Tests.{pairedLengths, planLengths, setLengths, limitsOk, planOutcome, callOutcome}
 
 -- ---- lengths; k is n as an index
 
@@ -80,3 +80,15 @@ module _ (p n m : ℕ) (A : Compressed) where
 
       pub form-good : form p m A ≡ true → Passed ≡ planOutcome p n m A
       form-good e = on-modulus Passed (holds (limitsOk n m A) 2 0 formed Passed limits (ap (λ (b : Bool). unless b 8 0) (sym e)))
+
+-- ---- 9 for the plan or for the call's other lists, then the plan
+
+module _ (p n m : ℕ) (A : Compressed) (lengths : Bool) where
+  pub plan-length : planLengths n A ≡ false → Refused 9 0 ≡ callOutcome lengths p n m A
+  plan-length e = fails (planLengths n A && lengths) 9 0 (planOutcome p n m A) (sym (chain-false (planLengths n A) lengths e))
+
+  pub other-length : planLengths n A ≡ true → lengths ≡ false → Refused 9 0 ≡ callOutcome lengths p n m A
+  other-length e f = fails (planLengths n A && lengths) 9 0 (planOutcome p n m A) (sym (chain-true (planLengths n A) lengths false e (sym f)))
+
+  pub plan-next : planLengths n A ≡ true → lengths ≡ true → (o : Outcome) → o ≡ planOutcome p n m A → o ≡ callOutcome lengths p n m A
+  plan-next e f o q = holds (planLengths n A && lengths) 9 0 (planOutcome p n m A) o (sym (chain-true (planLengths n A) lengths true e (sym f))) q

@@ -1,5 +1,5 @@
 -- What writing accepts exactly, without an order of tests.
---   CanWrite p n m A s w room  stored factors that pass the check, and a buffer that holds their certificate
+--   CanWrite p n m A s w room    stored factors that pass the check, and a buffer that holds their certificate
 use Prim.Native.Nat.{ℕ, _≤_}
 use lib.ListN.{length}
 use Rattle.sparse.specs.Matrix.{Compressed}

@@ -1,8 +1,7 @@
 // The public call that writes a certificate.
-ghost use lib.ListN.{length};
 ghost use Rattle.certificate.specs.Layout.{certificateOf};
-ghost use Rattle.call_write.specs.Call.{writeOutcome, WritesCertificate};
-ghost use Rattle.sparse.specs.Views.{before, after, storedBefore, setBefore};
+ghost use Rattle.call_write.specs.Call.{writeOutcome, WritesIn};
+ghost use Rattle.sparse.specs.Views.{storedBefore, setBefore};
 use call_check::check_factors;
 use certificate::writer::write;
 use lists::clear_bytes;
@@ -39,7 +38,7 @@ pub fn write_certificate(
     buffer: &mut [u8],
     work: &mut [u64],
 ) -> Written
-    ensures { λ z. ⌜ WritesCertificate (writeOutcome p n m (storedBefore starts cols vals) (setBefore r ro co ls lc lv us uc uv) (length (before work)) (length (before buffer))) (certificateOf p n m (setBefore r ro co ls lc lv us uc uv)) z (before buffer) (after buffer) (before work) (after work) ⌝ }
+    ensures { λ z. ⌜ WritesIn (writeOutcome p n m (storedBefore starts cols vals) (setBefore r ro co ls lc lv us uc uv)) (certificateOf p n m (setBefore r ro co ls lc lv us uc uv)) z buffer work ⌝ }
 {
     let checked = check_factors(
         p,

@@ -1,14 +1,14 @@
 -- What the comparison of the product needs; each fact is known from the tests before it. A row of A or of L comes as its
 -- columns and values, the rows of U by their starts.
---   CombinesRows ..    r rows of U, and a sparse row that says how often each is taken
---   ComparesRow ..     these, and a working row that is 0 outside the columns of a row of A
---   Comparable ..      a matrix A and a set whose orders and storage passed, and a working row that is all zero
---   StartsRise ..      no row start is less than the one before
---   RowsInside ..      the rows lie inside the list of columns, and each column is below a width: the form, without the values
---   CountsRows ..      rows of U, by number, to count their entries
---   SweepsRow ..       columns that are cells of the working row
---   SweepsRows ..      rows of U, by number, whose columns are cells of the working row
---   ClearsTouched ..   those rows of U and the columns of a row of A, and a working row that is 0 outside their columns
+--   CombinesRows ..     r rows of U, and a sparse row that says how often each is taken
+--   ComparesRow ..      these, and a working row that is 0 outside the columns of a row of A
+--   Comparable ..       a matrix A and a set whose orders and storage passed, and a working row that is all zero
+--   StartsRise ..       no row start is less than the one before
+--   RowsInside ..       the rows lie inside the list of columns, and each column is below a width: the form, without the values
+--   CountsRows ..       rows of U, by number, to count their entries
+--   SweepsRow ..        columns that are cells of the working row
+--   SweepsRows ..       rows of U, by number, whose columns are cells of the working row
+--   ClearsTouched ..    those rows of U and the columns of a row of A, and a working row that is 0 outside their columns
 use Prim.Native.Nat.{ℕ, _+_, _-_, _*_, _≤_, _<_}
 use mathlib.Core.Path.{_≡_}
 use mathlib.Core.Bool.{true}

@@ -1,10 +1,10 @@
 -- The working row, tested for 0 and cleared: whole, or only in the columns that a row has touched.
---   Some e Q                 some number below e has the property Q
---   Among cols j             column j is one of the columns cols
---   AmongRows ks Us Uc j     column j is stored in U's row k for some k of ks
---   Swept p P z₀ w₀ w z      the cells at the columns P are 0 now, and a cell that was 0 is; z is true only if z₀ is and no cell
---                            changed the residue that it stands for, and is true if z₀ is and every cell stood for 0
---   TestedAndCleared ..      z says whether every cell of w₀ stood for 0, and w is w₀ cleared
+--   Some e Q                some number below e has the property Q
+--   Among cols j            column j is one of the columns cols
+--   AmongRows ks Us Uc j    column j is stored in U's row k for some k of ks
+--   Swept p P z₀ w₀ w z     the cells at the columns P are 0 now, and a cell that was 0 is; z is true only if z₀ is and no cell
+--                           changed the residue that it stands for, and is true if z₀ is and every cell stood for 0
+--   TestedAndCleared ..     z says whether every cell of w₀ stood for 0, and w is w₀ cleared
 use Prim.Native.Nat.{ℕ, _%_, _<_}
 use mathlib.Core.Path.{_≡_}
 use mathlib.Core.Bool.{Bool, true}

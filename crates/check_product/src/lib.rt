@@ -4,11 +4,10 @@ ghost use Prim.Native.Nat.{_<_};
 ghost use lib.ListN.{length, getD};
 ghost use Rattle.lists.specs.Filled.{zeros};
 ghost use Rattle.lists.specs.Tests.{first};
-ghost use Rattle.algebra.specs.Matrix.{vector};
 ghost use Rattle.sparse.specs.Row.{weigh};
 ghost use Rattle.sparse.specs.Matrix.{matrix};
 ghost use Rattle.sparse.specs.WorkingRow.{Subtracted};
-ghost use Rattle.sparse.specs.Views.{before, after, viewAt, viewBefore, viewedAt, viewedBefore};
+ghost use Rattle.sparse.specs.Views.{before, after, storedAt, storedBefore, viewAt, viewBefore, viewedAt, vectorBefore, matrixBefore};
 ghost use Rattle.pluq.specs.Judge.{agrees};
 ghost use Rattle.check_product.specs.Combination.{isCombination};
 ghost use Rattle.check_product.specs.Needs.{CombinesRows, ComparesRow, Comparable};
@@ -17,7 +16,9 @@ mod sweep;
 
 use crate::sweep::clear_touched;
 use lists::index;
+use lists::part;
 use residue::Modulus;
+use sparse::kernel::subtract_list_row;
 use sparse::kernel::subtract_row;
 use sparse::words::bytes_part;
 use sparse::words::count;
@@ -49,7 +50,7 @@ fn subtract_rows(
     work: &mut [u64],
 )
     requires { ⌜ CombinesRows (q .p) r (viewAt ks kb) (viewAt vs vb) (viewedAt us usb uc ucb uv uvb) (now work) ⌝ }
-    ensures { λ _. ⌜ Subtracted (q .p) (λ j. weigh (viewBefore ks kb) (viewBefore vs vb) (λ k. matrix (viewedBefore us usb uc ucb uv uvb) k j)) (before work) (after work) ⌝ }
+    ensures { λ _. ⌜ Subtracted (q .p) (λ j. weigh (viewBefore ks kb) (viewBefore vs vb) (λ k. matrixBefore us usb uc ucb uv uvb k j)) (before work) (after work) ⌝ }
 {
     let n = count(ks, kb);
     let mut t = 0;
@@ -66,7 +67,6 @@ fn subtract_rows(
 fn is_combination(
     q: Modulus,
     cols: &[u32],
-    cb: &[u8],
     ks: &[u32],
     kb: &[u8],
     vs: &[u32],
@@ -80,11 +80,11 @@ fn is_combination(
     r: usize,
     work: &mut [u64],
 ) -> bool
-    requires { ⌜ ComparesRow (q .p) r (viewAt cols cb) (viewAt ks kb) (viewAt vs vb) (viewedAt us usb uc ucb uv uvb) (now work) ⌝ }
-    ensures { λ z. ⌜ (z ≡ isCombination (q .p) (before work) (viewBefore ks kb) (viewBefore vs vb) (matrix (viewedBefore us usb uc ucb uv uvb))) × (after work ≡ zeros (length (before work))) ⌝ }
+    requires { ⌜ ComparesRow (q .p) r (now cols) (viewAt ks kb) (viewAt vs vb) (viewedAt us usb uc ucb uv uvb) (now work) ⌝ }
+    ensures { λ z. ⌜ (z ≡ isCombination (q .p) (before work) (viewBefore ks kb) (viewBefore vs vb) (matrixBefore us usb uc ucb uv uvb)) × (after work ≡ zeros (length (before work))) ⌝ }
 {
     subtract_rows(q, ks, kb, vs, vb, us, usb, uc, ucb, uv, uvb, r, work);
-    clear_touched(q, cols, cb, ks, kb, us, usb, uc, ucb, work)
+    clear_touched(q, cols, ks, kb, us, usb, uc, ucb, work)
 }
 
 // Whether row R[i] of A is row i of the product, at all columns. A's row is put into the working row:
@@ -92,11 +92,8 @@ fn is_combination(
 fn row_agrees(
     q: Modulus,
     starts: &[u32],
-    sb: &[u8],
     cols: &[u32],
-    cb: &[u8],
     vals: &[u32],
-    vb: &[u8],
     ro: &[u32],
     rob: &[u8],
     ls: &[u32],
@@ -116,19 +113,18 @@ fn row_agrees(
     i: usize,
     work: &mut [u64],
 ) -> bool
-    requires { ⌜ (i < n) × Comparable (q .p) n r (viewedAt starts sb cols cb vals vb) (viewAt ro rob) (viewedAt ls lsb lc lcb lv lvb) (viewedAt us usb uc ucb uv uvb) (now work) ⌝ }
-    ensures { λ z. ⌜ (z ≡ agrees (q .p) (length (before work)) r (matrix (viewedBefore starts sb cols cb vals vb)) (vector (viewBefore ro rob)) (matrix (viewedBefore ls lsb lc lcb lv lvb)) (matrix (viewedBefore us usb uc ucb uv uvb)) i) × (after work ≡ before work) ⌝ }
+    requires { ⌜ (i < n) × Comparable (q .p) n r (storedAt starts cols vals) (viewAt ro rob) (viewedAt ls lsb lc lcb lv lvb) (viewedAt us usb uc ucb uv uvb) (now work) ⌝ }
+    ensures { λ z. ⌜ (z ≡ agrees (q .p) (length (before work)) r (matrix (storedBefore starts cols vals)) (vectorBefore ro rob) (matrixBefore ls lsb lc lcb lv lvb) (matrixBefore us usb uc ucb uv uvb) i) × (after work ≡ before work) ⌝ }
 {
     let k = index_at(ro, rob, i);
-    subtract_row(q, starts, sb, cols, cb, vals, vb, k, q.p - 1, work);
-    let a = index_at(starts, sb, k);
-    let e = index_at(starts, sb, k + 1);
+    subtract_list_row(q, starts, cols, vals, k, q.p - 1, work);
+    let a = index(starts[k]);
+    let e = index(starts[k + 1]);
     let from = index_at(ls, lsb, i);
     let to = index_at(ls, lsb, i + 1);
     is_combination(
         q,
-        list_part(cols, a, e),
-        bytes_part(cols.len(), cb, a, e),
+        part(cols, a, e),
         list_part(lc, from, to),
         bytes_part(lc.len(), lcb, from, to),
         list_part(lv, from, to),
@@ -148,11 +144,8 @@ fn row_agrees(
 pub fn first_differing(
     q: Modulus,
     starts: &[u32],
-    sb: &[u8],
     cols: &[u32],
-    cb: &[u8],
     vals: &[u32],
-    vb: &[u8],
     ro: &[u32],
     rob: &[u8],
     ls: &[u32],
@@ -171,19 +164,16 @@ pub fn first_differing(
     n: usize,
     work: &mut [u64],
 ) -> usize
-    requires { ⌜ Comparable (q .p) n r (viewedAt starts sb cols cb vals vb) (viewAt ro rob) (viewedAt ls lsb lc lcb lv lvb) (viewedAt us usb uc ucb uv uvb) (now work) ⌝ }
-    ensures { λ z. ⌜ (z ≡ first n (agrees (q .p) (length (before work)) r (matrix (viewedBefore starts sb cols cb vals vb)) (vector (viewBefore ro rob)) (matrix (viewedBefore ls lsb lc lcb lv lvb)) (matrix (viewedBefore us usb uc ucb uv uvb)))) × (after work ≡ before work) ⌝ }
+    requires { ⌜ Comparable (q .p) n r (storedAt starts cols vals) (viewAt ro rob) (viewedAt ls lsb lc lcb lv lvb) (viewedAt us usb uc ucb uv uvb) (now work) ⌝ }
+    ensures { λ z. ⌜ (z ≡ first n (agrees (q .p) (length (before work)) r (matrix (storedBefore starts cols vals)) (vectorBefore ro rob) (matrixBefore ls lsb lc lcb lv lvb) (matrixBefore us usb uc ucb uv uvb))) × (after work ≡ before work) ⌝ }
 {
     let mut i = 0;
     while i < n {
         if !row_agrees(
             q,
             starts,
-            sb,
             cols,
-            cb,
             vals,
-            vb,
             ro,
             rob,
             ls,

@@ -124,7 +124,6 @@ fn touches_few(ks: &[u32], kb: &[u8], us: &[u32], usb: &[u8], own: usize, cells:
 pub fn clear_touched(
     q: Modulus,
     cols: &[u32],
-    cb: &[u8],
     ks: &[u32],
     kb: &[u8],
     us: &[u32],
@@ -133,13 +132,14 @@ pub fn clear_touched(
     ucb: &[u8],
     work: &mut [u64],
 ) -> bool
-    requires { ⌜ ClearsTouched (q .p) (viewAt cols cb) (viewAt ks kb) (viewAt us usb) (viewAt uc ucb) (now work) ⌝ }
+    requires { ⌜ ClearsTouched (q .p) (now cols) (viewAt ks kb) (viewAt us usb) (viewAt uc ucb) (now work) ⌝ }
     ensures { λ z. ⌜ TestedAndCleared (q .p) (before work) (after work) z ⌝ }
 {
-    let own = count(cols, cb);
+    let own = cols.len();
     if !touches_few(ks, kb, us, usb, own, work.len()) {
         return zero_and_clear(q, work);
     }
     let zero = sweep_rows(q, ks, kb, us, usb, uc, ucb, work);
-    sweep_row(q, cols, cb, zero, work)
+    let none: &[u8] = b"";
+    sweep_row(q, cols, none, zero, work)
 }

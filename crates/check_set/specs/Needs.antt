@@ -1,6 +1,6 @@
 -- What the check of a set needs; the public calls test it first (refusals 9, 1, 2 and 8).
---   Checkable p n m A s w      a stored matrix in its form, a set whose lists have their lengths, and a working row that is long enough and all zero
---   Judgeable p n m A s w      the same after 11 and 12 passed, with a working row of m cells
+--   Checkable p n m A s w    a stored matrix in its form, a set whose lists have their lengths, and a working row that is long enough and all zero
+--   Judgeable p n m A s w    the same after 11 and 12 passed, with a working row of m cells
 use Prim.Native.Nat.{ℕ, _+_, _≤_, _<_}
 use mathlib.Core.Path.{_≡_}
 use mathlib.Core.Bool.{true}

@@ -1,9 +1,10 @@
-// The check of a set against a stored matrix: refusals 11 to 14, in order. The names of the lists of a set: `ro` and `co` are the
-// row and column order, `ls`, `lc`, `lv` the starts, columns and values of L, `us`, `uc`, `uv` those of U, each with its bytes.
+// The check of a set against a stored matrix: refusals 11 to 14, in order. The matrix is in stored lists. The names of the lists of
+// a set: `ro` and `co` are the row and column order, `ls`, `lc`, `lv` the starts, columns and values of L, `us`, `uc`, `uv` those of U,
+// each with its bytes.
 ghost use mathlib.Core.Path.{_≡_};
 ghost use Rattle.pluq.specs.Judge.{judgeFactors, judge};
 ghost use Rattle.check_set.specs.Needs.{Judgeable, Checkable};
-ghost use Rattle.sparse.specs.Views.{before, after, viewedAt, viewedBefore, viewedSetAt, viewedSetBefore};
+ghost use Rattle.sparse.specs.Views.{before, after, storedAt, storedBefore, viewedSetAt, viewedSetBefore};
 use check_product::first_differing;
 use check_shape::lower::lower_ok;
 use check_shape::order::is_permutation;
@@ -20,11 +21,8 @@ use sparse::form::form_ok;
 pub fn judge_factors(
     q: Modulus,
     starts: &[u32],
-    sb: &[u8],
     cols: &[u32],
-    cb: &[u8],
     vals: &[u32],
-    vb: &[u8],
     ro: &[u32],
     rob: &[u8],
     co: &[u32],
@@ -46,8 +44,8 @@ pub fn judge_factors(
     r: u32,
     work: &mut [u64],
 ) -> Outcome
-    requires { ⌜ Judgeable (q .p) n m (viewedAt starts sb cols cb vals vb) (viewedSetAt r ro rob co cob ls lsb lc lcb lv lvb us usb uc ucb uv uvb) (now work) ⌝ }
-    ensures { λ o. ⌜ (o ≡ judgeFactors (q .p) n m (viewedBefore starts sb cols cb vals vb) (viewedSetBefore r ro rob co cob ls lsb lc lcb lv lvb us usb uc ucb uv uvb)) × (after work ≡ before work) ⌝ }
+    requires { ⌜ Judgeable (q .p) n m (storedAt starts cols vals) (viewedSetAt r ro rob co cob ls lsb lc lcb lv lvb us usb uc ucb uv uvb) (now work) ⌝ }
+    ensures { λ o. ⌜ (o ≡ judgeFactors (q .p) n m (storedBefore starts cols vals) (viewedSetBefore r ro rob co cob ls lsb lc lcb lv lvb us usb uc ucb uv uvb)) × (after work ≡ before work) ⌝ }
 {
     if !form_ok(ls, lsb, lc, lcb, lv, lvb, r, q.p) {
         return Outcome::Refused(BAD_FACTORS, 0);
@@ -64,11 +62,8 @@ pub fn judge_factors(
     let i = first_differing(
         q,
         starts,
-        sb,
         cols,
-        cb,
         vals,
-        vb,
         ro,
         rob,
         ls,
@@ -97,11 +92,8 @@ pub fn judge_factors(
 pub fn check(
     q: Modulus,
     starts: &[u32],
-    sb: &[u8],
     cols: &[u32],
-    cb: &[u8],
     vals: &[u32],
-    vb: &[u8],
     ro: &[u32],
     rob: &[u8],
     co: &[u32],
@@ -123,8 +115,8 @@ pub fn check(
     r: u32,
     work: &mut [u64],
 ) -> Outcome
-    requires { ⌜ Checkable (q .p) n m (viewedAt starts sb cols cb vals vb) (viewedSetAt r ro rob co cob ls lsb lc lcb lv lvb us usb uc ucb uv uvb) (now work) ⌝ }
-    ensures { λ o. ⌜ (o ≡ judge (q .p) n m (viewedBefore starts sb cols cb vals vb) (viewedSetBefore r ro rob co cob ls lsb lc lcb lv lvb us usb uc ucb uv uvb)) × (after work ≡ before work) ⌝ }
+    requires { ⌜ Checkable (q .p) n m (storedAt starts cols vals) (viewedSetAt r ro rob co cob ls lsb lc lcb lv lvb us usb uc ucb uv uvb) (now work) ⌝ }
+    ensures { λ o. ⌜ (o ≡ judge (q .p) n m (storedBefore starts cols vals) (viewedSetBefore r ro rob co cob ls lsb lc lcb lv lvb us usb uc ucb uv uvb)) × (after work ≡ before work) ⌝ }
 {
     if !is_permutation(ro, rob, work) {
         return Outcome::Refused(NO_PERMUTATION, 0);
@@ -141,11 +133,8 @@ pub fn check(
     judge_factors(
         q,
         starts,
-        sb,
         cols,
-        cb,
         vals,
-        vb,
         ro,
         rob,
         co,

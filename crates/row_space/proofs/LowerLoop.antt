@@ -24,8 +24,8 @@ use Rattle.sparse.specs.Row.{Below}
 use Rattle.sparse.specs.Matrix.{Compressed, matrix}
 use Rattle.sparse.specs.WorkingRow.{Subtracted}
 use Rattle.pluq.proofs.Orders.{permutation-means}
-use Rattle.row_space.specs.Substitution.{less, quotient, backL}
-use Rattle.row_space.specs.Ready.{residues, QuotientTaken, LowerOrder}
+use Rattle.row_space.specs.Substitution.{less, quotient, backL, residues, QuotientTaken}
+use Rattle.row_space.specs.Needs.{LowerOrder}
 use Rattle.row_space.proofs.Substitutions.{put-here, put-other}
 
 pub backL-ext : (p : ℕ) (L : Matrix) (k : ℕ) (d d′ : Vector) → ((l : ℕ) → l < k → d l ≡ d′ l) → (i : ℕ) → backL p L k d i ≡ backL p L k d′ i

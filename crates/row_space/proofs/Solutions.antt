@@ -31,22 +31,22 @@ use Rattle.sparse.specs.Matrix.{Compressed, matrix}
 use Rattle.sparse.specs.Set.{Set}
 use Rattle.sparse.proofs.Rows.{form-below}
 use Rattle.pluq.specs.Judge.{Passes}
-use Rattle.row_space.specs.Substitution.{backL, backU}
-use Rattle.row_space.specs.Solve.{remainder, coefficients, lowest, isOpen, Solved, opened, closed, solve}
+use Rattle.row_space.specs.Substitution.{backL, backU, throughL, throughU}
+use Rattle.row_space.specs.Solve.{remainder, multiplesOf, lowestOf, isOpen, Solved, opened, closed, solve}
 use Rattle.row_space.specs.declared.Verdict.{Verdict}
 use Rattle.row_space.specs.declared.Verdict.the-variants.{Open, Closed}
 use Rattle.row_space.proofs.Substitutions.{δ-small, backL-small, backL-solves, backU-kept, backU-small, backU-right}
 
 -- the two cases of `solve`
 abbrev openX : (p n : ℕ) → Set → Vector → List ℕ
-openX p n s y = tabulate n (place (s .r) (vector (s .R)) (backL p (matrix (s .L)) (s .r) (coefficients p s y)))
+openX p n s y = throughL p n (s .r) (vector (s .R)) (matrix (s .L)) (multiplesOf p s y)
 
 abbrev closedZ : (p m : ℕ) → Set → Vector → List ℕ
-closedZ p m s y = tabulate m (backU p m (vector (s .C)) (matrix (s .U)) (s .r) (δ (lowest p m s y)))
+closedZ p m s y = throughU p m (s .r) (vector (s .C)) (matrix (s .U)) (δ (lowestOf m (remainder p s y)))
 
 -- a vector is all zero below m, or has a lowest place at which it is not 0
-pub lowest-cases : (m : ℕ) (w : Vector) → ((m ≤ first m (λ j. eqb (w j) 0)) × AllZero m w) ⊎ ((first m (λ j. eqb (w j) 0) < m) × Lowest m w (first m (λ j. eqb (w j) 0)))
-unfolding AllZero
+pub lowest-cases : (m : ℕ) (w : Vector) → ((m ≤ lowestOf m w) × AllZero m w) ⊎ ((lowestOf m w < m) × Lowest m w (lowestOf m w))
+unfolding AllZero lowestOf
 lowest-cases m w = go (decLt j m)
   where
     j : ℕ
@@ -61,12 +61,12 @@ lowest-cases m w = go (decLt j m)
 
 pub solve-cases : (p n m : ℕ) (s : Set) (y : Vector)
     → (AllZero m (remainder p s y) × (solve p n m s y ≡ opened m (openX p n s y)))
-    ⊎ (Lowest m (remainder p s y) (lowest p m s y) × (solve p n m s y ≡ closed n (closedZ p m s y)))
-unfolding solve lowest
+    ⊎ (Lowest m (remainder p s y) (lowestOf m (remainder p s y)) × (solve p n m s y ≡ closed n (closedZ p m s y)))
+unfolding solve
 solve-cases p n m s y = go (lowest-cases m (remainder p s y))
   where
     j : ℕ
-    j = lowest p m s y
+    j = lowestOf m (remainder p s y)
 
     pick : Bool → Solved
     pick b = cond b (opened m (openX p n s y)) (closed n (closedZ p m s y))
@@ -96,7 +96,7 @@ module _ {p : ℕ} (prime : Prime p) {n m : ℕ} {A : Compressed} {s : Set} (ok 
   U = matrix (s .U)
 
   abbrev v : Vector
-  v = backL p L r (coefficients p s (vector y))
+  v = backL p L r (multiplesOf p s (vector y))
 
   inside : (k : ℕ) → k < r → C k < m
   inside k h = ok .factors .columns .below k (omega (arith, ok .factors .rank-columns))
@@ -126,7 +126,7 @@ module _ {p : ℕ} (prime : Prime p) {n m : ℕ} {A : Compressed} {s : Set} (ok 
       rw (← q) (go (o .0) (o .1) (decLt (o .0) r))
     where
       go : (i : ℕ) → i < n → Dec (i < r) → place r R v (R i) < p
-      go i g (yes b) = rw (place-at r n R v pivot-rows i b) (backL-small p L r (coefficients p s (vector y)) i pos)
+      go i g (yes b) = rw (place-at r n R v pivot-rows i b) (backL-small p L r (multiplesOf p s (vector y)) i pos)
       go i g (no b) = rw (off i (omega arith) g) pos
 
   -- ---- as vectors
@@ -139,7 +139,7 @@ module _ {p : ℕ} (prime : Prime p) {n m : ℕ} {A : Compressed} {s : Set} (ok 
         combines = λ j h.
             exact (dot-place r n R v (λ i. matrix A i j) (λ i g. ok .factors .rows .below i (omega (arith, ok .factors .rank-rows))))
             ⊙ combination prime (ok .factors) v j h
-            ⊙ dot-left r (λ k. U k j) (λ k g. exact (dot-comm r v (λ i. L i k)) ⊙ backL-solves prime r L (ok .factors .L-above) diagonal r (omega arith) (coefficients p s (vector y)) k g)
+            ⊙ dot-left r (λ k. U k j) (λ k g. exact (dot-comm r v (λ i. L i k)) ⊙ backL-solves prime r L (ok .factors .L-above) diagonal r (omega arith) (multiplesOf p s (vector y)) k g)
             ⊙ exact (omega (arith, none j h))
             ⊙ turn (reduced-split p pos m r C U inside (vector y) small r (omega arith) j);
         others = off;
@@ -208,7 +208,7 @@ module _ {p : ℕ} (prime : Prime p) {n m : ℕ} {A : Compressed} {s : Set} (ok 
   abbrev Cases : Type 0
   Cases =
       (AllZero m (remainder p s (vector y)) × (solve p n m s (vector y) ≡ opened m (openX p n s (vector y))))
-      ⊎ (Lowest m (remainder p s (vector y)) (lowest p m s (vector y)) × (solve p n m s (vector y) ≡ closed n (closedZ p m s (vector y))))
+      ⊎ (Lowest m (remainder p s (vector y)) (lowestOf m (remainder p s (vector y))) × (solve p n m s (vector y) ≡ closed n (closedZ p m s (vector y))))
 
   pub solve-open : solve p n m s (vector y) .verdict ≡ Open
       → AnswerOpen p n m (s .r) (matrix A) (vector (s .R)) (vector (s .C)) (matrix (s .U)) y (solve p n m s (vector y) .x) (solve p n m s (vector y) .z)
@@ -220,13 +220,13 @@ module _ {p : ℕ} (prime : Prime p) {n m : ℕ} {A : Compressed} {s : Set} (ok 
 
   pub solve-closed : solve p n m s (vector y) .verdict ≡ Closed
       → (a : AnswerClosed p n m (s .r) (matrix A) (vector (s .R)) (vector (s .C)) (matrix (s .U)) y (solve p n m s (vector y) .x) (solve p n m s (vector y) .z))
-      × (a .column ≡ lowest p m s (vector y))
+      × (a .column ≡ lowestOf m (remainder p s (vector y)))
   unfolding closed-list
   solve-closed e = go (solve-cases p n m s (vector y))
     where
-      go : Cases → (a : AnswerClosed p n m r (matrix A) R C U y (solve p n m s (vector y) .x) (solve p n m s (vector y) .z)) × (a .column ≡ lowest p m s (vector y))
+      go : Cases → (a : AnswerClosed p n m r (matrix A) R C U y (solve p n m s (vector y) .x) (solve p n m s (vector y) .z)) × (a .column ≡ lowestOf m (remainder p s (vector y)))
       go (inl (none, q)) = absurd (let z : _≡_ {A = ℕ} 0 1 = cc in omega arith)
-      go (inr (low, q)) = rw q (closed-list (lowest p m s (vector y)) low, refl)
+      go (inr (low, q)) = rw q (closed-list (lowestOf m (remainder p s (vector y))) low, refl)
 
   -- document 01's answer, in both cases
   pub solve-answers : let a = solve p n m s (vector y) in Answer p n m (s .r) (matrix A) (vector (s .R)) (vector (s .C)) (matrix (s .U)) y (isOpen (a .verdict)) (a .x) (a .z)

@@ -50,7 +50,7 @@ use Rattle.sparse.specs.Matrix.{Compressed, matrix}
 use Rattle.sparse.specs.Set.{Set}
 use Rattle.pluq.specs.Judge.{judge, Passes}
 use Rattle.pluq.proofs.Judged.{judge-sound}
-use Rattle.row_space.specs.Solve.{remainder, lowest, isOpen, Solved, solve, openColumns}
+use Rattle.row_space.specs.Solve.{remainder, lowestOf, isOpen, Solved, solve, openColumns}
 use Rattle.row_space.specs.declared.Verdict.{Verdict}
 use Rattle.row_space.specs.declared.Verdict.the-variants.{Open, Closed}
 use Rattle.row_space.proofs.Solutions.{solve-open, solve-closed, solve-answers}
@@ -82,7 +82,7 @@ module _ {p : ℕ} (prime : Prime p) (n m : ℕ) (A : Compressed) (s : Set) (lon
     closes : answer .verdict ≡ Closed → AnswerClosed p n m (s .r) (matrix A) (vector (s .R)) (vector (s .C)) (matrix (s .U)) y (answer .x) (answer .z)
     closes e = solve-closed prime passes y residues e .0
 
-    column-is : (e : answer .verdict ≡ Closed) → closes e .column ≡ lowest p m s (vector y)
+    column-is : (e : answer .verdict ≡ Closed) → closes e .column ≡ lowestOf m (remainder p s (vector y))
     unfolding closes
     column-is e = solve-closed prime passes y residues e .1
 
@@ -119,26 +119,26 @@ module _ {p : ℕ} (prime : Prime p) (n m : ℕ) (A : Compressed) (s : Set) (lon
         ext-getD 0 x (answer .x) (long ∙ sym (b .length-x))
         (λ i h. open-unique prime product (vector y) (vector x) (vector (answer .x)) a (b .x-is) i (omega arith))
 
-    pub closed-column : answer .verdict ≡ Closed → Lowest m (remainder p s (vector y)) (lowest p m s (vector y))
+    pub closed-column : answer .verdict ≡ Closed → Lowest m (remainder p s (vector y)) (lowestOf m (remainder p s (vector y)))
     closed-column e = rw (column-is e) at (closes e .remainder)
 
-    at-column : (e : answer .verdict ≡ Closed) → ClosedAnswer p n m (s .r) (matrix A) (vector (s .C)) (lowest p m s (vector y)) (vector (answer .z))
+    at-column : (e : answer .verdict ≡ Closed) → ClosedAnswer p n m (s .r) (matrix A) (vector (s .C)) (lowestOf m (remainder p s (vector y))) (vector (answer .z))
     at-column e = rw (column-is e) at (closes e .z-is)
 
     pub closed-answer : answer .verdict ≡ Closed
-        → (length (answer .z) ≡ m) × ClosedAnswer p n m (s .r) (matrix A) (vector (s .C)) (lowest p m s (vector y)) (vector (answer .z)) × (answer .x ≡ zeros n)
+        → (length (answer .z) ≡ m) × ClosedAnswer p n m (s .r) (matrix A) (vector (s .C)) (lowestOf m (remainder p s (vector y))) (vector (answer .z)) × (answer .x ≡ zeros n)
     closed-answer e = let a = closes e in (a .length-z, at-column e, a .x-is ∙ sym (zeros-replicate n))
 
-    pub closed-only : answer .verdict ≡ Closed → (z : List ℕ) → length z ≡ m → ClosedAnswer p n m (s .r) (matrix A) (vector (s .C)) (lowest p m s (vector y)) (vector z) → z ≡ answer .z
+    pub closed-only : answer .verdict ≡ Closed → (z : List ℕ) → length z ≡ m → ClosedAnswer p n m (s .r) (matrix A) (vector (s .C)) (lowestOf m (remainder p s (vector y))) (vector z) → z ≡ answer .z
     closed-only e z long a =
         let b = closes e in
         ext-getD 0 z (answer .z) (long ∙ sym (b .length-z))
-        (λ i h. closed-unique prime product (lowest p m s (vector y)) (vector z) (vector (answer .z)) a (at-column e) i (omega arith))
+        (λ i h. closed-unique prime product (lowestOf m (remainder p s (vector y))) (vector z) (vector (answer .z)) a (at-column e) i (omega arith))
 
     pub closed-differs : answer .verdict ≡ Closed → ¬ (dot m (vector y) (vector (answer .z)) ≈⟨ p ⟩ 0)
     closed-differs e h =
-        let (z, a, differs) = verdicts.closed-answer prime product (vector y) residues (lowest p m s (vector y)) (closed-column e) in
-        differs (exact (dot-eq m {u = vector y} (λ i b. refl) (λ i b. closed-unique prime product (lowest p m s (vector y)) z (vector (answer .z)) a (at-column e) i b)) ⊙ h)
+        let (z, a, differs) = verdicts.closed-answer prime product (vector y) residues (lowestOf m (remainder p s (vector y))) (closed-column e) in
+        differs (exact (dot-eq m {u = vector y} (λ i b. refl) (λ i b. closed-unique prime product (lowestOf m (remainder p s (vector y))) z (vector (answer .z)) a (at-column e) i b)) ⊙ h)
 
     -- ---- what a listener learns
 

@@ -16,7 +16,7 @@ use Rattle.algebra.proofs.Verdict.{verdict}
 use Rattle.sparse.specs.Matrix.{Compressed, matrix}
 use Rattle.sparse.specs.Set.{Set}
 use Rattle.pluq.specs.Judge.{Passes}
-use Rattle.row_space.specs.Solve.{remainder, lowest, openColumns}
+use Rattle.row_space.specs.Solve.{remainder, lowestOf, openColumns}
 use Rattle.row_space.proofs.Substitutions.{δ-small}
 use Rattle.row_space.proofs.Solutions.{lowest-cases}
 
@@ -27,16 +27,16 @@ module _ {p : ℕ} (prime : Prime p) {n m : ℕ} {A : Compressed} {s : Set} (ok 
   exactly : AllZero m (remainder p s (δ j)) ↔ Opens
   exactly = verdict prime (ok .factors) (δ j) (λ t h. δ-small p (prime .two) j t)
 
-  cell : getD (openColumns p m s) j 0 ≡ cond (leb m (lowest p m s (δ j))) 1 0
+  cell : getD (openColumns p m s) j 0 ≡ cond (leb m (lowestOf m (remainder p s (δ j)))) 1 0
   unfolding openColumns
-  cell = tabulate-at m (λ j. cond (leb m (lowest p m s (δ j))) 1 0) j inside
+  cell = tabulate-at m (λ j. cond (leb m (lowestOf m (remainder p s (δ j)))) 1 0) j inside
 
   cases : ((getD (openColumns p m s) j 0 ≡ 1) × Opens) ⊎ ((getD (openColumns p m s) j 0 ≡ 0) × (¬ Opens))
-  unfolding lowest AllZero
+  unfolding lowestOf AllZero
   cases = go (lowest-cases m (remainder p s (δ j)))
     where
       f : ℕ
-      f = lowest p m s (δ j)
+      f = lowestOf m (remainder p s (δ j))
 
       mark : Bool → ℕ
       mark b = cond b 1 0

@@ -1,4 +1,4 @@
 pub mod Substitution
 pub mod Solve
 pub mod Question
-pub mod Ready
+pub mod Needs

@@ -1,12 +1,12 @@
 -- A question y answered from a set of factors (document 01, "Questions").
---   remainder p s y        y reduced by all rows of U
---   coefficients p s y     the multiples of U's rows that were taken away, in order
---   lowest p m s y         the lowest-numbered column at which the remainder is not 0; m where there is none
---   Solved                 the verdict, x and z
---   opened m x             open with x: z is all zero
---   solve p n m s y        open: x by substitution through L, placed at the pivot rows; closed: z by substitution through U
---   isOpen                 true for open, false for closed
---   openColumns p m s      a cell for each column: 1 where its unit question is open, 0 where it is closed (document 01's open words)
+--   remainder p s y      y reduced by all rows of U
+--   multiplesOf p s y    the multiples of U's rows that were taken away, in order
+--   lowestOf m v         the lowest-numbered place below m at which v is not 0; m where there is none
+--   Solved               the verdict, x and z
+--   opened, closed       open with x, where z is all zero; closed with z, where x is
+--   solve p n m s y      open: x by substitution through L, placed at the pivot rows; closed: z by substitution through U
+--   isOpen               true for open, false for closed
+--   openColumns p m s    a cell for each column: 1 where its unit question is open, 0 where it is closed (document 01's open words)
 use Prim.Native.Nat.{ℕ}
 use mathlib.Core.Bool.{Bool, true, false, cond}
 use mathlib.Core.List.{List}
@@ -14,23 +14,23 @@ use lib.Dec.{eqb, leb}
 use Rattle.lists.specs.Filled.{zeros}
 use Rattle.lists.specs.Tabulate.{tabulate}
 use Rattle.lists.specs.Tests.{first}
-use Rattle.algebra.specs.Sum.{δ, place}
+use Rattle.algebra.specs.Sum.{δ}
 use Rattle.algebra.specs.Matrix.{Vector, vector}
 use Rattle.algebra.specs.Reduction.{reduced}
 use Rattle.sparse.specs.Matrix.{matrix}
 use Rattle.sparse.specs.Set.{Set}
-use Rattle.row_space.specs.Substitution.{backL, backU}
+use Rattle.row_space.specs.Substitution.{throughL, throughU}
 use Rattle.row_space.specs.declared.Verdict.{Verdict}
 use Rattle.row_space.specs.declared.Verdict.the-variants.{Open, Closed}
 
 abbrev pub remainder : ℕ → Set → Vector → Vector
 remainder p s y = reduced p (vector (s .C)) (matrix (s .U)) (s .r) y
 
-abbrev pub coefficients : ℕ → Set → Vector → Vector
-coefficients p s y = λ k. reduced p (vector (s .C)) (matrix (s .U)) k y (vector (s .C) k)
+abbrev pub multiplesOf : ℕ → Set → Vector → Vector
+multiplesOf p s y = λ k. reduced p (vector (s .C)) (matrix (s .U)) k y (vector (s .C) k)
 
-unfoldable pub lowest : ℕ → ℕ → Set → Vector → ℕ
-lowest p m s y = first m (λ j. eqb (remainder p s y j) 0)
+unfoldable pub lowestOf : ℕ → Vector → ℕ
+lowestOf m v = first m (λ j. eqb (v j) 0)
 
 abbrev pub isOpen : Verdict → Bool
 isOpen Open = true
@@ -49,9 +49,9 @@ closed n z = record { verdict = Closed; x = zeros n; z = z }
 
 unfoldable pub solve : (p n m : ℕ) → Set → Vector → Solved
 solve p n m s y =
-    cond (leb m (lowest p m s y))
-    (opened m (tabulate n (place (s .r) (vector (s .R)) (backL p (matrix (s .L)) (s .r) (coefficients p s y)))))
-    (closed n (tabulate m (backU p m (vector (s .C)) (matrix (s .U)) (s .r) (δ (lowest p m s y)))))
+    cond (leb m (lowestOf m (remainder p s y)))
+    (opened m (throughL p n (s .r) (vector (s .R)) (matrix (s .L)) (multiplesOf p s y)))
+    (closed n (throughU p m (s .r) (vector (s .C)) (matrix (s .U)) (δ (lowestOf m (remainder p s y)))))
 
 unfoldable pub openColumns : (p m : ℕ) → Set → List ℕ
-openColumns p m s = tabulate m (λ j. cond (leb m (lowest p m s (δ j))) 1 0)
+openColumns p m s = tabulate m (λ j. cond (leb m (lowestOf m (remainder p s (δ j)))) 1 0)

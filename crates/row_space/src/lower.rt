@@ -1,12 +1,8 @@
 // x by substitution through L, from its last pivot row up.
 ghost use lib.ListN.{length};
-ghost use Rattle.lists.specs.Tabulate.{tabulate};
-ghost use Rattle.algebra.specs.Sum.{place};
-ghost use Rattle.algebra.specs.Matrix.{vector};
-ghost use Rattle.sparse.specs.Matrix.{matrix};
-ghost use Rattle.sparse.specs.Views.{before, after, viewAt, viewBefore, viewedAt, viewedBefore};
-ghost use Rattle.row_space.specs.Substitution.{backL};
-ghost use Rattle.row_space.specs.Ready.{residues, LowerRowReady, QuotientTaken, LowerOrder, Placed};
+ghost use Rattle.sparse.specs.Views.{before, after, viewAt, viewedAt, viewedBefore, vectorBefore, matrixBefore};
+ghost use Rattle.row_space.specs.Substitution.{throughL, residues, QuotientTaken, Placed};
+ghost use Rattle.row_space.specs.Needs.{LowerRowReady, LowerOrder};
 use lists::clear_row;
 use lists::index;
 use residue::Modulus;
@@ -52,7 +48,7 @@ pub fn solve_lower(
     work: &mut [u64],
 )
     requires { ⌜ LowerOrder (q .p) (viewedAt ls lsb lc lcb lv lvb) (viewAt ro rob) (now work) (now x) ⌝ }
-    ensures { λ _. ⌜ Placed (tabulate (length (before x)) (place (length (before work)) (vector (viewBefore ro rob)) (backL (q .p) (matrix (viewedBefore ls lsb lc lcb lv lvb)) (length (before work)) (residues (q .p) (before work))))) (after x) (after work) ⌝ }
+    ensures { λ _. ⌜ Placed (throughL (q .p) (length (before x)) (length (before work)) (vectorBefore ro rob) (matrixBefore ls lsb lc lcb lv lvb) (residues (q .p) (before work))) (after x) (after work) ⌝ }
 {
     let mut k = work.len();
     while 0 < k {

@@ -2,14 +2,12 @@
 ghost use mathlib.Core.Path.{_≡_};
 ghost use Prim.Native.Nat.{_%_};
 ghost use lib.ListN.{length};
-ghost use Rattle.lists.specs.Tabulate.{tabulate};
 ghost use Rattle.algebra.specs.Matrix.{vector};
 ghost use Rattle.residue.specs.Arithmetic.{Residue};
 ghost use Rattle.sparse.specs.Row.{weigh};
-ghost use Rattle.sparse.specs.Matrix.{matrix};
-ghost use Rattle.sparse.specs.Views.{before, after, viewAt, viewBefore, viewedAt, viewedBefore};
-ghost use Rattle.row_space.specs.Substitution.{missing, backU};
-ghost use Rattle.row_space.specs.Ready.{RowTimesReady, UpperRowReady, UpperReady};
+ghost use Rattle.sparse.specs.Views.{before, after, viewAt, viewBefore, viewedAt, vectorBefore, matrixBefore};
+ghost use Rattle.row_space.specs.Substitution.{missing, throughU};
+ghost use Rattle.row_space.specs.Needs.{RowTimesReady, UpperRowReady, UpperReady};
 use lists::index;
 use residue::Modulus;
 use sparse::words::bytes_part;
@@ -47,7 +45,7 @@ fn missing_value(
     z: &[u32],
 ) -> u32
     requires { ⌜ UpperRowReady (q .p) k (viewedAt us usb uc ucb uv uvb) (now z) ⌝ }
-    ensures { λ v. ⌜ v ≡ missing (q .p) (length (before z)) (matrix (viewedBefore us usb uc ucb uv uvb) k) (vector (before z)) ⌝ }
+    ensures { λ v. ⌜ v ≡ missing (q .p) (length (before z)) (matrixBefore us usb uc ucb uv uvb k) (vector (before z)) ⌝ }
 {
     let a = index(word(us, usb, k));
     let e = index(word(us, usb, k + 1));
@@ -76,7 +74,7 @@ pub fn solve_upper(
     z: &mut [u32],
 )
     requires { ⌜ UpperReady (q .p) r (viewedAt us usb uc ucb uv uvb) (viewAt co cob) (now z) ⌝ }
-    ensures { λ _. ⌜ after z ≡ tabulate (length (before z)) (backU (q .p) (length (before z)) (vector (viewBefore co cob)) (matrix (viewedBefore us usb uc ucb uv uvb)) r (vector (before z))) ⌝ }
+    ensures { λ _. ⌜ after z ≡ throughU (q .p) (length (before z)) r (vectorBefore co cob) (matrixBefore us usb uc ucb uv uvb) (vector (before z)) ⌝ }
 {
     let mut k = r;
     while 0 < k {

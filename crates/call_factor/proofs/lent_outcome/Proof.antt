@@ -4,7 +4,7 @@ use mathlib.Core.Bool.{true}
 use borrow.Author.Tests.{not-true, not-false}
 use Rattle.sparse.specs.Matrix.{Compressed, compressed}
 use Rattle.call_plan.specs.Tests.{planLengths}
-use Rattle.call_check.proofs.Tested.{plan-length, other-length, plan-next}
+use Rattle.call_plan.proofs.Outcomes.{plan-length, other-length, plan-next}
 use Rattle.call_factor.specs.Lengths.{lentLengths, lentOutcome}
 use borrow.Author.Needs.{needs}
 use Rattle.call_factor.proofs.lent_outcome.Statement.{statement}

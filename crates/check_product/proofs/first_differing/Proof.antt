@@ -14,26 +14,26 @@ use Rattle.check_product.proofs.first_differing.Statement.{statement}
 use Rattle.check_product.proofs.first_differing.Tie as tie
 
 abbrev Inv-loop : tie.InvT-loop
-Inv-loop q ss sb cols cb vals vb ro rob ls lsb lc lcb lv lvb us usb uc ucb uv uvb r n work₀ i₀ work i = Scanning n (agrees (q .p) (length work₀) r (matrix (compressed (view ss sb) (view cols cb) (view vals vb))) (vector (view ro rob)) (matrix (compressed (view ls lsb) (view lc lcb) (view lv lvb))) (matrix (compressed (view us usb) (view uc ucb) (view uv uvb)))) work₀ work i
+Inv-loop q starts cols vals ro rob ls lsb lc lcb lv lvb us usb uc ucb uv uvb r n work₀ i₀ work i = Scanning n (agrees (q .p) (length work₀) r (matrix (compressed starts cols vals)) (vector (view ro rob)) (matrix (compressed (view ls lsb) (view lc lcb) (view lv lvb))) (matrix (compressed (view us usb) (view uc ucb) (view uv uvb)))) work₀ work i
 
 abbrev μ-loop : tie.MeasureT-loop
-μ-loop q ss sb cols cb vals vb ro rob ls lsb lc lcb lv lvb us usb uc ucb uv uvb r n work₀ i₀ work i = n - i
+μ-loop q starts cols vals ro rob ls lsb lc lcb lv lvb us usb uc ucb uv uvb r n work₀ i₀ work i = n - i
 
 abbrev start : tie.After-row-agrees Inv-loop μ-loop → tie.Start Inv-loop μ-loop
-start c = c .before .before .before .before .before .before .before .before .before .before .before .before .before .before .before .before .before .before .before .before .before .before .before .before .before
+start c = c .before .before .before .before .before .before .before .before .before .before .before .before .before .before .before .before .before .before .before .before .before .before
 
 -- the test is of the row as it was first lent
 test : (c : tie.After-row-agrees Inv-loop μ-loop)
-    → let s = start c in c .row-agrees .result ≡ agrees (s .args .q .p) (length (s .args .work .now)) (s .args .r) (matrix (compressed (view (s .args .starts .now) (s .args .sb .now)) (view (s .args .cols .now) (s .args .cb .now)) (view (s .args .vals .now) (s .args .vb .now)))) (vector (view (s .args .ro .now) (s .args .rob .now))) (matrix (compressed (view (s .args .ls .now) (s .args .lsb .now)) (view (s .args .lc .now) (s .args .lcb .now)) (view (s .args .lv .now) (s .args .lvb .now)))) (matrix (compressed (view (s .args .us .now) (s .args .usb .now)) (view (s .args .uc .now) (s .args .ucb .now)) (view (s .args .uv .now) (s .args .uvb .now)))) (c .before .before .before .loop .i)
+    → let s = start c in c .row-agrees .result ≡ agrees (s .args .q .p) (length (s .args .work .now)) (s .args .r) (matrix (compressed (s .args .starts .now) (s .args .cols .now) (s .args .vals .now))) (vector (view (s .args .ro .now) (s .args .rob .now))) (matrix (compressed (view (s .args .ls .now) (s .args .lsb .now)) (view (s .args .lc .now) (s .args .lcb .now)) (view (s .args .lv .now) (s .args .lvb .now)))) (matrix (compressed (view (s .args .us .now) (s .args .usb .now)) (view (s .args .uc .now) (s .args .ucb .now)) (view (s .args .uv .now) (s .args .uvb .now)))) (c .before .before .before .loop .i)
 test c =
     let s = start c in
-    c .row-agrees .ensures .0 ∙ ap (λ (w : List ℕ). agrees (s .args .q .p) (length w) (s .args .r) (matrix (compressed (view (s .args .starts .now) (s .args .sb .now)) (view (s .args .cols .now) (s .args .cb .now)) (view (s .args .vals .now) (s .args .vb .now)))) (vector (view (s .args .ro .now) (s .args .rob .now))) (matrix (compressed (view (s .args .ls .now) (s .args .lsb .now)) (view (s .args .lc .now) (s .args .lcb .now)) (view (s .args .lv .now) (s .args .lvb .now)))) (matrix (compressed (view (s .args .us .now) (s .args .usb .now)) (view (s .args .uc .now) (s .args .ucb .now)) (view (s .args .uv .now) (s .args .uvb .now)))) (c .before .before .before .loop .i)) (c .before .before .before .loop .inv .same)
+    c .row-agrees .ensures .0 ∙ ap (λ (w : List ℕ). agrees (s .args .q .p) (length w) (s .args .r) (matrix (compressed (s .args .starts .now) (s .args .cols .now) (s .args .vals .now))) (vector (view (s .args .ro .now) (s .args .rob .now))) (matrix (compressed (view (s .args .ls .now) (s .args .lsb .now)) (view (s .args .lc .now) (s .args .lcb .now)) (view (s .args .lv .now) (s .args .lvb .now)))) (matrix (compressed (view (s .args .us .now) (s .args .usb .now)) (view (s .args .uc .now) (s .args .ucb .now)) (view (s .args .uv .now) (s .args .uvb .now)))) (c .before .before .before .loop .i)) (c .before .before .before .loop .inv .same)
 
 loop-holds : tie.Need-loop-holds Inv-loop μ-loop
 loop-holds c = scanning-starts _ _ _
 
 row-agrees-requires : tie.Need-row-agrees-requires Inv-loop μ-loop
-row-agrees-requires c κs = (omega arith, rw (c .before .before .loop .inv .same) (c .before .before .before .before .before .before .before .before .before .before .before .before .before .before .before .before .before .before .before .before .before .before .before .before .pre))
+row-agrees-requires c κs = (omega arith, rw (c .before .before .loop .inv .same) (c .before .before .before .before .before .before .before .before .before .before .before .before .before .before .before .before .before .before .before .before .before .pre))
 
 same-length : tie.Need-same-length Inv-loop μ-loop
 same-length c = ap length (c .before .before .before .row-agrees .ensures .1 ∙ c .before .before .before .before .before .before .loop .inv .same)

@@ -11,7 +11,7 @@ use Rattle.check_product.proofs.is_combination.Statement.{statement}
 use Rattle.check_product.proofs.is_combination.Tie as tie
 
 abbrev cols : tie.Start → List ℕ
-cols s = view (s .args .cols .now) (s .args .cb .now)
+cols s = s .args .cols .now
 
 abbrev ks : tie.Start → List ℕ
 ks s = view (s .args .ks .now) (s .args .kb .now)
@@ -23,7 +23,7 @@ abbrev U : tie.Start → Compressed
 U s = viewed (s .args .us .now) (s .args .usb .now) (s .args .uc .now) (s .args .ucb .now) (s .args .uv .now) (s .args .uvb .now)
 
 abbrev start-arg : tie.After-subtract-rows-arg → tie.Start
-start-arg c = c .before .before .before .before .before .before .before .before .before .before .before .before .before .before
+start-arg c = c .before .before .before .before .before .before .before .before .before .before .before .before .before
 
 abbrev start : tie.After-subtract-rows → tie.Start
 start c = start-arg (c .before)

@@ -10,7 +10,7 @@ use borrow.Author.Needs.{needs}
 use borrow.Author.Tests.{not-true, not-false}
 use Rattle.lists.specs.Filled.{zeros}
 use Rattle.sparse.specs.Words.{view}
-use Rattle.sparse.specs.Matrix.{Compressed, viewed}
+use Rattle.sparse.specs.Matrix.{Compressed, compressed, viewed}
 use Rattle.sparse.specs.Set.{Set, setOf}
 use Rattle.pluq.specs.Order.{permutation}
 use Rattle.check_set.proofs.Faults.{fault-R, fault-C, fault-n, fault-m, through}
@@ -19,13 +19,13 @@ use Rattle.check_set.proofs.check.Statement.{statement}
 use Rattle.check_set.proofs.check.Tie as tie
 
 abbrev plan : tie.Start → Compressed
-plan s = viewed (s .args .starts .now) (s .args .sb .now) (s .args .cols .now) (s .args .cb .now) (s .args .vals .now) (s .args .vb .now)
+plan s = compressed (s .args .starts .now) (s .args .cols .now) (s .args .vals .now)
 
 abbrev set : tie.Start → Set
 set s = setOf (s .args .r) (view (s .args .ro .now) (s .args .rob .now)) (view (s .args .co .now) (s .args .cob .now)) (viewed (s .args .ls .now) (s .args .lsb .now) (s .args .lc .now) (s .args .lcb .now) (s .args .lv .now) (s .args .lvb .now)) (viewed (s .args .us .now) (s .args .usb .now) (s .args .uc .now) (s .args .ucb .now) (s .args .uv .now) (s .args .uvb .now))
 
 abbrev start : tie.After-is-permutation → tie.Start
-start c = c .before .before .before .before .before .before .before .before .before .before .before .before .before .before .before .before .before .before .before .before .before .before .before .before .before
+start c = c .before .before .before .before .before .before .before .before .before .before .before .before .before .before .before .before .before .before .before .before .before .before
 
 R-good : (c : tie.Else1) → let s = start (c .before .before .before) in permutation (set s .R) ≡ true
 R-good c = sym (c .before .before .before .is-permutation .ensures .0) ∙ not-false (c .before .before .before .is-permutation .result) (c .if1 .left)
@@ -34,7 +34,7 @@ C-good : (c : tie.Else2) → let s = start (c .before .before .before .before .b
 C-good c = sym (c .before .before .before .is-permutation2 .ensures .0) ∙ not-false (c .before .before .before .is-permutation2 .result) (c .if2 .left)
 
 is-permutation-requires : tie.Need-is-permutation-requires
-is-permutation-requires c κs = let s = c .before .before .before .before .before .before .before .before .before .before .before .before .before .before .before .before .before .before .before .before .before .before .before .before in (omega (arith, s .pre .order, s .pre .rows-fit), s .pre .cleared)
+is-permutation-requires c κs = let s = c .before .before .before .before .before .before .before .before .before .before .before .before .before .before .before .before .before .before .before .before .before in (omega (arith, s .pre .order, s .pre .rows-fit), s .pre .cleared)
 
 same-length : tie.Need-same-length
 same-length c = ap length (c .before .before .before .is-permutation .ensures .1)

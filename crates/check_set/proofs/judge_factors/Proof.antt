@@ -8,7 +8,7 @@ use borrow.Author.Needs.{needs}
 use borrow.Author.Tests.{not-true, not-false}
 use Rattle.algebra.specs.Matrix.{vector}
 use Rattle.sparse.specs.Words.{view}
-use Rattle.sparse.specs.Matrix.{Compressed, viewed, form, matrix}
+use Rattle.sparse.specs.Matrix.{Compressed, compressed, viewed, form, matrix}
 use Rattle.sparse.specs.Set.{Set, setOf}
 use Rattle.pluq.specs.Shape.{lower, upper}
 use Rattle.check_set.proofs.Faults.{fault-L, fault-U, fault-lower, fault-upper, differs, fine}
@@ -17,13 +17,13 @@ use Rattle.check_set.proofs.judge_factors.Statement.{statement}
 use Rattle.check_set.proofs.judge_factors.Tie as tie
 
 abbrev plan : tie.Start → Compressed
-plan s = viewed (s .args .starts .now) (s .args .sb .now) (s .args .cols .now) (s .args .cb .now) (s .args .vals .now) (s .args .vb .now)
+plan s = compressed (s .args .starts .now) (s .args .cols .now) (s .args .vals .now)
 
 abbrev set : tie.Start → Set
 set s = setOf (s .args .r) (view (s .args .ro .now) (s .args .rob .now)) (view (s .args .co .now) (s .args .cob .now)) (viewed (s .args .ls .now) (s .args .lsb .now) (s .args .lc .now) (s .args .lcb .now) (s .args .lv .now) (s .args .lvb .now)) (viewed (s .args .us .now) (s .args .usb .now) (s .args .uc .now) (s .args .ucb .now) (s .args .uv .now) (s .args .uvb .now))
 
 abbrev start : tie.After-form-ok → tie.Start
-start c = c .before .before .before .before .before .before .before .before .before .before .before .before .before .before .before .before .before .before .before .before .before .before .before .before
+start c = c .before .before .before .before .before .before .before .before .before .before .before .before .before .before .before .before .before .before .before .before .before
 
 L-good : (c : tie.Else1) → let s = start (c .before) in form (s .args .q .p) (s .args .r) (set s .L) ≡ true
 L-good c = sym (c .before .form-ok .ensures) ∙ not-false (c .before .form-ok .result) (c .if1 .left)
@@ -79,8 +79,8 @@ first-differing-requires : tie.Need-first-differing-requires
 first-differing-requires c κs = let u = c .before .before .before .before in let g = u .before .before in let f = g .before .before in let e = f .before .before in let s = start (e .before) in
     comparable (s .args .q .p) (s .args .n) (s .args .m) (plan s) (set s) _ _ (u .upper-ok .ensures .1) (L-good e) (U-good f) (s .pre)
 
-cast-t37 : tie.Need-cast-t37
-cast-t37 c = omega (arith, bound (c .before))
+cast-t34 : tie.Need-cast-t34
+cast-t34 c = omega (arith, bound (c .before))
 
 same-length-2 : tie.Need-same-length-2
 same-length-2 c = ap length (c .before .before .before .first-differing .ensures .1 ∙ c .before .before .before .before .before .before .before .before .upper-ok .ensures .1)
@@ -110,7 +110,7 @@ judge-factors-spec =
     same-length
     returns-4
     first-differing-requires
-    cast-t37
+    cast-t34
     same-length-2
     returns-5
     same-length-3

@@ -9,7 +9,8 @@ use Rattle.lists.specs.Tabulate.{tabulate}
 use Rattle.algebra.specs.Matrix.{vector}
 use Rattle.sparse.specs.Words.{view}
 use Rattle.sparse.specs.Matrix.{Compressed, viewed, matrix}
-use Rattle.answer_open.specs.Opening.{openCell, EchelonPassed}
+use Rattle.answer_open.specs.Opening.{openCell}
+use Rattle.answer_open.specs.Needs.{EchelonPassed}
 use Rattle.answer_open.proofs.PivotLaws.{pivot-inside}
 use Rattle.answer_open.proofs.PivotLoop.{cleared-long, cleared-factor, Opening, opening-starts, opening-at, opening-next, opening-ends}
 use Rattle.answer_open.proofs.pivots.open_pivots.Statement.{statement}

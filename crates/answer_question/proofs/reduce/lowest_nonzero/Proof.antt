@@ -1,6 +1,6 @@
 -- `lowest_nonzero` meets its contract: it is the first cell that stands for another residue than 0. Assumes nothing.
 use borrow.Author.Needs.{needs}
-use Rattle.answer_question.specs.Reducing.{lowestOf}
+use Rattle.row_space.specs.Solve.{lowestOf}
 use Rattle.answer_question.proofs.reduce.lowest_nonzero.Statement.{statement}
 use Rattle.answer_question.proofs.reduce.lowest_nonzero.Tie as tie
 

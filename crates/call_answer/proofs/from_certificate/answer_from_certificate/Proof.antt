@@ -9,7 +9,7 @@ use Rattle.certificate.specs.Reading.{setOfCertificate}
 use Rattle.certificate.proofs.Passed.{headed}
 use Rattle.call_check.specs.Calls.{checkCertificateOf}
 use Rattle.call_answer.specs.Calls.{answerCertificateOf}
-use Rattle.call_answer.proofs.Checked.{certificate-header, certificate-checked}
+use Rattle.call_check.proofs.Checked.{header-passed, certificate-checked}
 use Rattle.call_answer.proofs.Ways.{refuses, answers, check-passed, ready}
 use Rattle.call_answer.proofs.from_certificate.answer_from_certificate.Statement.{statement}
 use Rattle.call_answer.proofs.from_certificate.answer_from_certificate.Tie as tie
@@ -58,7 +58,7 @@ enum-told c = search needs
 answer-parts-requires : tie.Need-answer-parts-requires
 answer-parts-requires c κs = let t = c .before .before .before in let o = t .before .before .before .before in let s = start o in
     record {
-      long = headed (s .args .p) (s .args .n) (s .args .m) (s .args .cert .now) (certificate-header (s .args .p) (s .args .n) (s .args .m) (plan s) (length (s .args .work .now)) (s .args .cert .now) (check-passed (check s) (s .args .p) (s .args .n) (s .args .m) (set s) (s .args .y .now) (s .args .x .now) (s .args .z .now) (s .args .work .now) _ (o .asked-of-certificate .result) (o .asked-of-certificate .ensures) (t .enum-told .given .1))) .long;
+      long = headed (s .args .p) (s .args .n) (s .args .m) (s .args .cert .now) (header-passed (s .args .p) (s .args .n) (s .args .m) (plan s) (length (s .args .work .now)) (s .args .cert .now) (check-passed (check s) (s .args .p) (s .args .n) (s .args .m) (set s) (s .args .y .now) (s .args .x .now) (s .args .z .now) (s .args .work .now) _ (o .asked-of-certificate .result) (o .asked-of-certificate .ensures) (t .enum-told .given .1))) .long;
       ready = ready (check s) (s .args .p) (s .args .n) (s .args .m) (set s) (s .args .y .now) (s .args .x .now) (s .args .z .now) (s .args .work .now) _ (o .asked-of-certificate .result) (o .asked-of-certificate .ensures) (t .enum-told .given .1) (plan s) (certificate-checked (s .args .p) (s .args .n) (s .args .m) (plan s) (length (s .args .work .now)) (s .args .cert .now));
     }
 

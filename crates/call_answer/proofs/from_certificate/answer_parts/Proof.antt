@@ -7,7 +7,7 @@ use borrow.Author.Needs.{needs}
 use Rattle.sparse.specs.Words.{view}
 use Rattle.sparse.specs.Matrix.{viewed}
 use Rattle.sparse.specs.Set.{Set, setOf}
-use Rattle.answer_question.specs.Answering.{AnswerReady}
+use Rattle.answer_question.specs.Needs.{AnswerReady}
 use Rattle.certificate.specs.Reading.{setOfCertificate}
 use Rattle.certificate.proofs.Views.{header-fits, set-of-parts, part}
 use Rattle.call_answer.proofs.Ways.{from-set}

@@ -7,7 +7,7 @@ use Rattle.sparse.specs.Matrix.{Compressed, compressed}
 use Rattle.sparse.specs.Set.{Set, setOf}
 use Rattle.call_check.specs.Calls.{checkFactorsOf}
 use Rattle.call_answer.specs.Calls.{answerFactorsOf}
-use Rattle.call_answer.proofs.Checked.{factors-checked}
+use Rattle.call_check.proofs.Checked.{factors-checked}
 use Rattle.call_answer.proofs.Ways.{refuses, answers, ready}
 use Rattle.call_answer.proofs.from_factors.answer_from_factors.Statement.{statement}
 use Rattle.call_answer.proofs.from_factors.answer_from_factors.Tie as tie

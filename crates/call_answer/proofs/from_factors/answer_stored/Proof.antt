@@ -3,7 +3,7 @@ use mathlib.Core.Path.{sym, subst}
 use lib.ListN.{length}
 use borrow.Author.Needs.{needs}
 use Rattle.sparse.specs.Set.{Set}
-use Rattle.answer_question.specs.Answering.{AnswerReady}
+use Rattle.answer_question.specs.Needs.{AnswerReady}
 use Rattle.call_check.proofs.Stored.{set-lists}
 use Rattle.call_answer.proofs.Ways.{from-set}
 use Rattle.call_answer.proofs.from_factors.answer_stored.Statement.{statement}

@@ -6,7 +6,8 @@ use Rattle.sparse.specs.Matrix.{Compressed, compressed}
 use Rattle.call_plan.specs.Tests.{planLengths}
 use Rattle.refusals.specs.Refusals.{unless}
 use mathlib.Core.Bool.{Bool}
-use Rattle.call_check.proofs.Tested.{plan-length, certificate-refused, certificate-work, certificate-plan, certificate-header}
+use Rattle.call_plan.proofs.Outcomes.{plan-length}
+use Rattle.call_check.proofs.Tested.{certificate-refused, certificate-work, certificate-plan, certificate-header}
 use borrow.Author.Needs.{needs}
 use Rattle.call_check.proofs.from_certificate.certificate_outcome.Statement.{statement}
 use Rattle.call_check.proofs.from_certificate.certificate_outcome.Tie as tie

@@ -15,7 +15,6 @@ use Rattle.certificate.specs.Reading.{headerOk, setOfCertificate}
 use Rattle.certificate.proofs.Passed.{headed, passed-sized}
 use Rattle.certificate.proofs.Views.{header-fits, set-of-parts, part}
 use Rattle.limits.specs.Limits.{workLength}
-use Rattle.call_plan.proofs.Lists.{viewed-lists}
 use Rattle.call_check.specs.Calls.{certificateOutcome, checkCertificateOf}
 use Rattle.call_plan.specs.Accepted.{GoodPlan}
 use Rattle.call_check.proofs.Outcomes.{checks}
@@ -78,99 +77,95 @@ places-in-requires c κs = let s = start (c .before .before) in headed (s .args 
 number-requires : tie.Need-number-requires
 number-requires c κs = let t = c .before in let s = start (t .before .before) in (omega arith, header-fits (s .args .n) (s .args .m) (s .args .cert .now) (headed (s .args .q .p) (s .args .n) (s .args .m) (s .args .cert .now) (good t .1) .long))
 
-slice-aggregate-none : tie.Need-slice-aggregate-none
-slice-aggregate-none c = search needs
-
 slice-aggregate-empty : tie.Need-slice-aggregate-empty
 slice-aggregate-empty c = search needs
 
 sub-check : tie.Need-sub-check
-sub-check c = c .before .before .before .places-in .ensures .ro
+sub-check c = c .before .before .places-in .ensures .ro
 
 part-check-start : tie.Need-part-check-start
-part-check-start c = c .before .before .before .places-in .ensures .ro
+part-check-start c = c .before .before .places-in .ensures .ro
 
 part-check-end : tie.Need-part-check-end
-part-check-end c = let q = c .before .before .before .places-in .ensures in omega (arith, q .co, q .ls, q .lc, q .lv, q .us, q .uc, q .uv, q .end)
+part-check-end c = let q = c .before .before .places-in .ensures in omega (arith, q .co, q .ls, q .lc, q .lv, q .us, q .uc, q .uv, q .end)
 
 sub-check-2 : tie.Need-sub-check-2
-sub-check-2 c = c .before .before .before .before .places-in .ensures .co
+sub-check-2 c = c .before .before .before .places-in .ensures .co
 
 part-check-start-2 : tie.Need-part-check-start-2
-part-check-start-2 c = c .before .before .before .before .places-in .ensures .co
+part-check-start-2 c = c .before .before .before .places-in .ensures .co
 
 part-check-end-2 : tie.Need-part-check-end-2
-part-check-end-2 c = let q = c .before .before .before .before .places-in .ensures in omega (arith, q .ls, q .lc, q .lv, q .us, q .uc, q .uv, q .end)
+part-check-end-2 c = let q = c .before .before .before .places-in .ensures in omega (arith, q .ls, q .lc, q .lv, q .us, q .uc, q .uv, q .end)
 
 sub-check-3 : tie.Need-sub-check-3
-sub-check-3 c = c .before .before .before .before .before .places-in .ensures .ls
+sub-check-3 c = c .before .before .before .before .places-in .ensures .ls
 
 part-check-start-3 : tie.Need-part-check-start-3
-part-check-start-3 c = c .before .before .before .before .before .places-in .ensures .ls
+part-check-start-3 c = c .before .before .before .before .places-in .ensures .ls
 
 part-check-end-3 : tie.Need-part-check-end-3
-part-check-end-3 c = let q = c .before .before .before .before .before .places-in .ensures in omega (arith, q .lc, q .lv, q .us, q .uc, q .uv, q .end)
+part-check-end-3 c = let q = c .before .before .before .before .places-in .ensures in omega (arith, q .lc, q .lv, q .us, q .uc, q .uv, q .end)
 
 sub-check-4 : tie.Need-sub-check-4
-sub-check-4 c = c .before .before .before .before .before .before .places-in .ensures .lc
+sub-check-4 c = c .before .before .before .before .before .places-in .ensures .lc
 
 part-check-start-4 : tie.Need-part-check-start-4
-part-check-start-4 c = c .before .before .before .before .before .before .places-in .ensures .lc
+part-check-start-4 c = c .before .before .before .before .before .places-in .ensures .lc
 
 part-check-end-4 : tie.Need-part-check-end-4
-part-check-end-4 c = let q = c .before .before .before .before .before .before .places-in .ensures in omega (arith, q .lv, q .us, q .uc, q .uv, q .end)
+part-check-end-4 c = let q = c .before .before .before .before .before .places-in .ensures in omega (arith, q .lv, q .us, q .uc, q .uv, q .end)
 
 sub-check-5 : tie.Need-sub-check-5
-sub-check-5 c = c .before .before .before .before .before .before .before .places-in .ensures .lv
+sub-check-5 c = c .before .before .before .before .before .before .places-in .ensures .lv
 
 part-check-start-5 : tie.Need-part-check-start-5
-part-check-start-5 c = c .before .before .before .before .before .before .before .places-in .ensures .lv
+part-check-start-5 c = c .before .before .before .before .before .before .places-in .ensures .lv
 
 part-check-end-5 : tie.Need-part-check-end-5
-part-check-end-5 c = let q = c .before .before .before .before .before .before .before .places-in .ensures in omega (arith, q .us, q .uc, q .uv, q .end)
+part-check-end-5 c = let q = c .before .before .before .before .before .before .places-in .ensures in omega (arith, q .us, q .uc, q .uv, q .end)
 
 sub-check-6 : tie.Need-sub-check-6
-sub-check-6 c = c .before .before .before .before .before .before .before .before .places-in .ensures .us
+sub-check-6 c = c .before .before .before .before .before .before .before .places-in .ensures .us
 
 part-check-start-6 : tie.Need-part-check-start-6
-part-check-start-6 c = c .before .before .before .before .before .before .before .before .places-in .ensures .us
+part-check-start-6 c = c .before .before .before .before .before .before .before .places-in .ensures .us
 
 part-check-end-6 : tie.Need-part-check-end-6
-part-check-end-6 c = let q = c .before .before .before .before .before .before .before .before .places-in .ensures in omega (arith, q .uc, q .uv, q .end)
+part-check-end-6 c = let q = c .before .before .before .before .before .before .before .places-in .ensures in omega (arith, q .uc, q .uv, q .end)
 
 sub-check-7 : tie.Need-sub-check-7
-sub-check-7 c = c .before .before .before .before .before .before .before .before .before .places-in .ensures .uc
+sub-check-7 c = c .before .before .before .before .before .before .before .before .places-in .ensures .uc
 
 part-check-start-7 : tie.Need-part-check-start-7
-part-check-start-7 c = c .before .before .before .before .before .before .before .before .before .places-in .ensures .uc
+part-check-start-7 c = c .before .before .before .before .before .before .before .before .places-in .ensures .uc
 
 part-check-end-7 : tie.Need-part-check-end-7
-part-check-end-7 c = let q = c .before .before .before .before .before .before .before .before .before .places-in .ensures in omega (arith, q .uv, q .end)
+part-check-end-7 c = let q = c .before .before .before .before .before .before .before .before .places-in .ensures in omega (arith, q .uv, q .end)
 
 sub-check-8 : tie.Need-sub-check-8
-sub-check-8 c = c .before .before .before .before .before .before .before .before .before .before .places-in .ensures .uv
+sub-check-8 c = c .before .before .before .before .before .before .before .before .before .places-in .ensures .uv
 
 part-check-start-8 : tie.Need-part-check-start-8
-part-check-start-8 c = c .before .before .before .before .before .before .before .before .before .before .places-in .ensures .uv
+part-check-start-8 c = c .before .before .before .before .before .before .before .before .before .places-in .ensures .uv
 
 part-check-end-8 : tie.Need-part-check-end-8
-part-check-end-8 c = let q = c .before .before .before .before .before .before .before .before .before .before .places-in .ensures in omega (arith, q .end)
+part-check-end-8 c = let q = c .before .before .before .before .before .before .before .before .before .places-in .ensures in omega (arith, q .end)
 
 check-requires : tie.Need-check-requires
-check-requires c κs = let k = c .before .before .before .before .before .before .before .before .before .before .before in let t = k .before .before in let o = t .before .before in let s = start o in let (g, h, w) = good t in
-    checkable-as (s .args .q .p) (s .args .n) (s .args .m) _ (plan s) _ (setOfCertificate (s .args .n) (s .args .m) (s .args .cert .now)) _ (viewed-lists (s .args .starts .now) (s .args .cols .now) (s .args .vals .now)) (meant k)
+check-requires c κs = let k = c .before .before .before .before .before .before .before .before .before .before in let t = k .before .before in let o = t .before .before in let s = start o in let (g, h, w) = good t in
+    checkable-as (s .args .q .p) (s .args .n) (s .args .m) (plan s) _ (setOfCertificate (s .args .n) (s .args .m) (s .args .cert .now)) _ (meant k)
     (checkable (s .args .q .p) (s .args .n) (s .args .m) (plan s) (setOfCertificate (s .args .n) (s .args .m) (s .args .cert .now)) (o .before .before .before .clear-row .last .0) g (passed-sized (s .args .q .p) (s .args .n) (s .args .m) (s .args .cert .now) h) (wide o ∙ w) (o .before .before .before .clear-row .ensures ∙ ap zeros (sym (wide o))))
 
 same-length-2 : tie.Need-same-length-2
-same-length-2 c = let k = c .before .before in ap length (k .check .ensures .1) ∙ wide (k .before .before .before .before .before .before .before .before .before .before .before .before .before .before .before .before)
+same-length-2 c = let k = c .before .before in ap length (k .check .ensures .1) ∙ wide (k .before .before .before .before .before .before .before .before .before .before .before .before .before .before .before)
 
 returns-2 : tie.Need-returns-2
 unfolding checkCertificateOf
-returns-2 c = let k = c .before .before in let u = k .before .before .before .before .before .before .before .before .before .before .before .before in let t = u .before .before in let o = t .before .before in let s = start o in
+returns-2 c = let k = c .before .before in let u = k .before .before .before .before .before .before .before .before .before .before .before in let t = u .before .before in let o = t .before .before in let s = start o in
     checks _ _ _ _
     (passed (o .certificate-outcome .result) (certificateOutcome (s .args .q .p) (s .args .n) (s .args .m) (plan s) (s .args .cert .now) (length (s .args .work .now))) (judge (s .args .q .p) (s .args .n) (s .args .m) (plan s) (setOfCertificate (s .args .n) (s .args .m) (s .args .cert .now))) (k .check .result) (t .enum-told .given .1) (tested o)
-    (k .check .ensures .0
-    ∙ (λ j. judge (s .args .q .p) (s .args .n) (s .args .m) (viewed-lists (s .args .starts .now) (s .args .cols .now) (s .args .vals .now) j) (meant u j))))
+    (k .check .ensures .0 ∙ ap (judge (s .args .q .p) (s .args .n) (s .args .m) (plan s)) (meant u)))
     (k .check .ensures .1 ∙ o .before .before .before .clear-row .ensures)
 
 pub check-bytes-spec : {M : Type 1} → statement M
@@ -185,7 +180,6 @@ check-bytes-spec =
     returns
     places-in-requires
     number-requires
-    slice-aggregate-none
     slice-aggregate-empty
     sub-check
     part-check-start

@@ -11,7 +11,7 @@ use Rattle.check_set.specs.Needs.{Checkable}
 use Rattle.call_check.specs.Calls.{factorsOutcome, checkFactorsOf}
 use Rattle.call_check.proofs.Outcomes.{checks}
 use Rattle.call_check.proofs.Tested.{checkable, factors-good}
-use Rattle.call_check.proofs.Stored.{from-lists, by-lists}
+use Rattle.call_check.proofs.Stored.{set-lists, from-lists}
 use borrow.Author.Needs.{needs}
 use Rattle.call_check.proofs.from_factors.check_stored.Statement.{statement}
 use Rattle.call_check.proofs.from_factors.check_stored.Tie as tie
@@ -60,7 +60,7 @@ slice-aggregate-none c = search needs
 check-requires : tie.Need-check-requires
 check-requires c κs = let t = c .before .before in let o = t .before .before in let s = start o in
     let (g, z, w) = factors-good (s .args .q .p) (s .args .n) (s .args .m) (plan s) (set s) (length (s .args .work .now)) (sym (tested o) ∙ t .enum-told .given .1) in
-    from-lists (λ A s′. Checkable (s .args .q .p) (s .args .n) (s .args .m) A s′ (o .before .before .before .clear-row .last .0)) (s .args .starts .now) (s .args .cols .now) (s .args .vals .now) (s .args .r) (s .args .ro .now) (s .args .co .now) (s .args .ls .now) (s .args .lc .now) (s .args .lv .now) (s .args .us .now) (s .args .uc .now) (s .args .uv .now)
+    from-lists (λ s′. Checkable (s .args .q .p) (s .args .n) (s .args .m) (plan s) s′ (o .before .before .before .clear-row .last .0)) (s .args .r) (s .args .ro .now) (s .args .co .now) (s .args .ls .now) (s .args .lc .now) (s .args .lv .now) (s .args .us .now) (s .args .uc .now) (s .args .uv .now)
     (checkable (s .args .q .p) (s .args .n) (s .args .m) (plan s) (set s) (o .before .before .before .clear-row .last .0) g z (wide o ∙ w) (o .before .before .before .clear-row .ensures ∙ ap zeros (sym (wide o))))
 
 same-length-2 : tie.Need-same-length-2
@@ -71,7 +71,7 @@ unfolding checkFactorsOf
 returns-2 c = let k = c .before .before in let t = k .before .before .before in let o = t .before .before in let s = start o in
     checks _ _ _ _
     (passed (o .factors-outcome .result) (factorsOutcome (s .args .q .p) (s .args .n) (s .args .m) (plan s) (set s) (length (s .args .work .now))) (judge (s .args .q .p) (s .args .n) (s .args .m) (plan s) (set s)) (k .check .result) (t .enum-told .given .1) (tested o)
-    (k .check .ensures .0 ∙ by-lists (judge (s .args .q .p) (s .args .n) (s .args .m)) (s .args .starts .now) (s .args .cols .now) (s .args .vals .now) (s .args .r) (s .args .ro .now) (s .args .co .now) (s .args .ls .now) (s .args .lc .now) (s .args .lv .now) (s .args .us .now) (s .args .uc .now) (s .args .uv .now)))
+    (k .check .ensures .0 ∙ ap (judge (s .args .q .p) (s .args .n) (s .args .m) (plan s)) (set-lists (s .args .r) (s .args .ro .now) (s .args .co .now) (s .args .ls .now) (s .args .lc .now) (s .args .lv .now) (s .args .us .now) (s .args .uc .now) (s .args .uv .now))))
     (k .check .ensures .1 ∙ o .before .before .before .clear-row .ensures)
 
 pub check-stored-spec : {M : Type 1} → statement M

@@ -7,7 +7,7 @@ use Rattle.sparse.specs.Matrix.{Compressed, compressed}
 use Rattle.sparse.specs.Set.{Set, setOf}
 use Rattle.call_check.specs.Calls.{checkFactorsOf}
 use Rattle.call_check.proofs.Stored.{set-lists}
-use Rattle.call_answer.proofs.Checked.{factors-checked}
+use Rattle.call_check.proofs.Checked.{factors-checked}
 use Rattle.call_open.specs.Calls.{openFactorsOf}
 use Rattle.call_open.proofs.Ways.{columns-ready, ready-by, columns-of, wrong-length, refuses, lists}
 use Rattle.call_open.proofs.from_factors.open_columns_from_factors.Statement.{statement}

@@ -2,7 +2,7 @@
 --   Checked ..             p is prime, the lists have their lengths, the judge passed the set, and the working row is long enough
 --   factors-checked        stored factors that passed
 --   certificate-checked    the set of a certificate that passed
---   checked-ready          such a set is ready to answer
+--   header-passed          and its header
 --   SetTest .. X           a check of a set: it passes exactly X, it refuses by 9, 1, 2, 8 or 10 to 14, and what passes is `Checked`
 --   stored-test            the check of stored factors
 --   bytes-test             the check of a certificate
@@ -24,12 +24,10 @@ use Rattle.pluq.specs.Judge.{judge}
 use Rattle.certificate.specs.Layout.{Sized}
 use Rattle.certificate.specs.Reading.{headerOk, setOfCertificate}
 use Rattle.certificate.proofs.Passed.{passed-sized}
-use Rattle.answer_question.specs.Answering.{SetReady}
-use Rattle.answer_question.proofs.Passed.{passed-ready}
 use Rattle.call_check.specs.Calls.{factorsOutcome, certificateOutcome, checkFactorsOf, checkCertificateOf}
 use Rattle.call_check.specs.Passing.{StoredPasses, CertificatePasses}
 use Rattle.call_check.proofs.Tested.{factors-good, certificate-good}
 use Rattle.call_check.proofs.Theorems.{factors-exactly, factors-numbers, certificate-exactly, certificate-numbers}
 
 pub record Checked (p n m : ℕ) (A : Compressed) (s : Set) (w : ℕ) : Type 0 where
   pub prime : Prime p
@@ -51,16 +49,13 @@ module _ (p n m : ℕ) (A : Compressed) (w : ℕ) where
     unfolding checkCertificateOf
     parts = both-passed (certificateOutcome p n m A cert w) (judge p n m A (setOfCertificate n m cert)) h
 
-    pub certificate-header : headerOk p n m cert ≡ true
-    certificate-header = certificate-good p n m A cert w (parts .0) .1
+    pub header-passed : headerOk p n m cert ≡ true
+    header-passed = certificate-good p n m A cert w (parts .0) .1
 
     pub certificate-checked : Checked p n m A (setOfCertificate n m cert) w
     certificate-checked =
         let (g, header, wide) = certificate-good p n m A cert w (parts .0) in
         record { prime = modulus-prime p (g .modulus); sized = passed-sized p n m cert header; judged = parts .1; room = omega (arith, g .few-columns) }
-
-pub checked-ready : (p n m : ℕ) (A : Compressed) (s : Set) (w : ℕ) → Checked p n m A s w → SetReady p n m s
-checked-ready p n m A s w c = let z = c .sized in passed-ready p n m A s (c .prime) (z .row-order) (z .column-order) (z .lower-starts) (z .upper-starts) (c .judged)
 
 -- ---- the two checks, with what they pass
 
