@@ -4,6 +4,8 @@
 --   factored-passes        it has the published shape and the product A
 --   factored-rank          and the rank returned is the rank
 --   factored-structural    the number of structural pivots is that of the pivot rules
+--   factored-rules         the structural pivots, and the set that they lead to, obey the five rules
+--   factored-diagonal      the row of L of each structural pivot holds its diagonal alone
 --   factored-seven         7 is returned, for a good plan and lists of their lengths, exactly if L or U has more entries than its lists hold
 --   factored-row           at the first row in processing order that overflows either
 --   factored-by            the numbers of the table by which it refuses
@@ -11,7 +13,7 @@
 use mathlib.Core.Path.{_≡_, refl, sym, ap, subst, _∙_}
 use mathlib.Core.Logic.{_↔_, inl, inr}
 use mathlib.Core.Bool.{true, true≢false}
-use mathlib.Core.List.{List, [], _∷_, _++_}
+use mathlib.Core.List.{[], _∷_, _++_}
 use mathlib.Core.Option.{Option, none, some}
 use Prim.Native.Nat.{ℕ, _<_}
 use native.Mathlib.Omega.{arith}
