@@ -1,3 +1,3 @@
-pub mod Outcomes
+pub mod FromPairs
 pub mod StructuralStart
 pub mod OwnSet
