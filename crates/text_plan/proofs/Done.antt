@@ -19,7 +19,7 @@ use lib.ListN.{length}
 use borrow.Author.Tests.{eqb-true, eq-eqb}
 use Rattle.lists.specs.Tests.{among}
 use Rattle.refusals.specs.Table.{textFaults}
-use Rattle.refusals.specs.Refusals.{NumberFrom}
+use Rattle.refusals.specs.Refusals.{numberOf, NumberFrom}
 use Rattle.lists.specs.Filled.{zeros}
 use Rattle.lists.proofs.Bools.{and-left, and-right}
 use Rattle.text_fields.specs.Pieces.{Pieces, last, more, pieces}
@@ -143,11 +143,11 @@ pub record Accepts (text : List ℕ) (a b c : ℕ) : Type 0 where
   pub read-is : readOf b text ≡ accepted sizes seen
   pub answer-is : callOf text a b c ≡ readAnswerOf b (accepted sizes seen)
 
-pub done-accepts : (text : List ℕ) (a b c : ℕ) → callOf text a b c .result .number ≡ 0 → Accepts text a b c
+pub done-accepts : (text : List ℕ) (a b c : ℕ) → numberOf (callOf text a b c .result .outcome) ≡ 0 → Accepts text a b c
 unfolding callOf answerBy
 done-accepts text a b c z = go (eqb a startsLength && eqb b c) (readOf b text) refl refl (read-numbered b text) z
   where
-    go : (t : Bool) (o : ReadResult) → (eqb a startsLength && eqb b c) ≡ t → readOf b text ≡ o → Numbered o → cond t (readAnswerOf b o) (refuses 9 0 a b c) .result .number ≡ 0 → Accepts text a b c
+    go : (t : Bool) (o : ReadResult) → (eqb a startsLength && eqb b c) ≡ t → readOf b text ≡ o → Numbered o → numberOf (cond t (readAnswerOf b o) (refuses 9 0 a b c) .result .outcome) ≡ 0 → Accepts text a b c
     go false o e r n z = absurd (omega arith)
     go true (refused k d) e r n z = absurd (not-zero k n z)
     go true (accepted s seen) e r n z =
@@ -196,13 +196,13 @@ module _ (text : List ℕ) (a b c : ℕ) (r : Reading) (st co va : List ℕ) (ca
   pub holds-stated : a ≡ startsLength → b ≡ c → (h : StatesPlan b text) → HoldsPlan (h .sizes) (h .triples) r st co va
   holds-stated long paired h = subst (Holds (h .sizes) (h .triples)) given (answer-holds text a b c long paired h)
 
-  pub done-exactly : (r .number ≡ 0) ↔ ((a ≡ startsLength) × (b ≡ c) × StatesPlan b text)
+  pub done-exactly : (numberOf (r .outcome) ≡ 0) ↔ ((a ≡ startsLength) × (b ≡ c) × StatesPlan b text)
   done-exactly = (
-    (λ z. let h = done-accepts text a b c (ap (λ (x : ReadAnswer). x .result .number) given ∙ z) in (h .starts-length, h .lists-length, accepts-stated text a b c h)),
-    λ h. holds-stated (h .0) (h .1) (h .2) .done,
+    (λ z. let h = done-accepts text a b c (ap (λ (x : ReadAnswer). numberOf (x .result .outcome)) given ∙ z) in (h .starts-length, h .lists-length, accepts-stated text a b c h)),
+    λ h. ap numberOf (holds-stated (h .0) (h .1) (h .2) .done),
   )
 
-  pub read-good : r .number ≡ 0 → GoodPlan (r .p) (r .n) (r .m) (heldPlan r st co va)
+  pub read-good : numberOf (r .outcome) ≡ 0 → GoodPlan (r .p) (r .n) (r .m) (heldPlan r st co va)
   read-good z =
       let (long, paired, h) = done-exactly .0 z in
       let x = holds-stated long paired h in
@@ -219,23 +219,23 @@ module _ (text : List ℕ) (a b c : ℕ) (r : Reading) (st co va : List ℕ) (ca
         formed = formed;
       }
 
-  pub read-by : NumberFrom textFaults (r .number)
+  pub read-by : NumberFrom textFaults (numberOf (r .outcome))
   unfolding callOf answerBy among
   read-by =
-      subst (λ (x : ReadAnswer). NumberFrom textFaults (x .result .number)) given
+      subst (λ (x : ReadAnswer). NumberFrom textFaults (numberOf (x .result .outcome))) given
       (go (eqb a startsLength && eqb b c) (readOf b text) (read-numbered b text))
     where
-      go : (t : Bool) (o : ReadResult) → Numbered o → NumberFrom textFaults (cond t (readAnswerOf b o) (refuses 9 0 a b c) .result .number)
+      go : (t : Bool) (o : ReadResult) → Numbered o → NumberFrom textFaults (numberOf (cond t (readAnswerOf b o) (refuses 9 0 a b c) .result .outcome))
       go false o n = inr refl
       go true (refused k d) n = inr n
       go true (accepted s seen) n = inl refl
 
-  pub read-cleared : ¬ (r .number ≡ 0) → ReadCleared a b c r st co va
+  pub read-cleared : ¬ (numberOf (r .outcome) ≡ 0) → ReadCleared a b c r st co va
   unfolding callOf answerBy
-  read-cleared = subst (λ (x : ReadAnswer). ¬ (x .result .number ≡ 0) → ReadCleared a b c (x .result) (x .starts) (x .columns) (x .values)) given (go (eqb a startsLength && eqb b c) (readOf b text) refl)
+  read-cleared = subst (λ (x : ReadAnswer). ¬ (numberOf (x .result .outcome) ≡ 0) → ReadCleared a b c (x .result) (x .starts) (x .columns) (x .values)) given (go (eqb a startsLength && eqb b c) (readOf b text) refl)
     where
       go : (t : Bool) (o : ReadResult) → (eqb a startsLength && eqb b c) ≡ t
-          → let x = cond t (readAnswerOf b o) (refuses 9 0 a b c) in ¬ (x .result .number ≡ 0) → ReadCleared a b c (x .result) (x .starts) (x .columns) (x .values)
+          → let x = cond t (readAnswerOf b o) (refuses 9 0 a b c) in ¬ (numberOf (x .result .outcome) ≡ 0) → ReadCleared a b c (x .result) (x .starts) (x .columns) (x .values)
       go false o e n = record { result-is = refl; starts-are = refl; columns-are = refl; values-are = refl }
       go true (refused k d) e n =
           record {
