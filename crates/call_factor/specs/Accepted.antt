@@ -2,16 +2,17 @@
 --   LentRight n m l         the lent lists have the lengths that factoring takes
 --   FactorsFit p n m A l    L and U have no more entries than their lists hold
 --   Factorable p n m A l    a good plan, lent lists of their lengths, and room for the factors
---   FactorCleared ..        a refusal: rank and structural pivots 0, and every list that was lent is all zero
+--   FactorCleared o h       a refusal: rank and structural pivots 0, and every list that was lent is all zero
 use Prim.Native.Nat.{ℕ, _+_, _≤_}
 use mathlib.Core.Path.{_≡_}
-use mathlib.Core.List.{List}
 use lib.ListN.{length}
 use Rattle.lists.specs.Filled.{zeros}
 use Rattle.sparse.specs.Matrix.{Compressed}
+use Rattle.sparse.specs.Set.{Storage}
 use Rattle.elimination.specs.Factoring.{factor}
 use Rattle.limits.specs.Limits.{workLength}
 use Rattle.call_plan.specs.Accepted.{GoodPlan}
+use Rattle.factor_all.specs.declared.factor.Factored.{Factored}
 use Rattle.call_factor.specs.declared.Lent.{Lent}
 
 pub record LentRight (n m : ℕ) (l : Lent) : Type 0 where
@@ -32,14 +33,14 @@ pub record Factorable (p n m : ℕ) (A : Compressed) (l : Lent) : Type 0 where
   pub lists : LentRight n m l
   pub fits : FactorsFit p n m A l
 
-pub record FactorCleared (rank structural : ℕ) (R C : List ℕ) (L U : Compressed) : Type 0 where
-  pub rank-is : rank ≡ 0
-  pub structural-is : structural ≡ 0
-  pub R-is : R ≡ zeros (length R)
-  pub C-is : C ≡ zeros (length C)
-  pub L-starts : L .starts ≡ zeros (length (L .starts))
-  pub L-columns : L .cols ≡ zeros (length (L .cols))
-  pub L-values : L .vals ≡ zeros (length (L .vals))
-  pub U-starts : U .starts ≡ zeros (length (U .starts))
-  pub U-columns : U .cols ≡ zeros (length (U .cols))
-  pub U-values : U .vals ≡ zeros (length (U .vals))
+pub record FactorCleared (o : Factored) (h : Storage) : Type 0 where
+  pub rank : o .rank ≡ 0
+  pub structural : o .structural ≡ 0
+  pub R : h .R ≡ zeros (length (h .R))
+  pub C : h .C ≡ zeros (length (h .C))
+  pub L-starts : h .L .starts ≡ zeros (length (h .L .starts))
+  pub L-columns : h .L .cols ≡ zeros (length (h .L .cols))
+  pub L-values : h .L .vals ≡ zeros (length (h .L .vals))
+  pub U-starts : h .U .starts ≡ zeros (length (h .U .starts))
+  pub U-columns : h .U .cols ≡ zeros (length (h .U .cols))
+  pub U-values : h .U .vals ≡ zeros (length (h .U .vals))

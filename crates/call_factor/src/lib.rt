@@ -1,9 +1,9 @@
 // The public call that factors a stored plan.
 ghost use mathlib.Core.Path.{_≡_};
-ghost use Rattle.factor_all.specs.Outcome.{Leaves};
+ghost use Rattle.factor_all.specs.Factorization.{Leaves};
 ghost use Rattle.call_factor.specs.Lengths.{lentLengths, lentOutcome, lentOf};
 ghost use Rattle.call_factor.specs.Calls.{factorCallOf};
-ghost use Rattle.sparse.specs.Views.{before, after, storedBefore, storedAfter};
+ghost use Rattle.sparse.specs.Views.{storedBefore, storageBefore, storageAfter};
 use call_plan::plan_lengths;
 use call_plan::plan_outcome;
 use factor_all::clearing::clear_all;
@@ -97,7 +97,7 @@ pub fn factor(
     uv: &mut [u32],
     work: &mut [u64],
 ) -> Factored
-    ensures { λ o. ⌜ Leaves (factorCallOf p n m (storedBefore starts cols vals) (lentOf (before ro) (before co) (storedBefore ls lc lv) (storedBefore us uc uv) (before work))) (o .number) (o .detail) (o .rank) (o .structural) (after ro) (after co) (storedAfter ls lc lv) (storedAfter us uc uv) (after work) ⌝ }
+    ensures { λ o. ⌜ Leaves (factorCallOf p n m (storedBefore starts cols vals) (lentOf (storageBefore ro co ls lc lv us uc uv work))) o (storageAfter ro co ls lc lv us uc uv work) ⌝ }
 {
     clear_all(ro, co, ls, lc, lv, us, uc, uv, work);
     let lent = Lent {
@@ -114,8 +114,7 @@ pub fn factor(
     let tested = lent_outcome(p, n, m, starts, cols, vals, lent);
     if let Outcome::Refused(number, detail) = tested {
         return Factored {
-            number,
-            detail,
+            outcome: Outcome::Refused(number, detail),
             rank: 0,
             structural: 0,
         };

@@ -1,70 +1,77 @@
 -- Factoring from given pairs: what the first pass leaves serves the second, and both ways out leave the outcome.
 use mathlib.Core.Path.{_≡_, refl, sym, ap, _∙_}
-use mathlib.Core.Bool.{Bool, true, false}
+use mathlib.Core.Bool.{true, false}
 use mathlib.Core.List.{List, _++_}
 use Prim.Native.Nat.{ℕ, _<_, _^_}
 use native.Mathlib.Omega.{arith}
 use lib.ListN.{length}
 use Rattle.lists.specs.Filled.{zeros, filled}
-use Rattle.lists.proofs.Filled.{filled-whole, length-zeros, cleared-filled}
+use Rattle.lists.proofs.Filled.{filled-whole, cleared-filled}
+use Rattle.refusals.specs.Table.{storageTooShort}
+use Rattle.refusals.specs.declared.Outcome.the-variants.{Passed, Refused}
 use Rattle.sparse.specs.Matrix.{Compressed, matrix}
+use Rattle.sparse.specs.Set.{Storage}
 use Rattle.sparse.specs.Dense.{compress}
 use Rattle.sparse.proofs.Rows.{form-below}
 use Rattle.elimination.specs.Structural.{Pair}
 use Rattle.elimination.specs.Pivots.{Found, columnsOf, uppersOf, rankOf, turns}
 use Rattle.elimination.specs.Factoring.{rest, schedule, nothing, rowsOf, lowersOf, entries, factored, factorFrom}
 use Rattle.elimination.specs.Overflow.{EntriesFit}
+use Rattle.elimination.specs.Invariant.{Invariant}
 use Rattle.elimination.proofs.Room.{none-over}
 use Rattle.elimination.proofs.RowsFound.{rows-length, rows-permutation}
 use Rattle.elimination.proofs.Schedule.{schedule-holds}
 use Rattle.elimination.proofs.Order.{rows-rising}
 use Rattle.factor_row.proofs.Storage.{FilledWith, holds-filled}
 use Rattle.factor_turn.specs.State.{pivotRows}
-use Rattle.factor_turn.specs.Passing.{pairsOf, PassLeaves}
+use Rattle.factor_turn.specs.Passing.{pairsOf}
 use Rattle.factor_turn.proofs.Steps.{entries-values}
 use Rattle.factor_turn.proofs.Schedules.{pairs-many}
 use Rattle.factor_turn.proofs.Sizes.{rank-most}
-use Rattle.factor_all.specs.Outcome.{Outcome, refusedAt, done, factoringFrom, Leaves}
-use Rattle.factor_passes.specs.Needs.{FromReady, FoundFrom, CompleteReady, CompletedFor}
-use Rattle.factor_all.specs.Needs.{AllClear}
-use Rattle.factor_passes.proofs.WorkingRow.{lists-same, zeros-self}
+use Rattle.factor_first.specs.declared.dense.Pass.{Pass}
+use Rattle.factor_passes.specs.Needs.{FromReady, PassOneLeaves, FoundFrom, CompleteReady, CompletedFor, Completes}
+use Rattle.factor_passes.proofs.WorkingRow.{KeptLengths, lists-formed, lists-same, zeros-self}
+use Rattle.factor_all.specs.Factorization.{refusal, done, factoringFrom, Leaves}
+use Rattle.factor_all.specs.Needs.{AllClear, factoringIn}
 
 whole-filled : (l xs : List ℕ) → l ≡ xs → l ≡ filled (length l) xs
 whole-filled l xs e = e ∙ sym (filled-whole (length l) xs (ap length (sym e)))
 
 -- ---- refused
 
-pub leaves-refused : (i : ℕ) (R C : List ℕ) (L U : Compressed) (w : List ℕ) → AllClear R C L U w → Leaves (refusedAt i) 7 i 0 0 R C L U w
-leaves-refused i R C L U w h =
+pub leaves-refused : (k d : ℕ) (S : Storage) → AllClear S → Leaves (refusal k d) (record { outcome = Refused k d; rank = 0; structural = 0 }) S
+leaves-refused k d S h =
     record {
-      number-is = refl;
-      detail-is = refl;
-      rank-is = refl;
-      structural-is = refl;
-      R-is = cleared-filled R (h .R-clear);
-      C-is = cleared-filled C (h .C-clear);
-      L-starts = cleared-filled (L .starts) (h .L-clear .starts);
-      L-columns = cleared-filled (L .cols) (h .L-clear .columns);
-      L-values = cleared-filled (L .vals) (h .L-clear .values);
-      U-starts = cleared-filled (U .starts) (h .U-clear .starts);
-      U-columns = cleared-filled (U .cols) (h .U-clear .columns);
-      U-values = cleared-filled (U .vals) (h .U-clear .values);
+      outcome = refl;
+      number = refl;
+      detail = refl;
+      rank = refl;
+      structural = refl;
+      R = cleared-filled (S .R) (h .R-clear);
+      C = cleared-filled (S .C) (h .C-clear);
+      L-starts = cleared-filled (S .L .starts) (h .L-clear .starts);
+      L-columns = cleared-filled (S .L .cols) (h .L-clear .columns);
+      L-values = cleared-filled (S .L .vals) (h .L-clear .values);
+      U-starts = cleared-filled (S .U .starts) (h .U-clear .starts);
+      U-columns = cleared-filled (S .U .cols) (h .U-clear .columns);
+      U-values = cleared-filled (S .U .vals) (h .U-clear .values);
       work = h .w-clear;
     }
 
 -- ---- the set of what was found
 
-pub leaves-done : (s m r : ℕ) (f : Found) (R C : List ℕ) (L U : Compressed) (w : List ℕ) → r ≡ rankOf f → CompletedFor f m R C L → FilledWith (compress (uppersOf f)) U → w ≡ zeros (length w)
-    → Leaves (done s (factored m f)) 0 0 r s R C L U w
+leaves-done : (s m r : ℕ) (f : Found) (S : Storage) → r ≡ rankOf f → CompletedFor f m S → FilledWith (compress (uppersOf f)) (S .U) → S .work ≡ zeros (length (S .work))
+    → Leaves (done s (factored m f)) (record { outcome = Passed; rank = r; structural = s }) S
 unfolding factored
-leaves-done s m r f R C L U w er h u z =
+leaves-done s m r f S er h u z =
     record {
-      number-is = refl;
-      detail-is = refl;
-      rank-is = er;
-      structural-is = refl;
-      R-is = whole-filled R (rowsOf f) (h .rows);
-      C-is = whole-filled C (columnsOf f ++ rest (columnsOf f) m) (h .columns);
+      outcome = refl;
+      number = refl;
+      detail = refl;
+      rank = er;
+      structural = refl;
+      R = whole-filled (S .R) (rowsOf f) (h .rows);
+      C = whole-filled (S .C) (columnsOf f ++ rest (columnsOf f) m) (h .columns);
       L-starts = h .lower .starts;
       L-columns = h .lower .columns;
       L-values = h .lower .values;
@@ -74,72 +81,73 @@ leaves-done s m r f R C L U w er h u z =
       work = z;
     }
 
-module _ (p s : ℕ) (A : Compressed) (R C : List ℕ) (L U : Compressed) (w : List ℕ) (h : FromReady p s A R C L U w) where
+module _ (p s : ℕ) (A : Compressed) (S : Storage) (h : FromReady p s A S) where
   abbrev n : ℕ
-  n = length R
+  n = length (S .R)
 
   abbrev m : ℕ
-  m = length C
+  m = length (S .C)
 
   abbrev pairs : List Pair
-  pairs = pairsOf s R C
+  pairs = pairsOf s (S .R) (S .C)
 
   abbrev f : Found
   f = turns p m (matrix A) nothing (schedule n pairs)
-
-  -- the outcome, by the room of the lists
-  abbrev outcome : ℕ → ℕ → Outcome
-  outcome roomL roomU = factoringFrom p n m (matrix A) roomL roomU pairs
 
   -- the number of pairs fits 32 bits
   pub from-pairs : s < 2 ^ 32
   from-pairs = omega (arith, h .lists .n-narrow, h .rows-inside)
 
   small : (i j : ℕ) → i < n → j < m → matrix A i j < p
-  small i j a b = form-below p m (A .starts) (A .cols) (A .vals) (h .lists .formed) i j (omega (arith, h .lists .prime .two))
+  small i j a b = form-below p m (A .starts) (A .cols) (A .vals) (lists-formed p A S (h .lists)) i j (omega (arith, h .lists .lent .prime .two))
 
-  module _ (roomL roomU : ℕ) (R₁ C₁ : List ℕ) (L₁ U₁ : Compressed) (over : Bool) (stop r at l total : ℕ) (q : PassLeaves p s A R C m roomL roomU R₁ C₁ L₁ U₁ over stop r at l total) where
-    pub from-refused : over ≡ true → (R₂ C₂ : List ℕ) (L₂ U₂ : Compressed) (w₂ : List ℕ) → AllClear R₂ C₂ L₂ U₂ w₂ → Leaves (outcome roomL roomU) 7 stop 0 0 R₂ C₂ L₂ U₂ w₂
+  holds : Invariant p n m (matrix A) f
+  holds = schedule-holds p n m (matrix A) (h .lists .lent .prime) small pairs (h .pairs)
+
+  module _ (S₁ : Storage) (to : Pass) (q : PassOneLeaves p s m A S S₁ to) where
+    pub from-refused : to .so .over ≡ true → (S₂ : Storage) → AllClear S₂
+        → Leaves (factoringIn p s A S) (record { outcome = Refused storageTooShort (to .stop); rank = 0; structural = 0 }) S₂
     unfolding factoringFrom
-    from-refused e R₂ C₂ L₂ U₂ w₂ z = rw (q .stopped e) (leaves-refused stop R₂ C₂ L₂ U₂ w₂ z)
+    from-refused e S₂ z = rw (q .stopped e) (leaves-refused storageTooShort (to .stop) S₂ z)
 
-    module _ (e : over ≡ false) where
-      fitted : EntriesFit roomL roomU f
+    module _ (e : to .so .over ≡ false) where
+      fitted : EntriesFit (length (S .L .cols)) (length (S .U .cols)) f
       unfolding lowersOf uppersOf entries
-      fitted = none-over p m (matrix A) roomL roomU nothing (schedule n pairs) (record { L = omega arith; U = omega arith }) (q .fitted e)
-
-      found : length R₁ ≡ n → length C₁ ≡ m → roomL ≡ length (L₁ .cols) → FoundFrom p A R₁ C₁ L₁ U₁ r at l total f
-      unfolding pivotRows
-      found eR eC el =
-          record {
-            holds = rw (eR, eC) (schedule-holds p n m (matrix A) (h .lists .prime) small pairs (h .pairs));
-            state = q .state e;
-            rows = rw eR (rows-rising p m (matrix A) n pairs);
-            many = rows-length p n m (matrix A) pairs (h .pairs) ∙ sym eR;
-            order = rw eR (rows-permutation p n m (matrix A) pairs (h .pairs));
-            room = omega (arith, q .state e .L-entries, fitted .L);
-          }
+      fitted = none-over p m (matrix A) (length (S .L .cols)) (length (S .U .cols)) nothing (schedule n pairs) (record { L = omega arith; U = omega arith }) (q .fitted e)
 
       -- where the first pass kept every length
-      module _ (eR : length R₁ ≡ n) (eC : length C₁ ≡ m) (els : length (L₁ .starts) ≡ length (L .starts)) (elc : length (L₁ .cols) ≡ length (L .cols)) (elv : length (L₁ .vals) ≡ length (L .vals))
-          (eus : length (U₁ .starts) ≡ length (U .starts)) (euc : length (U₁ .cols) ≡ length (U .cols)) (euv : length (U₁ .vals) ≡ length (U .vals)) (el : roomL ≡ length (L .cols))
-          (w₁ : List ℕ) (ew : w₁ ≡ zeros (length w)) where
-        pub from-complete : CompleteReady p A R₁ C₁ L₁ U₁ w₁ r at l
-        from-complete =
+      module _ (k : KeptLengths S S₁) where
+        found : FoundFrom p A S₁ (to .so .r) (to .so .at) (to .so .l) (to .so .total) f
+        unfolding pivotRows
+        found =
             record {
-              lists = lists-same p A R C R₁ C₁ L U L₁ U₁ w w₁ (h .lists) eR eC els elc elv eus euc euv ew (ap length ew ∙ length-zeros (length w));
-              f = f;
-              total = total;
-              from = found eR eC (el ∙ sym elc);
+              holds = rw (k .R-long, k .C-long) holds;
+              state = q .state e;
+              rows = rw (k .R-long) (rows-rising p m (matrix A) n pairs);
+              many = rows-length p n m (matrix A) pairs (h .pairs) ∙ sym (k .R-long);
+              order = rw (k .R-long) (rows-permutation p n m (matrix A) pairs (h .pairs));
+              room = omega (arith, q .state e .L-entries, fitted .L, k .lc-long);
             }
 
-        pub from-done : (R₂ C₂ : List ℕ) (L₂ : Compressed) (w₂ : List ℕ) → ((g : Found) (t : ℕ) → FoundFrom p A R₁ C₁ L₁ U₁ r at l t g → CompletedFor g (length C₁) R₂ C₂ L₂)
-            → w₂ ≡ zeros (length w₁) → Leaves (outcome roomL roomU) 0 0 r s R₂ C₂ L₂ U₁ w₂
-        unfolding factoringFrom factorFrom
-        from-done R₂ C₂ L₂ w₂ d z =
-            rw (q .fitted e, pairs-many s R C (h .rows-inside) (h .columns-inside))
-            (leaves-done s m r f R₂ C₂ L₂ U₁ w₂ (q .state e .rank) (rw eC at (d f total (found eR eC (el ∙ sym elc))))
-            (holds-filled (uppersOf f) at U₁ (q .state e .upper) (q .state e .U-entries ∙ entries-values (uppersOf f))) (zeros-self w₂ (length w₁) z))
+        pub from-complete : CompleteReady p A S₁ (to .so .r) (to .so .at) (to .so .l)
+        from-complete =
+            record {
+              lists = lists-same p A S S₁ k (zeros-self (S₁ .work) (length (S .work)) (q .clear e)) (h .lists);
+              f = f;
+              total = to .so .total;
+              from = found;
+            }
 
-      pub from-rank : r < 2 ^ 32
-      from-rank = omega (arith, h .lists .m-narrow, q .state e .rank, rank-most p n m (matrix A) f (schedule-holds p n m (matrix A) (h .lists .prime) small pairs (h .pairs)))
+        pub from-done : (S₂ : Storage) → S₂ .U ≡ S₁ .U → Completes p A S₁ S₂ (to .so .r) (to .so .at) (to .so .l)
+            → Leaves (factoringIn p s A S) (record { outcome = Passed; rank = to .so .r; structural = s }) S₂
+        unfolding factoringFrom factorFrom
+        from-done S₂ same d =
+            rw (q .fitted e, pairs-many s (S .R) (S .C) (h .rows-inside) (h .columns-inside))
+            (leaves-done s m (to .so .r) f S₂ (q .state e .rank) (rw (k .C-long) at (d .completed f (to .so .total) found)) (rw same upper)
+            (zeros-self (S₂ .work) (length (S₁ .work)) (d .clear)))
+          where
+            upper : FilledWith (compress (uppersOf f)) (S₁ .U)
+            upper = holds-filled (uppersOf f) (to .so .at) (S₁ .U) (q .state e .upper) (q .state e .U-entries ∙ entries-values (uppersOf f))
+
+      pub from-rank : to .so .r < 2 ^ 32
+      from-rank = omega (arith, h .lists .m-narrow, q .state e .rank, rank-most p n m (matrix A) f holds)

@@ -8,10 +8,11 @@ use native.Mathlib.Omega.{arith}
 use lib.ListN.{length, getD, take, List·getD-append}
 use Rattle.lists.specs.Filled.{zeros, filled}
 use Rattle.lists.proofs.Filled.{filled-cut}
+use Rattle.refusals.specs.Refusals.{numberOf}
 use Rattle.algebra.specs.Prime.{Prime}
 use Rattle.algebra.specs.Rank.{Rank}
 use Rattle.sparse.specs.Matrix.{Compressed, matrix, form}
-use Rattle.sparse.specs.Set.{Set, setOf}
+use Rattle.sparse.specs.Set.{Set, setOf, Storage}
 use Rattle.sparse.specs.Dense.{compress}
 use Rattle.sparse.proofs.DenseLaws.{Lengths, compress-lengths}
 use Rattle.pluq.specs.Judge.{Passes}
@@ -19,8 +20,9 @@ use Rattle.elimination.specs.Selection.{structural}
 use Rattle.elimination.specs.Factoring.{schedule, nothing, firstOver, factored, factorFrom, factor, lowersOf}
 use Rattle.elimination.specs.Pivots.{Found, uppersOf, turns}
 use Rattle.elimination.proofs.Theorem.{StoredFactors, factor-stored, factor-rank}
-use Rattle.factor_all.specs.Outcome.{Outcome, done, unlessOver, factoringFrom, factoring, Leaves}
+use Rattle.factor_all.specs.Factorization.{Factorization, done, unlessOver, factoringFrom, factoring, Leaves}
 use Rattle.factor_all.specs.OwnSet.{rowsIn, ownSet}
+use Rattle.factor_all.specs.declared.factor.Factored.{Factored}
 
 -- ---- lists that are filled, cut to what they are filled with
 
@@ -55,12 +57,12 @@ rows-cut rows k e h ss cs vs t = record { starts = starts t; cols = columns t; v
 
 -- ---- returned with 0: nothing overflowed
 
-fitted : (o : Option ℕ) (d : Outcome) → 0 ≡ unlessOver o d .number → unlessOver o d ≡ d
+fitted : (o : Option ℕ) (d : Factorization) → numberOf (unlessOver o d .outcome) ≡ 0 → unlessOver o d ≡ d
 fitted none d e = refl
 fitted (some i) d e = absurd (omega arith)
 
-module _ (p n m : ℕ) (A : Compressed) (prime : Prime p) (formed : form p m A ≡ true) (many : length (A .starts) ≡ n + 1) (roomL roomU detail rank structured : ℕ) (R C : List ℕ) (L U : Compressed)
-    (w : List ℕ) (h : Leaves (factoring p n m A roomL roomU) 0 detail rank structured R C L U w) where
+module _ (p n m : ℕ) (A : Compressed) (prime : Prime p) (formed : form p m A ≡ true) (many : length (A .starts) ≡ n + 1) (roomL roomU : ℕ) (o : Factored) (S : Storage)
+    (h : Leaves (factoring p n m A roomL roomU) o S) (zero : numberOf (o .outcome) ≡ 0) where
   abbrev g : Set
   g = factor p n m A
 
@@ -69,35 +71,35 @@ module _ (p n m : ℕ) (A : Compressed) (prime : Prime p) (formed : form p m A �
 
   pub own-outcome : factoring p n m A roomL roomU ≡ done (length (structural A n m)) g
   unfolding factoring factoringFrom factor
-  own-outcome = fitted (firstOver p m (matrix A) roomL roomU nothing (schedule n (structural A n m))) (done (length (structural A n m)) g) (h .number-is)
+  own-outcome = fitted (firstOver p m (matrix A) roomL roomU nothing (schedule n (structural A n m))) (done (length (structural A n m)) g) (sym (h .number) ∙ zero)
 
-  leaves : Leaves (done (length (structural A n m)) g) 0 detail rank structured R C L U w
+  leaves : Leaves (done (length (structural A n m)) g) o S
   leaves = rw own-outcome at h
 
   -- it is the definition's
-  pub own-set : ownSet n m rank R C L U ≡ g
+  pub own-set : ownSet n m (o .rank) S ≡ g
   unfolding factor factorFrom factored
-  own-set = λ t. setOf (leaves .rank-is t) (rows t) (columns t) (lower t) (upper t)
+  own-set = λ t. setOf (leaves .rank t) (rows t) (columns t) (lower t) (upper t)
     where
       end : Found
       end = turns p m (matrix A) nothing (schedule n (structural A n m))
 
-      rows : take n R ≡ g .R
-      rows = ap (take n) (leaves .R-is) ∙ filled-cut (length R) n (g .R) (stored .R-length)
+      rows : take n (S .R) ≡ g .R
+      rows = ap (take n) (leaves .R) ∙ filled-cut (length (S .R)) n (g .R) (stored .R-length)
 
-      columns : take m C ≡ g .C
-      columns = ap (take m) (leaves .C-is) ∙ filled-cut (length C) m (g .C) (stored .C-length)
+      columns : take m (S .C) ≡ g .C
+      columns = ap (take m) (leaves .C) ∙ filled-cut (length (S .C)) m (g .C) (stored .C-length)
 
-      lower : rowsIn n L ≡ g .L
-      lower = rows-cut (lowersOf end) n (omega (arith, stored .L-starts, compress-lengths (lowersOf end) .starts-are)) L (leaves .L-starts) (leaves .L-columns) (leaves .L-values)
+      lower : rowsIn n (S .L) ≡ g .L
+      lower = rows-cut (lowersOf end) n (omega (arith, stored .L-starts, compress-lengths (lowersOf end) .starts-are)) (S .L) (leaves .L-starts) (leaves .L-columns) (leaves .L-values)
 
-      upper : rowsIn rank U ≡ g .U
-      upper = rows-cut (uppersOf end) rank (omega (arith, leaves .rank-is, stored .U-starts, compress-lengths (uppersOf end) .starts-are)) U (leaves .U-starts) (leaves .U-columns) (leaves .U-values)
+      upper : rowsIn (o .rank) (S .U) ≡ g .U
+      upper = rows-cut (uppersOf end) (o .rank) (omega (arith, leaves .rank, stored .U-starts, compress-lengths (uppersOf end) .starts-are)) (S .U) (leaves .U-starts) (leaves .U-columns) (leaves .U-values)
 
   -- so it has the published shape and the product A
-  pub own-set-passes : Passes p n m A (ownSet n m rank R C L U)
+  pub own-set-passes : Passes p n m A (ownSet n m (o .rank) S)
   own-set-passes = subst (Passes p n m A) (sym own-set) (record { L-form = stored .L-form; U-form = stored .U-form; factors = stored .factors })
 
   -- and the rank returned is the rank
-  pub own-rank : Rank p n m (matrix A) rank
-  own-rank = rw (leaves .rank-is) (factor-rank p n m A prime formed many)
+  pub own-rank : Rank p n m (matrix A) (o .rank)
+  own-rank = rw (leaves .rank) (factor-rank p n m A prime formed many)

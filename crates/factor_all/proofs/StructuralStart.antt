@@ -6,7 +6,8 @@ use native.Mathlib.Omega.{arith}
 use lib.ListN.{length, take, drop, length-append, length-map}
 use lib.Seq.{length-take-le, take-at}
 use Rattle.lists.specs.Filled.{zeros, filled}
-use Rattle.sparse.specs.Matrix.{Compressed, matrix}
+use Rattle.sparse.specs.Matrix.{Compressed}
+use Rattle.sparse.specs.Set.{Storage, storageOf}
 use Rattle.elimination.specs.Structural.{Pair}
 use Rattle.elimination.specs.Selection.{structural}
 use Rattle.elimination.specs.Pairs.{pairRows, pairColumns}
@@ -15,10 +16,11 @@ use Rattle.factor_order.specs.Needs.{Searchable}
 use Rattle.factor_order.specs.Search.{PairsFound}
 use Rattle.factor_turn.specs.Passing.{pairsIn, pairsOf}
 use Rattle.factor_turn.proofs.Schedules.{pairs-again}
-use Rattle.factor_all.specs.Outcome.{factoringFrom, factoring, Leaves}
 use Rattle.factor_passes.specs.Needs.{FromReady}
-use Rattle.factor_all.specs.Needs.{FactorReady}
-use Rattle.factor_passes.proofs.WorkingRow.{part-clear, whole-again, lists-same}
+use Rattle.factor_passes.proofs.WorkingRow.{part-clear, whole-again, lists-formed, orders-same}
+use Rattle.factor_all.specs.Factorization.{factoring, Leaves}
+use Rattle.factor_all.specs.Needs.{factoringIn, FactorReady}
+use Rattle.factor_all.specs.declared.factor.Factored.{Factored}
 
 -- a list that is filled has room for what it is filled with, and begins with it
 module _ (n : ℕ) (xs l : List ℕ) (e : l ≡ filled n xs) (long : length l ≡ n) where
@@ -30,36 +32,36 @@ module _ (n : ℕ) (xs l : List ℕ) (e : l ≡ filled n xs) (long : length l �
   unfolding filled
   filled-front s q = ap (take s) e ∙ take-at xs (zeros (n - length xs)) s (sym q)
 
-module _ (p n m : ℕ) (A : Compressed) (R C : List ℕ) (L U : Compressed) (w : List ℕ) (h : FactorReady p n m A R C L U w) where
-  m-fits : m ≤ length w
+module _ (p n m : ℕ) (A : Compressed) (S : Storage) (h : FactorReady p n m A S) where
+  m-fits : m ≤ length (S .work)
   m-fits = omega (arith, h .lists .m-fits, h .m-columns)
 
-  pub columns-part : m ≡ length (take m w)
-  columns-part = sym (length-take-le m w m-fits)
+  pub columns-part : m ≡ length (take m (S .work))
+  columns-part = sym (length-take-le m (S .work) m-fits)
 
-  pub search-ready : Searchable p n (length C) A R C (take m w)
+  pub search-ready : Searchable p n (length (S .C)) A (S .R) (S .C) (take m (S .work))
   search-ready =
       record {
-        formed = h .lists .formed;
-        rows = omega (arith, h .lists .rows, h .n-rows);
+        formed = lists-formed p A S (h .lists);
+        rows = omega (arith, h .lists .lent .rows, h .n-rows);
         n-small = omega (arith, h .lists .n-narrow, h .n-rows);
         m-small = omega (arith, h .lists .m-narrow);
         R-clear = h .clear .R-clear ∙ ap zeros (h .n-rows);
         C-clear = h .clear .C-clear;
-        w-clear = part-clear w (h .lists .clear) m m-fits ∙ ap zeros (sym (h .m-columns));
+        w-clear = part-clear (S .work) (h .lists .clear) m m-fits ∙ ap zeros (sym (h .m-columns));
       }
 
-  module _ (s : ℕ) (R₁ C₁ part : List ℕ) (d : PairsFound n (length C) A s R₁ C₁ part) (eR : length R₁ ≡ length R) (eC : length C₁ ≡ length C) where
+  module _ (s : ℕ) (R₁ C₁ part : List ℕ) (d : PairsFound n (length (S .C)) A s R₁ C₁ part) (eR : length R₁ ≡ length (S .R)) (eC : length C₁ ≡ length (S .C)) where
     abbrev ps : List Pair
-    ps = structural A n (length C)
+    ps = structural A n (length (S .C))
 
     R-long : length R₁ ≡ n
     R-long = eR ∙ h .n-rows
 
-    again : part ++ drop m w ≡ w
-    again = whole-again w (h .lists .clear) m m-fits part (d .cleared ∙ ap zeros (h .m-columns))
+    again : part ++ drop m (S .work) ≡ S .work
+    again = whole-again (S .work) (h .lists .clear) m m-fits part (d .cleared ∙ ap zeros (h .m-columns))
 
-    pub start-long : length (part ++ drop m w) ≡ length w
+    pub start-long : length (part ++ drop m (S .work)) ≡ length (S .work)
     start-long = ap length again
 
     rows-many : s ≡ length (pairRows ps)
@@ -69,21 +71,20 @@ module _ (p n m : ℕ) (A : Compressed) (R C : List ℕ) (L U : Compressed) (w :
     columns-many = d .count ∙ sym (length-map ps (λ q. q .column))
 
     pairs-are : pairsOf s R₁ C₁ ≡ ps
-    pairs-are = ap₂ pairsIn (filled-front n (pairRows ps) R₁ (d .rows) R-long s rows-many) (filled-front (length C) (pairColumns ps) C₁ (d .columns) eC s columns-many) ∙ pairs-again ps
+    pairs-are = ap₂ pairsIn (filled-front n (pairRows ps) R₁ (d .rows) R-long s rows-many) (filled-front (length (S .C)) (pairColumns ps) C₁ (d .columns) eC s columns-many) ∙ pairs-again ps
 
-    pub start-from : FromReady p s A R₁ C₁ L U (part ++ drop m w)
+    pub start-from : FromReady p s A (storageOf R₁ C₁ (S .L) (S .U) (part ++ drop m (S .work)))
     start-from =
         rw again (record {
-          lists = lists-same p A R C R₁ C₁ L U L U w w (h .lists) eR eC refl refl refl refl refl refl (h .lists .clear) refl;
+          lists = orders-same p A S R₁ C₁ eR eC (h .lists);
           rows-inside = omega (arith, rows-many, R-long, filled-inside n (pairRows ps) R₁ (d .rows) R-long);
-          columns-inside = omega (arith, columns-many, eC, filled-inside (length C) (pairColumns ps) C₁ (d .columns) eC);
-          pairs = rw (R-long, eC, pairs-are) (structural-pairs p n (length C) A (h .lists .formed) (h .lists .rows ∙ ap (λ (k : ℕ). k + 1) (h .n-rows)));
+          columns-inside = omega (arith, columns-many, eC, filled-inside (length (S .C)) (pairColumns ps) C₁ (d .columns) eC);
+          pairs = rw (R-long, eC, pairs-are) (structural-pairs p n (length (S .C)) A (lists-formed p A S (h .lists)) (h .lists .lent .rows ∙ ap (λ (k : ℕ). k + 1) (h .n-rows)));
           L-clear = h .clear .L-clear;
           U-clear = h .clear .U-clear;
         })
 
-    pub start-leaves : (roomL roomU number detail rank structural : ℕ) (R₂ C₂ : List ℕ) (L₂ U₂ : Compressed) (w₂ : List ℕ)
-        → Leaves (factoringFrom p (length R₁) (length C₁) (matrix A) roomL roomU (pairsOf s R₁ C₁)) number detail rank structural R₂ C₂ L₂ U₂ w₂
-        → Leaves (factoring p n m A roomL roomU) number detail rank structural R₂ C₂ L₂ U₂ w₂
+    pub start-leaves : (o : Factored) (S₂ : Storage) → Leaves (factoringIn p s A (storageOf R₁ C₁ (S .L) (S .U) (part ++ drop m (S .work)))) o S₂
+        → Leaves (factoring p n m A (length (S .L .cols)) (length (S .U .cols))) o S₂
     unfolding factoring
-    start-leaves roomL roomU number detail rank structural R₂ C₂ L₂ U₂ w₂ x = rw (h .m-columns) at (rw (R-long, eC, pairs-are) at x)
+    start-leaves o S₂ x = rw (h .m-columns) at (rw (R-long, eC, pairs-are) at x)

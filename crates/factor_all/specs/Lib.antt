@@ -1,3 +1,3 @@
-pub mod Outcome
+pub mod Factorization
 pub mod Needs
 pub mod OwnSet

@@ -1,17 +1,17 @@
 // Lent lists are cleared where factoring is refused.
 ghost use Rattle.factor_turn.specs.Passing.{Cleared};
 ghost use Rattle.factor_all.specs.Needs.{AllClear};
-ghost use Rattle.sparse.specs.Views.{after, storedAfter};
+ghost use Rattle.sparse.specs.Views.{storedAfter, storageAfter};
 use lists::clear;
 use lists::clear_row;
 
 // Clears the starts, columns and values of a factor.
-fn clear_factor(starts: &mut [u32], cs: &mut [u32], vs: &mut [u32])
-    ensures { λ _. ⌜ Cleared (storedAfter starts cs vs) ⌝ }
+fn clear_factor(starts: &mut [u32], cols: &mut [u32], vals: &mut [u32])
+    ensures { λ _. ⌜ Cleared (storedAfter starts cols vals) ⌝ }
 {
     clear(starts);
-    clear(cs);
-    clear(vs);
+    clear(cols);
+    clear(vals);
 }
 
 // Clears everything that is lent to the factoring.
@@ -26,7 +26,7 @@ pub fn clear_all(
     uv: &mut [u32],
     work: &mut [u64],
 )
-    ensures { λ _. ⌜ AllClear (after ro) (after co) (storedAfter ls lc lv) (storedAfter us uc uv) (after work) ⌝ }
+    ensures { λ _. ⌜ AllClear (storageAfter ro co ls lc lv us uc uv work) ⌝ }
 {
     clear(ro);
     clear(co);

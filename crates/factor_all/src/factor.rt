@@ -1,28 +1,26 @@
-// Factoring of a stored matrix into lent lists. The names of the lists: `ls`, `lc`, `lv` are the starts, columns and values of L,
-// `us`, `uc`, `uv` those of U.
+// Factoring of a stored matrix into lent lists. The names of the lists: `ro` and `co` are the orders R and C, `ls`, `lc`, `lv` the
+// starts, columns and values of L, `us`, `uc`, `uv` those of U.
 ghost use lib.ListN.{length};
-ghost use Rattle.sparse.specs.Matrix.{matrix};
-ghost use Rattle.sparse.specs.Views.{before, after, storedAt, storedBefore, storedAfter};
-ghost use Rattle.factor_turn.specs.Passing.{pairsOf};
-ghost use Rattle.factor_all.specs.Outcome.{factoringFrom, factoring, Leaves};
+ghost use Rattle.sparse.specs.Views.{before, storedAt, storedBefore, storageAt, storageBefore, storageAfter};
+ghost use Rattle.factor_all.specs.Factorization.{factoring, Leaves};
 ghost use Rattle.factor_passes.specs.Needs.{FromReady};
-ghost use Rattle.factor_all.specs.Needs.{FactorReady};
+ghost use Rattle.factor_all.specs.Needs.{factoringIn, FactorReady};
 use crate::clearing::clear_all;
 use factor_order::pairs::structural_pairs;
 use factor_passes::passes::pass_one;
 use factor_passes::passes::pass_two;
+use refusals::Outcome;
 use refusals::numbers::STORAGE_TOO_SHORT;
 use residue::Modulus;
 
-// What factoring returns: document 01's number with its detail, the rank and the number of structural pivots.
+// What factoring returns: the outcome, and the rank and the number of structural pivots, 0 on a refusal.
 pub struct Factored {
-    pub number: u32,
-    pub detail: u32,
+    pub outcome: Outcome,
     pub rank: u32,
     pub structural: u32,
 }
 
-// Factors from the s pairs that `rows` and `columns` hold, whichever rule chose them.
+// Factors from the s pairs that R and C hold, whichever rule chose them.
 pub fn factor_from(
     q: Modulus,
     starts: &[u32],
@@ -39,8 +37,8 @@ pub fn factor_from(
     uv: &mut [u32],
     work: &mut [u64],
 ) -> Factored
-    requires { ⌜ FromReady (q .p) s (storedAt starts cols vals) (now ro) (now co) (storedAt ls lc lv) (storedAt us uc uv) (now work) ⌝ }
-    ensures { λ o. ⌜ Leaves (factoringFrom (q .p) (length (before ro)) (length (before co)) (matrix (storedBefore starts cols vals)) (length (before lc)) (length (before uc)) (pairsOf s (before ro) (before co))) (o .number) (o .detail) (o .rank) (o .structural) (after ro) (after co) (storedAfter ls lc lv) (storedAfter us uc uv) (after work) ⌝ }
+    requires { ⌜ FromReady (q .p) s (storedAt starts cols vals) (storageAt ro co ls lc lv us uc uv work) ⌝ }
+    ensures { λ o. ⌜ Leaves (factoringIn (q .p) s (storedBefore starts cols vals) (storageBefore ro co ls lc lv us uc uv work)) o (storageAfter ro co ls lc lv us uc uv work) ⌝ }
 {
     let pass = pass_one(
         q,
@@ -67,8 +65,7 @@ pub fn factor_from(
     if over {
         clear_all(ro, co, ls, lc, lv, us, uc, uv, work);
         return Factored {
-            number: STORAGE_TOO_SHORT,
-            detail: stop,
+            outcome: Outcome::Refused(STORAGE_TOO_SHORT, stop),
             rank: 0,
             structural: 0,
         };
@@ -94,15 +91,14 @@ pub fn factor_from(
     let rank = r as u32;
     let structural = s as u32;
     Factored {
-        number: 0,
-        detail: 0,
+        outcome: Outcome::Passed,
         rank: rank,
         structural: structural,
     }
 }
 
 // Factors an n by m matrix modulo the prime p of q.
-// Takes: the matrix in its stored form; `rows` of n cells, `columns` of m, `ls` and `us` of n + 1; `lc` as long as `lv` and `uc` as
+// Takes: the matrix in its stored form; `ro` of n cells, `co` of m, `ls` and `us` of n + 1; `lc` as long as `lv` and `uc` as
 // `uv`, of any length; a working row of at least n and m cells; everything lent all zero.
 // Gives: the rank and the number of structural pivots.
 // Refuses with: 7 and the row, where L or U has more entries than its lists hold.
@@ -124,8 +120,8 @@ pub fn factor(
     uv: &mut [u32],
     work: &mut [u64],
 ) -> Factored
-    requires { ⌜ FactorReady (q .p) n m (storedAt starts cols vals) (now ro) (now co) (storedAt ls lc lv) (storedAt us uc uv) (now work) ⌝ }
-    ensures { λ o. ⌜ Leaves (factoring (q .p) n m (storedBefore starts cols vals) (length (before lc)) (length (before uc))) (o .number) (o .detail) (o .rank) (o .structural) (after ro) (after co) (storedAfter ls lc lv) (storedAfter us uc uv) (after work) ⌝ }
+    requires { ⌜ FactorReady (q .p) n m (storedAt starts cols vals) (storageAt ro co ls lc lv us uc uv work) ⌝ }
+    ensures { λ o. ⌜ Leaves (factoring (q .p) n m (storedBefore starts cols vals) (length (before lc)) (length (before uc))) o (storageAfter ro co ls lc lv us uc uv work) ⌝ }
 {
     let s = structural_pairs(
         starts,

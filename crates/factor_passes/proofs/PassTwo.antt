@@ -8,6 +8,7 @@ use lib.Seq.{length-take-le, take-at}
 use Rattle.lists.specs.Filled.{zeros}
 use Rattle.algebra.specs.Matrix.{Distinct, vector}
 use Rattle.sparse.specs.Matrix.{Compressed, matrix}
+use Rattle.sparse.specs.Set.{Storage, storageOf}
 use Rattle.elimination.specs.Pivots.{Found, columnsOf, rankOf}
 use Rattle.elimination.specs.Factoring.{rest, rowsOf}
 use Rattle.elimination.proofs.Completion.{completed-length}
@@ -20,7 +21,7 @@ use Rattle.factor_turn.specs.Filling.{FillFrom, FillReady, FillDone}
 use Rattle.factor_turn.proofs.Sizes.{columns-distinct, rank-most}
 use Rattle.factor_passes.specs.Needs.{PassLists, FoundFrom, CompleteReady, CompletedFor}
 use Rattle.factor_passes.proofs.Orders.{distinct-front}
-use Rattle.factor_passes.proofs.WorkingRow.{part-clear, whole-again, lists-lent, lists-same}
+use Rattle.factor_passes.proofs.WorkingRow.{part-clear, whole-again, orders-same}
 
 pivot-rows-many : (f : Found) → length (pivotRows f) ≡ rankOf f
 unfolding pivotRows
@@ -28,24 +29,24 @@ pivot-rows-many f = length-map (f .pivots) (λ q. q .row)
 
 -- ---- of one f
 
-module _ (p : ℕ) (A : Compressed) (R C : List ℕ) (L U : Compressed) (w : List ℕ) (r at l : ℕ) (lists : PassLists p A R C L U w) (f : Found) (total : ℕ) (g : FoundFrom p A R C L U r at l total f) where
+module _ (p : ℕ) (A : Compressed) (S : Storage) (r at l : ℕ) (lists : PassLists p A S) (f : Found) (total : ℕ) (g : FoundFrom p A S r at l total f) where
   abbrev n : ℕ
-  n = length R
+  n = length (S .R)
 
   abbrev m : ℕ
-  m = length C
+  m = length (S .C)
 
   columns-inside : r ≤ m
   columns-inside = omega (arith, g .state .rank, rank-most p n m (matrix A) f (g .holds))
 
-  C-distinct : Distinct r m (vector C)
-  C-distinct = distinct-front r m (columnsOf f) C (g .state .columns) (rw (g .state .rank) (columns-distinct p n m (matrix A) f (g .holds)))
+  C-distinct : Distinct r m (vector (S .C))
+  C-distinct = distinct-front r m (columnsOf f) (S .C) (g .state .columns) (rw (g .state .rank) (columns-distinct p n m (matrix A) f (g .holds)))
 
   rows-inside : r ≤ n
   rows-inside = omega (arith, g .state .rank, pivot-rows-many f, g .many, ap length (g .rows), length-append (pivotRows f) (rest (pivotRows f) n))
 
-  R-distinct : Distinct r n (vector R)
-  R-distinct = distinct-front r n (pivotRows f) R (g .state .rows) (record {
+  R-distinct : Distinct r n (vector (S .R))
+  R-distinct = distinct-front r n (pivotRows f) (S .R) (g .state .rows) (record {
     below = λ a b. subst (λ (x : ℕ). x < n) (here a b) (g .order .below a (omega (arith, rows-inside)));
     apart = λ a b x y e. g .order .apart a b (omega (arith, rows-inside)) (omega (arith, rows-inside)) (here a x ∙ e ∙ sym (here b y));
   })
@@ -53,7 +54,7 @@ module _ (p : ℕ) (A : Compressed) (R C : List ℕ) (L U : Compressed) (w : Lis
       here : (a : ℕ) → a < r → getD (rowsOf f) a 0 ≡ getD (pivotRows f) a 0
       here a b = ap (λ (z : List ℕ). getD z a 0) (g .rows) ∙ List·getD-append (pivotRows f) (rest (pivotRows f) n) 0 a (omega (arith, pivot-rows-many f, g .state .rank))
 
-  module _ (C₁ marks₁ : List ℕ) (cc : Completed r C C₁ marks₁) where
+  module _ (C₁ marks₁ : List ℕ) (cc : Completed r (S .C) C₁ marks₁) where
     C₁-is : C₁ ≡ columnsOf f ++ rest (columnsOf f) m
     C₁-is = cc .order ∙ ap (λ (z : List ℕ). z ++ rest z m) (g .state .columns)
 
@@ -63,7 +64,7 @@ module _ (p : ℕ) (A : Compressed) (R C : List ℕ) (L U : Compressed) (w : Lis
     C₁-front : take r C₁ ≡ columnsOf f
     C₁-front = ap (take r) C₁-is ∙ take-at (columnsOf f) (rest (columnsOf f) m) r (columns-many f ∙ sym (g .state .rank))
 
-    module _ (R₁ marks₂ : List ℕ) (cr : Completed r R R₁ marks₂) where
+    module _ (R₁ marks₂ : List ℕ) (cr : Completed r (S .R) R₁ marks₂) where
       R₁-is : R₁ ≡ rowsOf f
       R₁-is = cr .order ∙ ap (λ (z : List ℕ). z ++ rest z n) (g .state .rows) ∙ sym (g .rows)
 
@@ -74,7 +75,7 @@ module _ (p : ℕ) (A : Compressed) (R C : List ℕ) (L U : Compressed) (w : Lis
       R₁-front = ap (take r) (R₁-is ∙ g .rows) ∙ take-at (pivotRows f) (rest (pivotRows f) n) r (pivot-rows-many f ∙ sym (g .state .rank))
 
       -- the lists hold what they held
-      fill-from : FillFrom p A R₁ C₁ L U m r at l total f
+      fill-from : FillFrom p A R₁ C₁ (S .L) (S .U) m r at l total f
       fill-from =
           record {
             holds = rw R₁-long (g .holds);
@@ -92,81 +93,79 @@ module _ (p : ℕ) (A : Compressed) (R C : List ℕ) (L U : Compressed) (w : Lis
             room = g .room;
           }
 
-      lent : Lent p A R₁ C₁ L U (take m w)
-      lent =
-          subst (λ (k : ℕ). Lent p A R₁ C₁ L U (take k w)) C₁-long
-          (lists-lent p A R₁ C₁ L U w (lists-same p A R C R₁ C₁ L U L U w w lists R₁-long C₁-long refl refl refl refl refl refl (lists .clear) refl))
+      lent : Lent p A R₁ C₁ (S .L) (S .U) (take m (S .work))
+      lent = rw C₁-long at (orders-same p A S R₁ C₁ R₁-long C₁-long lists .lent)
 
 -- ---- the calls
 
-module _ (p : ℕ) (A : Compressed) (R C : List ℕ) (L U : Compressed) (w : List ℕ) (r at l : ℕ) (h : CompleteReady p A R C L U w r at l) where
-  pub columns-part : length C ≡ length (take (length C) w)
-  columns-part = sym (length-take-le (length C) w (h .lists .m-fits))
+module _ (p : ℕ) (A : Compressed) (S : Storage) (r at l : ℕ) (h : CompleteReady p A S r at l) where
+  pub columns-part : length (S .C) ≡ length (take (length (S .C)) (S .work))
+  columns-part = sym (length-take-le (length (S .C)) (S .work) (h .lists .m-fits))
 
-  pub two-columns : Completable r C (take (length C) w)
+  pub two-columns : Completable r (S .C) (take (length (S .C)) (S .work))
   two-columns =
       record {
-        inside = columns-inside p A R C L U w r at l (h .lists) (h .f) (h .total) (h .from);
+        inside = columns-inside p A S r at l (h .lists) (h .f) (h .total) (h .from);
         narrow = omega (arith, h .lists .m-narrow);
-        distinct = C-distinct p A R C L U w r at l (h .lists) (h .f) (h .total) (h .from);
-        marks = part-clear w (h .lists .clear) (length C) (h .lists .m-fits);
+        distinct = C-distinct p A S r at l (h .lists) (h .f) (h .total) (h .from);
+        marks = part-clear (S .work) (h .lists .clear) (length (S .C)) (h .lists .m-fits);
       }
 
-  module _ (C₁ marks₁ : List ℕ) (cc : Completed r C C₁ marks₁) where
+  module _ (C₁ marks₁ : List ℕ) (cc : Completed r (S .C) C₁ marks₁) where
     abbrev w₁ : List ℕ
-    w₁ = marks₁ ++ drop (length C) w
+    w₁ = marks₁ ++ drop (length (S .C)) (S .work)
 
-    first-again : w₁ ≡ w
-    first-again = whole-again w (h .lists .clear) (length C) (h .lists .m-fits) marks₁ (cc .cleared)
+    first-again : w₁ ≡ S .work
+    first-again = whole-again (S .work) (h .lists .clear) (length (S .C)) (h .lists .m-fits) marks₁ (cc .cleared)
 
-    pub C-kept : length C₁ ≡ length C
-    C-kept = C₁-long p A R C L U w r at l (h .lists) (h .f) (h .total) (h .from) C₁ marks₁ cc
+    pub C-kept : length C₁ ≡ length (S .C)
+    C-kept = C₁-long p A S r at l (h .lists) (h .f) (h .total) (h .from) C₁ marks₁ cc
 
-    pub rows-part : length R ≡ length (take (length R) w₁)
-    rows-part = sym (length-take-le (length R) w₁ (omega (arith, ap length first-again, h .lists .n-fits)))
+    pub rows-part : length (S .R) ≡ length (take (length (S .R)) w₁)
+    rows-part = sym (length-take-le (length (S .R)) w₁ (omega (arith, ap length first-again, h .lists .n-fits)))
 
-    pub two-rows : Completable r R (take (length R) w₁)
+    pub two-rows : Completable r (S .R) (take (length (S .R)) w₁)
     two-rows =
         record {
-          inside = rows-inside p A R C L U w r at l (h .lists) (h .f) (h .total) (h .from);
+          inside = rows-inside p A S r at l (h .lists) (h .f) (h .total) (h .from);
           narrow = omega (arith, h .lists .n-narrow);
-          distinct = R-distinct p A R C L U w r at l (h .lists) (h .f) (h .total) (h .from);
-          marks = ap (take (length R)) first-again ∙ part-clear w (h .lists .clear) (length R) (h .lists .n-fits);
+          distinct = R-distinct p A S r at l (h .lists) (h .f) (h .total) (h .from);
+          marks = ap (take (length (S .R))) first-again ∙ part-clear (S .work) (h .lists .clear) (length (S .R)) (h .lists .n-fits);
         }
 
-    module _ (R₁ marks₂ : List ℕ) (cr : Completed r R R₁ marks₂) where
+    module _ (R₁ marks₂ : List ℕ) (cr : Completed r (S .R) R₁ marks₂) where
       abbrev w₂ : List ℕ
-      w₂ = marks₂ ++ drop (length R) w₁
+      w₂ = marks₂ ++ drop (length (S .R)) w₁
 
-      again : w₂ ≡ w
-      again = ap (λ (x : List ℕ). marks₂ ++ drop (length R) x) first-again ∙ whole-again w (h .lists .clear) (length R) (h .lists .n-fits) marks₂ (cr .cleared)
+      again : w₂ ≡ S .work
+      again = ap (λ (x : List ℕ). marks₂ ++ drop (length (S .R)) x) first-again ∙ whole-again (S .work) (h .lists .clear) (length (S .R)) (h .lists .n-fits) marks₂ (cr .cleared)
 
-      pub R-kept : length R₁ ≡ length R
-      R-kept = R₁-long p A R C L U w r at l (h .lists) (h .f) (h .total) (h .from) C₁ marks₁ cc R₁ marks₂ cr
+      pub R-kept : length R₁ ≡ length (S .R)
+      R-kept = R₁-long p A S r at l (h .lists) (h .f) (h .total) (h .from) C₁ marks₁ cc R₁ marks₂ cr
 
-      pub last-part : length C ≡ length (take (length C) w₂)
-      last-part = sym (length-take-le (length C) w₂ (omega (arith, ap length again, h .lists .m-fits)))
+      pub last-part : length (S .C) ≡ length (take (length (S .C)) w₂)
+      last-part = sym (length-take-le (length (S .C)) w₂ (omega (arith, ap length again, h .lists .m-fits)))
 
-      pub two-fill : FillReady p A R₁ C₁ L U (take (length C) w₂) r at l
+      pub two-fill : FillReady p A R₁ C₁ (S .L) (S .U) (take (length (S .C)) w₂) r at l
       two-fill =
           rw again (record {
-            lent = lent p A R C L U w r at l (h .lists) (h .f) (h .total) (h .from) C₁ marks₁ cc R₁ marks₂ cr;
+            lent = lent p A S r at l (h .lists) (h .f) (h .total) (h .from) C₁ marks₁ cc R₁ marks₂ cr;
             f = h .f;
             total = h .total;
-            from = rw (length-take-le (length C) w (h .lists .m-fits)) (fill-from p A R C L U w r at l (h .lists) (h .f) (h .total) (h .from) C₁ marks₁ cc R₁ marks₂ cr);
+            from = rw (length-take-le (length (S .C)) (S .work) (h .lists .m-fits)) (fill-from p A S r at l (h .lists) (h .f) (h .total) (h .from) C₁ marks₁ cc R₁ marks₂ cr);
           })
 
-      pub two-done : (L′ : Compressed) → ((f : Found) (total : ℕ) → FillFrom p A R₁ C₁ L U (length (take (length C) w₂)) r at l total f → FillDone f L′)
-          → (f : Found) (total : ℕ) → FoundFrom p A R C L U r at l total f → CompletedFor f (length C) R₁ C₁ L′
-      two-done L′ d f total g =
+      pub two-done : (L′ U′ : Compressed) (w′ : List ℕ) → ((f : Found) (total : ℕ) → FillFrom p A R₁ C₁ (S .L) (S .U) (length (take (length (S .C)) w₂)) r at l total f → FillDone f L′)
+          → (f : Found) (total : ℕ) → FoundFrom p A S r at l total f → CompletedFor f (length (S .C)) (storageOf R₁ C₁ L′ U′ w′)
+      two-done L′ U′ w′ d f total g =
           record {
-            rows = R₁-is p A R C L U w r at l (h .lists) f total g C₁ marks₁ cc R₁ marks₂ cr;
-            columns = C₁-is p A R C L U w r at l (h .lists) f total g C₁ marks₁ cc;
-            lower = d f total (rw (sym last-part) (fill-from p A R C L U w r at l (h .lists) f total g C₁ marks₁ cc R₁ marks₂ cr));
+            rows = R₁-is p A S r at l (h .lists) f total g C₁ marks₁ cc R₁ marks₂ cr;
+            columns = C₁-is p A S r at l (h .lists) f total g C₁ marks₁ cc;
+            lower = d f total (rw (sym last-part) (fill-from p A S r at l (h .lists) f total g C₁ marks₁ cc R₁ marks₂ cr));
           }
 
-      pub two-clear : (part : List ℕ) → part ≡ zeros (length (take (length C) w₂)) → part ++ drop (length C) w₂ ≡ zeros (length w)
+      pub two-clear : (part : List ℕ) → part ≡ zeros (length (take (length (S .C)) w₂)) → part ++ drop (length (S .C)) w₂ ≡ zeros (length (S .work))
       two-clear part e =
-          ap (λ (x : List ℕ). part ++ drop (length C) x) again
-          ∙ whole-again w (h .lists .clear) (length C) (h .lists .m-fits) part (e ∙ ap zeros (sym last-part))
+          ap (λ (x : List ℕ). part ++ drop (length (S .C)) x) again
+          ∙ whole-again (S .work) (h .lists .clear) (length (S .C)) (h .lists .m-fits) part (e ∙ ap zeros (sym last-part))
           ∙ h .lists .clear

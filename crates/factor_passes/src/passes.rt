@@ -1,23 +1,18 @@
 // The two passes, each with the orders completed first: by the rows that the first pass takes after the pairs and the columns that
 // its block has, and by what the factors lack. The working row marks the rows or the columns of an order
 // while it is completed.
-ghost use mathlib.Core.Path.{_≡_};
-ghost use mathlib.Core.Bool.{false};
-ghost use Prim.Native.Nat.{ℕ, _≤_};
+ghost use Prim.Native.Nat.{_≤_};
 ghost use lib.ListN.{length};
-ghost use Rattle.lists.specs.Filled.{zeros};
-ghost use Rattle.elimination.specs.Pivots.{Found};
-ghost use Rattle.factor_turn.specs.Passing.{PassLeaves};
 ghost use Rattle.factor_order.specs.Needs.{Completable};
-ghost use Rattle.factor_passes.specs.Needs.{FromReady, ColumnsCompleted, FoundFrom, CompleteReady, CompletedFor};
-ghost use Rattle.sparse.specs.Views.{before, after, storedAt, storedBefore, storedAfter};
+ghost use Rattle.factor_passes.specs.Needs.{FromReady, ColumnsCompleted, PassOneLeaves, CompleteReady, Completes};
+ghost use Rattle.sparse.specs.Views.{before, after, storedAt, storedBefore, storageAt, storageBefore, storageAfter};
 use factor_first::dense::Pass;
 use factor_first::pass::find_pivots;
 use factor_order::complete::complete;
 use factor_turn::fill::fill_dependents;
 use residue::Modulus;
 
-// Completes `columns` where what is left of n rows after the first s fits the block: its columns are then those after the first s.
+// Completes C where what is left of n rows after the first s fits the block: its columns are then those after the first s.
 fn complete_columns(n: usize, s: usize, co: &mut [u32], marks: &mut [u64])
     requires { ⌜ (s ≤ n) × Completable s (now co) (now marks) ⌝ }
     ensures { λ _. ⌜ ColumnsCompleted n s (before co) (after co) (after marks) ⌝ }
@@ -31,7 +26,7 @@ fn complete_columns(n: usize, s: usize, co: &mut [u32], marks: &mut [u64])
     complete(s, co, marks);
 }
 
-// Takes the s pairs that `rows` and `columns` hold, then the other rows, rising.
+// Takes the s pairs that R and C hold, then the other rows, rising.
 pub fn pass_one(
     q: Modulus,
     starts: &[u32],
@@ -48,8 +43,8 @@ pub fn pass_one(
     uv: &mut [u32],
     work: &mut [u64],
 ) -> Pass
-    requires { ⌜ FromReady (q .p) s (storedAt starts cols vals) (now ro) (now co) (storedAt ls lc lv) (storedAt us uc uv) (now work) ⌝ }
-    ensures { λ to. ⌜ PassLeaves (q .p) s (storedBefore starts cols vals) (before ro) (before co) (length (before co)) (length (before lc)) (length (before uc)) (after ro) (after co) (storedAfter ls lc lv) (storedAfter us uc uv) (to .so .over) (to .stop) (to .so .r) (to .so .at) (to .so .l) (to .so .total) × (to .so .over ≡ false → after work ≡ zeros (length (before work))) ⌝ }
+    requires { ⌜ FromReady (q .p) s (storedAt starts cols vals) (storageAt ro co ls lc lv us uc uv work) ⌝ }
+    ensures { λ to. ⌜ PassOneLeaves (q .p) s (length (before co)) (storedBefore starts cols vals) (storageBefore ro co ls lc lv us uc uv work) (storageAfter ro co ls lc lv us uc uv work) to ⌝ }
 {
     let n = ro.len();
     let m = co.len();
@@ -73,7 +68,7 @@ pub fn pass_one(
     )
 }
 
-// Completes `rows` and `columns`, of which the first r are the pivots', and stores the rows of L of the dependent rows.
+// Completes R and C, of which the first r are the pivots', and stores the rows of L of the dependent rows.
 pub fn pass_two(
     q: Modulus,
     starts: &[u32],
@@ -92,9 +87,8 @@ pub fn pass_two(
     lv: &mut [u32],
     work: &mut [u64],
 )
-    requires { ⌜ CompleteReady (q .p) (storedAt starts cols vals) (now ro) (now co) (storedAt ls lc lv) (storedAt us uc uv) (now work) r at l ⌝ }
-    ensures completed { λ _. ⌜ ((f : Found) (total : ℕ) → FoundFrom (q .p) (storedBefore starts cols vals) (before ro) (before co) (storedBefore ls lc lv) (storedBefore us uc uv) r at l total f → CompletedFor f (length (before co)) (after ro) (after co) (storedAfter ls lc lv)) ⌝ }
-    ensures clear { λ _. ⌜ after work ≡ zeros (length (before work)) ⌝ }
+    requires { ⌜ CompleteReady (q .p) (storedAt starts cols vals) (storageAt ro co ls lc lv us uc uv work) r at l ⌝ }
+    ensures { λ _. ⌜ Completes (q .p) (storedBefore starts cols vals) (storageBefore ro co ls lc lv us uc uv work) (storageAfter ro co ls lc lv us uc uv work) r at l ⌝ }
 {
     let n = ro.len();
     let m = co.len();

@@ -2,8 +2,8 @@
 use mathlib.Core.Path.{_≡_, sym, ap, _∙_}
 use Rattle.refusals.specs.declared.Outcome.the-variants.{Passed}
 use Rattle.sparse.specs.Matrix.{Compressed, compressed}
+use Rattle.sparse.specs.Set.{Storage, storageOf}
 use Rattle.call_factor.specs.Lengths.{lentOf, lentOutcome}
-use Rattle.call_factor.specs.declared.Lent.{Lent}
 use Rattle.call_factor.proofs.Ready.{kept-same, ready, call-refused, call-done}
 use borrow.Author.Needs.{needs}
 use Rattle.call_factor.proofs.factor.Statement.{statement}
@@ -12,27 +12,31 @@ use Rattle.call_factor.proofs.factor.Tie as tie
 abbrev plan : tie.Start → Compressed
 plan s = compressed (s .args .starts .now) (s .args .cols .now) (s .args .vals .now)
 
--- the lengths of the lent lists
-abbrev lent : tie.Start → Lent
-lent s = lentOf (s .args .ro .now) (s .args .co .now) (compressed (s .args .ls .now) (s .args .lc .now) (s .args .lv .now)) (compressed (s .args .us .now) (s .args .uc .now) (s .args .uv .now)) (s .args .work .now)
+-- the lent lists, and the same after they were cleared
+abbrev lent : tie.Start → Storage
+lent s =
+    storageOf (s .args .ro .now) (s .args .co .now) (compressed (s .args .ls .now) (s .args .lc .now) (s .args .lv .now))
+    (compressed (s .args .us .now) (s .args .uc .now) (s .args .uv .now)) (s .args .work .now)
 
--- the same after the lists were cleared
-abbrev own : tie.After-clear-all → Lent
-own x = lentOf (x .clear-all .last .0) (x .clear-all .last .1 .0) (compressed (x .clear-all .last .1 .1 .0) (x .clear-all .last .1 .1 .1 .0) (x .clear-all .last .1 .1 .1 .1 .0)) (compressed (x .clear-all .last .1 .1 .1 .1 .1 .0) (x .clear-all .last .1 .1 .1 .1 .1 .1 .0) (x .clear-all .last .1 .1 .1 .1 .1 .1 .1 .0)) (x .clear-all .last .1 .1 .1 .1 .1 .1 .1 .1 .0)
+abbrev own : tie.After-clear-all → Storage
+own x =
+    storageOf (x .clear-all .last .0) (x .clear-all .last .1 .0) (compressed (x .clear-all .last .1 .1 .0) (x .clear-all .last .1 .1 .1 .0) (x .clear-all .last .1 .1 .1 .1 .0))
+    (compressed (x .clear-all .last .1 .1 .1 .1 .1 .0) (x .clear-all .last .1 .1 .1 .1 .1 .1 .0) (x .clear-all .last .1 .1 .1 .1 .1 .1 .1 .0)) (x .clear-all .last .1 .1 .1 .1 .1 .1 .1 .1 .0)
 
-same : (x : tie.After-clear-all) → own x ≡ lent (x .before .before .before .before .before .before .before .before .before .before .before .before .before .before .before .before .before .before .before .before .before .before)
-same x = kept-same (lent (x .before .before .before .before .before .before .before .before .before .before .before .before .before .before .before .before .before .before .before .before .before .before)) (own x) (record { rows = x .clear-all .kept .0; columns = x .clear-all .kept .1 .0; ls = x .clear-all .kept .1 .1 .0; lc = x .clear-all .kept .1 .1 .1 .0; lv = x .clear-all .kept .1 .1 .1 .1 .0; us = x .clear-all .kept .1 .1 .1 .1 .1 .0; uc = x .clear-all .kept .1 .1 .1 .1 .1 .1 .0; uv = x .clear-all .kept .1 .1 .1 .1 .1 .1 .1 .0; work = x .clear-all .kept .1 .1 .1 .1 .1 .1 .1 .1 .0 })
+-- their lengths are the same
+same : (x : tie.After-clear-all) → lentOf (own x) ≡ lentOf (lent (x .before .before .before .before .before .before .before .before .before .before .before .before .before .before .before .before .before .before .before .before .before .before))
+same x = kept-same (lent (x .before .before .before .before .before .before .before .before .before .before .before .before .before .before .before .before .before .before .before .before .before .before)) (own x) (record { R-long = x .clear-all .kept .0; C-long = x .clear-all .kept .1 .0; ls-long = x .clear-all .kept .1 .1 .0; lc-long = x .clear-all .kept .1 .1 .1 .0; lv-long = x .clear-all .kept .1 .1 .1 .1 .0; us-long = x .clear-all .kept .1 .1 .1 .1 .1 .0; uc-long = x .clear-all .kept .1 .1 .1 .1 .1 .1 .0; uv-long = x .clear-all .kept .1 .1 .1 .1 .1 .1 .1 .0; w-long = x .clear-all .kept .1 .1 .1 .1 .1 .1 .1 .1 .0 })
 
-tested-own : (c : tie.After-lent-outcome) → let s = c .before .before .before .before .before .before .before .before .before .before .before .before .before .before .before .before .before .before .before .before .before .before .before .before .before .before .before .before .before .before .before .before .before .before .before .before .before .before .before .before .before in c .lent-outcome .result ≡ lentOutcome (s .args .p) (s .args .n) (s .args .m) (plan s) (own (c .before .before .before .before .before .before .before .before .before .before .before .before .before .before .before .before .before .before .before))
+tested-own : (c : tie.After-lent-outcome) → let s = c .before .before .before .before .before .before .before .before .before .before .before .before .before .before .before .before .before .before .before .before .before .before .before .before .before .before .before .before .before .before .before .before .before .before .before .before .before .before .before .before .before in c .lent-outcome .result ≡ lentOutcome (s .args .p) (s .args .n) (s .args .m) (plan s) (lentOf (own (c .before .before .before .before .before .before .before .before .before .before .before .before .before .before .before .before .before .before .before)))
 tested-own c = c .lent-outcome .ensures
 
-tested : (c : tie.After-lent-outcome) → let s = c .before .before .before .before .before .before .before .before .before .before .before .before .before .before .before .before .before .before .before .before .before .before .before .before .before .before .before .before .before .before .before .before .before .before .before .before .before .before .before .before .before in c .lent-outcome .result ≡ lentOutcome (s .args .p) (s .args .n) (s .args .m) (plan s) (lent s)
+tested : (c : tie.After-lent-outcome) → let s = c .before .before .before .before .before .before .before .before .before .before .before .before .before .before .before .before .before .before .before .before .before .before .before .before .before .before .before .before .before .before .before .before .before .before .before .before .before .before .before .before .before in c .lent-outcome .result ≡ lentOutcome (s .args .p) (s .args .n) (s .args .m) (plan s) (lentOf (lent s))
 tested c = let s = c .before .before .before .before .before .before .before .before .before .before .before .before .before .before .before .before .before .before .before .before .before .before .before .before .before .before .before .before .before .before .before .before .before .before .before .before .before .before .before .before .before in tested-own c ∙ ap (lentOutcome (s .args .p) (s .args .n) (s .args .m) (plan s)) (same (c .before .before .before .before .before .before .before .before .before .before .before .before .before .before .before .before .before .before .before))
 
-passed-own : (c : tie.After-enum-told) → let s = c .before .before .before .before .before .before .before .before .before .before .before .before .before .before .before .before .before .before .before .before .before .before .before .before .before .before .before .before .before .before .before .before .before .before .before .before .before .before .before .before .before .before .before in lentOutcome (s .args .p) (s .args .n) (s .args .m) (plan s) (own (c .before .before .before .before .before .before .before .before .before .before .before .before .before .before .before .before .before .before .before .before .before)) ≡ Passed
+passed-own : (c : tie.After-enum-told) → let s = c .before .before .before .before .before .before .before .before .before .before .before .before .before .before .before .before .before .before .before .before .before .before .before .before .before .before .before .before .before .before .before .before .before .before .before .before .before .before .before .before .before .before .before in lentOutcome (s .args .p) (s .args .n) (s .args .m) (plan s) (lentOf (own (c .before .before .before .before .before .before .before .before .before .before .before .before .before .before .before .before .before .before .before .before .before))) ≡ Passed
 passed-own c = sym (tested-own (c .before .before)) ∙ c .enum-told .given .1
 
-passed : (c : tie.After-enum-told) → let s = c .before .before .before .before .before .before .before .before .before .before .before .before .before .before .before .before .before .before .before .before .before .before .before .before .before .before .before .before .before .before .before .before .before .before .before .before .before .before .before .before .before .before .before in lentOutcome (s .args .p) (s .args .n) (s .args .m) (plan s) (lent s) ≡ Passed
+passed : (c : tie.After-enum-told) → let s = c .before .before .before .before .before .before .before .before .before .before .before .before .before .before .before .before .before .before .before .before .before .before .before .before .before .before .before .before .before .before .before .before .before .before .before .before .before .before .before .before .before .before .before in lentOutcome (s .args .p) (s .args .n) (s .args .m) (plan s) (lentOf (lent s)) ≡ Passed
 passed c = sym (tested (c .before .before)) ∙ c .enum-told .given .1
 
 clear-all-requires : tie.Need-clear-all-requires
@@ -73,13 +77,13 @@ same-length-9 c = search needs
 
 returns : tie.Need-returns
 returns c =
-    call-refused _ _ _ _ _ _ _ _ _ _ _ _ (sym (tested (c .before .before .before)) ∙ c .before .tested .given .1) (c .before .before .before .before .before .before .before .before .before .before .before .before .before .before .before .before .before .before .before .before .before .before .clear-all .ensures)
+    call-refused _ _ _ _ _ _ _ _ (sym (tested (c .before .before .before)) ∙ c .before .tested .given .1) (c .before .before .before .before .before .before .before .before .before .before .before .before .before .before .before .before .before .before .before .before .before .before .clear-all .ensures)
 
 enum-told : tie.Need-enum-told
 enum-told c = search needs
 
 factor-requires : tie.Need-factor-requires
-factor-requires c κs = ready _ _ _ _ _ _ _ _ _ (passed-own (c .before .before .before .before .before .before .before .before .before)) (c .before .before .before .before .before .before .before .before .before .before .before .before .before .before .before .before .before .before .before .before .before .before .before .before .before .before .before .before .before .before .clear-all .ensures)
+factor-requires c κs = ready _ _ _ _ _ (passed-own (c .before .before .before .before .before .before .before .before .before)) (c .before .before .before .before .before .before .before .before .before .before .before .before .before .before .before .before .before .before .before .before .before .before .before .before .before .before .before .before .before .before .clear-all .ensures)
 
 same-length-10 : tie.Need-same-length-10
 same-length-10 c = c .before .before .before .before .before .before .before .before .before .before .before .before .before .before .before .before .before .before .factor .kept .1 .1 .1 .1 .1 .1 .0 ∙ c .before .before .before .before .before .before .before .before .before .before .before .before .before .before .before .before .before .before .before .before .before .before .before .before .before .before .before .before .before .before .before .before .before .before .before .before .before .before .before .before .before .before .before .before .before .before .before .before .before .clear-all .kept .0
@@ -111,7 +115,7 @@ same-length-18 c = c .before .before .before .before .before .before .before .be
 returns-2 : tie.Need-returns-2
 returns-2 c =
     let x = c .before .before .before .before .before .before .before .before .before .before .before .before .before .before .before .before .before .before .before .before .before .before .before .before .before .before .before .before .before .before .before .before .before .before .before .before .before .before .before .before .before .before .before .before .before .before .before .before .before in
-    call-done _ _ _ _ _ _ _ _ _ (lent (x .before .before .before .before .before .before .before .before .before .before .before .before .before .before .before .before .before .before .before .before .before .before)) (own x) (same x) _ _ _ _ (passed (c .before .before .before .before .before .before .before .before .before .before .before .before .before .before .before .before .before .before .before .before .before .before .before .before .before .before .before .before)) (c .before .before .before .before .before .before .before .before .before .before .before .before .before .before .before .before .before .before .factor .ensures)
+    call-done _ _ _ _ _ (lentOf (lent (x .before .before .before .before .before .before .before .before .before .before .before .before .before .before .before .before .before .before .before .before .before .before))) (lentOf (own x)) (same x) _ (passed (c .before .before .before .before .before .before .before .before .before .before .before .before .before .before .before .before .before .before .before .before .before .before .before .before .before .before .before .before)) (c .before .before .before .before .before .before .before .before .before .before .before .before .before .before .before .before .before .before .factor .ensures)
 
 pub factor-spec : {M : Type 1} → statement M
 factor-spec =

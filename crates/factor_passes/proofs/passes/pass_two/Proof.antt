@@ -8,28 +8,28 @@ slice-relend-prefix-complete : tie.Need-slice-relend-prefix-complete
 slice-relend-prefix-complete c = search needs
 
 slice-aggregate-complete : tie.Need-slice-aggregate-complete
-slice-aggregate-complete c = columns-part _ _ _ _ _ _ _ _ _ _ (c .before .before .before .before .before .before .before .before .before .before .before .before .before .before .pre)
+slice-aggregate-complete c = columns-part _ _ _ _ _ _ (c .before .before .before .before .before .before .before .before .before .before .before .before .before .before .pre)
 
 complete-requires : tie.Need-complete-requires
-complete-requires c κs = two-columns _ _ _ _ _ _ _ _ _ _ (c .before .before .before .before .before .before .before .before .before .before .before .before .before .before .pre)
+complete-requires c κs = two-columns _ _ _ _ _ _ (c .before .before .before .before .before .before .before .before .before .before .before .before .before .before .pre)
 
 slice-relend-prefix-complete-2 : tie.Need-slice-relend-prefix-complete-2
 slice-relend-prefix-complete-2 c = search needs
 
 slice-aggregate-complete-2 : tie.Need-slice-aggregate-complete-2
-slice-aggregate-complete-2 c = rows-part _ _ _ _ _ _ _ _ _ _ (c .before .before .before .before .before .before .before .before .before .before .before .before .before .before .before .before .before .before .before .before .before .pre) _ _ (c .before .before .before .before .before .before .complete .ensures)
+slice-aggregate-complete-2 c = rows-part _ _ _ _ _ _ (c .before .before .before .before .before .before .before .before .before .before .before .before .before .before .before .before .before .before .before .before .before .pre) _ _ (c .before .before .before .before .before .before .complete .ensures)
 
 complete-requires-2 : tie.Need-complete-requires-2
-complete-requires-2 c κs = two-rows _ _ _ _ _ _ _ _ _ _ (c .before .before .before .before .before .before .before .before .before .before .before .before .before .before .before .before .before .before .before .before .before .pre) _ _ (c .before .before .before .before .before .before .complete .ensures)
+complete-requires-2 c κs = two-rows _ _ _ _ _ _ (c .before .before .before .before .before .before .before .before .before .before .before .before .before .before .before .before .before .before .before .before .before .pre) _ _ (c .before .before .before .before .before .before .complete .ensures)
 
 slice-relend-prefix-fill-dependents : tie.Need-slice-relend-prefix-fill-dependents
 slice-relend-prefix-fill-dependents c = search needs
 
 slice-aggregate-fill-dependents : tie.Need-slice-aggregate-fill-dependents
-slice-aggregate-fill-dependents c = last-part _ _ _ _ _ _ _ _ _ _ (c .before .before .before .before .before .before .before .before .before .before .before .before .before .before .before .before .before .before .before .before .before .before .before .before .before .before .before .before .before .before .before .before .pre) _ _ (c .before .before .before .before .before .before .before .before .before .before .before .before .before .before .before .before .before .complete .ensures) _ _ (c .before .before .before .before .before .before .before .before .before .before .complete2 .ensures)
+slice-aggregate-fill-dependents c = last-part _ _ _ _ _ _ (c .before .before .before .before .before .before .before .before .before .before .before .before .before .before .before .before .before .before .before .before .before .before .before .before .before .before .before .before .before .before .before .before .pre) _ _ (c .before .before .before .before .before .before .before .before .before .before .before .before .before .before .before .before .before .complete .ensures) _ _ (c .before .before .before .before .before .before .before .before .before .before .complete2 .ensures)
 
 fill-dependents-requires : tie.Need-fill-dependents-requires
-fill-dependents-requires c κs = two-fill _ _ _ _ _ _ _ _ _ _ (c .before .before .before .before .before .before .before .before .before .before .before .before .before .before .before .before .before .before .before .before .before .before .before .before .before .before .before .before .before .before .before .before .pre) _ _ (c .before .before .before .before .before .before .before .before .before .before .before .before .before .before .before .before .before .complete .ensures) _ _ (c .before .before .before .before .before .before .before .before .before .before .complete2 .ensures)
+fill-dependents-requires c κs = two-fill _ _ _ _ _ _ (c .before .before .before .before .before .before .before .before .before .before .before .before .before .before .before .before .before .before .before .before .before .before .before .before .before .before .before .before .before .before .before .before .pre) _ _ (c .before .before .before .before .before .before .before .before .before .before .before .before .before .before .before .before .before .complete .ensures) _ _ (c .before .before .before .before .before .before .before .before .before .before .complete2 .ensures)
 
 same-length : tie.Need-same-length
 same-length c = search needs
@@ -51,7 +51,7 @@ same-length-6 c = search needs
 
 returns : tie.Need-returns
 returns c = let s = c .before .before .before .before .before .before .before .before .before .before .before .before .before .before .before .before .before .before .before .before .before .before .before .before .before .before .before .before .before .before .before .before .before .before .before .before .before .before .before .before .before in let a = c .before .before .before .before .before .before .before .before .before .before .before .before .before .before .before .before .before .before .before .before .before .before .before .before .before .before .complete .ensures in let b = c .before .before .before .before .before .before .before .before .before .before .before .before .before .before .before .before .before .before .before .complete2 .ensures in let d = c .before .before .before .before .before .before .before .before .fill-dependents .ensures in
-    (two-done _ _ _ _ _ _ _ _ _ _ (s .pre) _ _ a _ _ b _ (d .0), two-clear _ _ _ _ _ _ _ _ _ _ (s .pre) _ _ a _ _ b _ (d .1))
+    record { completed = two-done _ _ _ _ _ _ (s .pre) _ _ a _ _ b _ _ _ (d .0); clear = two-clear _ _ _ _ _ _ (s .pre) _ _ a _ _ b _ (d .1) }
 
 pub pass-two-spec : {M : Type 1} → statement M
 pass-two-spec =
