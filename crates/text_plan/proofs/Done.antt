@@ -1,15 +1,15 @@
 -- What a call that reads a text returns and leaves.
---   done-exactly        it returns 0 exactly if its lists have their lengths and the text states a plan for which they have room
---   holds-stated        and then the result and the lists hold that plan
---   read-good           which every later call takes
---   each-stated         each triple that is stated is stored: its residue stands at its place
---   read-by             else it returns one of 9 and 1 to 7
---   read-cleared        and leaves p, n, m, the entry count and all lists 0
---   read-any-order      the order of the triples does not matter: texts that state the same triples leave the same
+--   done-exactly            it returns 0 exactly if its lists have their lengths and the text states a plan for which they have room
+--   holds-stated            and then the result and the lists hold that plan
+--   read-good               which every later call takes
+--   each-stated             each triple that is stated is stored: its residue stands at its place
+--   refused-by, read-by     else it returns one of 9 and 1 to 7
+--   read-cleared            and leaves p, n, m, the entry count and all lists 0
+--   read-any-order          the order of the triples does not matter: texts that state the same triples leave the same
 --   read-rising-as-before   a text that was accepted while triples had to rise is read as it was, and leaves what it left
---   accepted-exactly    line by line: a text is accepted, as these sizes and entries, exactly if it states that plan
+--   accepted-exactly        line by line: a text is accepted, as these sizes and entries, exactly if it states that plan
 use mathlib.Core.Path.{_≡_, refl, sym, ap, _∙_, subst}
-use mathlib.Core.Logic.{_↔_, inl, inr}
+use mathlib.Core.Logic.{_↔_}
 use mathlib.Core.List.{List, [], _∷_, _++_}
 use mathlib.Core.Bool.{Bool, true, false, cond, _&&_, not, true≢false}
 use Prim.Native.Nat.{ℕ, _+_, _-_}
@@ -20,6 +20,7 @@ use borrow.Author.Tests.{eqb-true, eq-eqb}
 use Rattle.lists.specs.Tests.{among}
 use Rattle.refusals.specs.Table.{textFaults}
 use Rattle.refusals.specs.Refusals.{numberOf, NumberFrom}
+use Rattle.refusals.proofs.Refusals.{RefusedBy, number-from}
 use Rattle.lists.specs.Filled.{zeros}
 use Rattle.lists.proofs.Bools.{and-left, and-right}
 use Rattle.text_fields.specs.Pieces.{Pieces, last, more, pieces}
@@ -28,7 +29,7 @@ use Rattle.text_fields.specs.declared.numbers.Number.{Number}
 use Rattle.text_fields.specs.declared.numbers.Number.the-variants.{Value, NotNumber}
 use Rattle.residue.specs.Range.{isModulus}
 use Rattle.residue.specs.Signed.{residueOf}
-use Rattle.sparse.specs.Matrix.{matrix, form}
+use Rattle.sparse.specs.Matrix.{compressed, matrix, form}
 use Rattle.sparse.proofs.Rows.{form-paired}
 use Rattle.grouping.specs.Members.{Member}
 use Rattle.text_judge.specs.declared.header.Header.{Header}
@@ -202,11 +203,11 @@ module _ (text : List ℕ) (a b c : ℕ) (r : Reading) (st co va : List ℕ) (ca
     λ h. ap numberOf (holds-stated (h .0) (h .1) (h .2) .done),
   )
 
-  pub read-good : numberOf (r .outcome) ≡ 0 → GoodPlan (r .p) (r .n) (r .m) (heldPlan r st co va)
+  pub read-good : numberOf (r .outcome) ≡ 0 → GoodPlan (r .p) (r .n) (r .m) (heldPlan r (compressed st co va))
   read-good z =
       let (long, paired, h) = done-exactly .0 z in
       let x = holds-stated long paired h in
-      let A = heldPlan r st co va in
+      let A = heldPlan r (compressed st co va) in
       let formed : form (r .p) (r .m) A ≡ true = (λ t. form (x .modulus-is t) (x .columns-are t) A) ∙ x .formed in
       let few = few-entries b (h .sizes) (planText (h .sizes) (h .triples)) (entriesOf (h .sizes .modulus .p) (h .triples)) (reads-stated b (h .sizes) (h .triples) (h .plan)) in
       record {
@@ -219,16 +220,19 @@ module _ (text : List ℕ) (a b c : ℕ) (r : Reading) (st co va : List ℕ) (ca
         formed = formed;
       }
 
-  pub read-by : NumberFrom textFaults (numberOf (r .outcome))
+  pub refused-by : RefusedBy textFaults (r .outcome)
   unfolding callOf answerBy among
-  read-by =
-      subst (λ (x : ReadAnswer). NumberFrom textFaults (numberOf (x .result .outcome))) given
+  refused-by =
+      subst (λ (x : ReadAnswer). RefusedBy textFaults (x .result .outcome)) given
       (go (eqb a startsLength && eqb b c) (readOf b text) (read-numbered b text))
     where
-      go : (t : Bool) (o : ReadResult) → Numbered o → NumberFrom textFaults (numberOf (cond t (readAnswerOf b o) (refuses 9 0 a b c) .result .outcome))
-      go false o n = inr refl
-      go true (refused k d) n = inr n
-      go true (accepted s seen) n = inl refl
+      go : (t : Bool) (o : ReadResult) → Numbered o → RefusedBy textFaults (cond t (readAnswerOf b o) (refuses 9 0 a b c) .result .outcome)
+      go false o n = refl
+      go true (refused k d) n = n
+      go true (accepted s seen) n = tt
+
+  pub read-by : NumberFrom textFaults (numberOf (r .outcome))
+  read-by = number-from textFaults (r .outcome) refused-by
 
   pub read-cleared : ¬ (numberOf (r .outcome) ≡ 0) → ReadCleared a b c r st co va
   unfolding callOf answerBy
@@ -262,7 +266,7 @@ read-any-order s room ts us g h same r st co va call =
 -- t is any of the triples of a plan that is stated: xs stand before it, ys after it
 pub each-stated : (s : Sizes) (room : ℕ) (xs : List StatedEntry) (t : StatedEntry) (ys : List StatedEntry) → Plan room s (xs ++ (t ∷ ys))
     → (r : Reading) (st co va : List ℕ) → Gives (callOf (planText s (xs ++ (t ∷ ys))) startsLength room room) r st co va
-    → matrix (heldPlan r st co va) (t .row - 1) (t .column - 1) ≡ residueOf (s .modulus .p) (integerOf (t .value))
+    → matrix (heldPlan r (compressed st co va)) (t .row - 1) (t .column - 1) ≡ residueOf (s .modulus .p) (integerOf (t .value))
 each-stated s room xs t ys h r st co va call =
     let ts = xs ++ (t ∷ ys) in
     let place = stated-inside s [] xs t ys (h .apart) in

@@ -1,5 +1,5 @@
 -- The plan that a text states, and the plan that a call leaves in the lent lists.
---   heldPlan r ..           the plan that a reading left in its lists: n + 1 starts, and as many columns and values as entries were counted
+--   heldPlan r A            the plan that a reading left in the lists A: n + 1 starts, and as many columns and values as entries were counted
 --   planOf x                the same of an answer
 --   StatesPlan room text    the text states a plan that lists with room for so many entries can hold
 --   HoldsPlan s ts r ..     the reading r and the lists hold the plan with the sizes s and the triples ts: it passed, p, n and m are those sizes,
@@ -20,11 +20,11 @@ use Rattle.text_opening.specs.Reading.{kept}
 use Rattle.text_plan.specs.Stating.{StatedEntry, Plan, planText, entriesOf, statedAt}
 use Rattle.text_plan.specs.Call.{ReadAnswer, refusalOf}
 
-abbrev pub heldPlan : Reading → (starts columns values : List ℕ) → Compressed
-heldPlan r starts columns values = compressed (take (r .n + 1) starts) (take (r .count) columns) (take (r .count) values)
+abbrev pub heldPlan : Reading → Compressed → Compressed
+heldPlan r A = compressed (take (r .n + 1) (A .starts)) (take (r .count) (A .cols)) (take (r .count) (A .vals))
 
 abbrev pub planOf : ReadAnswer → Compressed
-planOf x = heldPlan (x .result) (x .starts) (x .columns) (x .values)
+planOf x = heldPlan (x .result) (compressed (x .starts) (x .columns) (x .values))
 
 pub record StatesPlan (room : ℕ) (text : List ℕ) : Type 0 where
   pub sizes : Sizes
@@ -38,10 +38,10 @@ pub record HoldsPlan (s : Sizes) (ts : List StatedEntry) (r : Reading) (starts c
   pub rows-are : r .n ≡ s .n
   pub columns-are : r .m ≡ s .m
   pub count-is : r .count ≡ length (kept (entriesOf (s .modulus .p) ts))
-  pub cells : (i j : ℕ) → i < s .n → j < s .m → matrix (heldPlan r starts columns values) i j ≡ statedAt (s .modulus .p) ts i j
-  pub starts-stored : length (heldPlan r starts columns values .starts) ≡ s .n + 1
-  pub entries-stored : length (heldPlan r starts columns values .cols) ≡ r .count
-  pub formed : form (s .modulus .p) (s .m) (heldPlan r starts columns values) ≡ true
+  pub cells : (i j : ℕ) → i < s .n → j < s .m → matrix (heldPlan r (compressed starts columns values)) i j ≡ statedAt (s .modulus .p) ts i j
+  pub starts-stored : length (heldPlan r (compressed starts columns values) .starts) ≡ s .n + 1
+  pub entries-stored : length (heldPlan r (compressed starts columns values) .cols) ≡ r .count
+  pub formed : form (s .modulus .p) (s .m) (heldPlan r (compressed starts columns values)) ≡ true
 
 pub record ReadCleared (a b c : ℕ) (r : Reading) (starts columns values : List ℕ) : Type 0 where
   pub result-is : r ≡ refusalOf (r .outcome)
