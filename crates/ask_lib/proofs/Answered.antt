@@ -16,7 +16,7 @@ use Rattle.lists.proofs.Tabulate.{length-tabulate}
 use Rattle.algebra.specs.Sum.{δ, place}
 use Rattle.algebra.specs.Matrix.{Vector, vector}
 use Rattle.sparse.specs.Matrix.{Compressed, matrix}
-use Rattle.sparse.specs.Set.{Set}
+use Rattle.sparse.specs.Set.{Set, Storage}
 use Rattle.row_space.specs.Substitution.{backL, backU}
 use Rattle.row_space.specs.Solve.{remainder, multiplesOf, lowestOf, Solved, opened, closed, solve}
 use Rattle.row_space.specs.declared.Verdict.{Verdict}
@@ -29,7 +29,8 @@ use Rattle.text_plan.specs.Held.{heldPlan}
 use Rattle.stages.specs.Staged.{heldSet}
 use Rattle.stages.specs.declared.Stages.{Stages}
 use Rattle.ask_lib.specs.Asking.{isOpenAnswer, givenLine}
-use Rattle.ask_lib.specs.Held.{answerLineOf, heldAnswer, Answerable, AnswerHeld}
+use Rattle.ask_lib.specs.Held.{answerLineOf, heldAnswer, AnswerHeld}
+use Rattle.ask_lib.specs.Needs.{Answerable}
 use Rattle.ask_lib.proofs.Details.{question-small}
 
 -- ---- the lists of an answer have their lengths
@@ -80,7 +81,7 @@ module _ (p n m : ℕ) (A : Compressed) (s : Set) (y : List ℕ) where
 
 -- ---- the call on beginnings of x and z
 
-module _ (s : Stages) (A : Compressed) (R C : List ℕ) (L U : Compressed) (y x z w : List ℕ) (d : Answerable s A R C L U y x z w) where
+module _ (s : Stages) (A : Compressed) (h : Storage) (y x z : List ℕ) (d : Answerable s A h y x z) where
   abbrev p : ℕ
   p = s .reading .p
 
@@ -91,10 +92,10 @@ module _ (s : Stages) (A : Compressed) (R C : List ℕ) (L U : Compressed) (y x 
   m = s .reading .m
 
   abbrev plan : Compressed
-  plan = heldPlan (s .reading) (A .starts) (A .cols) (A .vals)
+  plan = heldPlan (s .reading) A
 
   abbrev set : Set
-  set = heldSet s R C L U
+  set = heldSet s h
 
   pub x-fits : n ≤ length x
   x-fits = omega (arith, d .rows-small, d .x-length)
@@ -109,11 +110,11 @@ module _ (s : Stages) (A : Compressed) (R C : List ℕ) (L U : Compressed) (y x 
   z-part = length-take-le m z z-fits
 
   module _ (a : Answer) (x′ z′ w′ : List ℕ) (x-same : length x′ ≡ length (take n x)) (z-same : length z′ ≡ length (take m z))
-      (h : Answers (answerFactorsOf p n m plan set y (length (take n x)) (length (take m z)) (length w)) a (take n x) x′ (take m z) z′ w w′) where
-    held : Answers (heldAnswer s A R C L U y) a (take n x) x′ (take m z) z′ w w′
+      (got : Answers (answerFactorsOf p n m plan set y (length (take n x)) (length (take m z)) (length (h .work))) a (take n x) x′ (take m z) z′ (h .work) w′) where
+    held : Answers (heldAnswer s A h y) a (take n x) x′ (take m z) z′ (h .work) w′
     held =
-        subst (λ (g : Given). Answers g a (take n x) x′ (take m z) z′ w w′)
-        (λ t. answerFactorsOf p n m plan set y (x-part t) (z-part t) (d .work-length t)) h
+        subst (λ (g : Given). Answers g a (take n x) x′ (take m z) z′ (h .work) w′)
+        (λ t. answerFactorsOf p n m plan set y (x-part t) (z-part t) (d .work-length t)) got
 
     x-cut : take n (x′ ++ drop n x) ≡ x′
     x-cut = take-at x′ (drop n x) n (x-same ∙ x-part)
@@ -121,13 +122,13 @@ module _ (s : Stages) (A : Compressed) (R C : List ℕ) (L U : Compressed) (y x 
     z-cut : take m (z′ ++ drop m z) ≡ z′
     z-cut = take-at z′ (drop m z) m (z-same ∙ z-part)
 
-    the-line : answerLineOf a (take n (x′ ++ drop n x)) (take m (z′ ++ drop m z)) ≡ givenLine (heldAnswer s A R C L U y)
+    the-line : answerLineOf a (take n (x′ ++ drop n x)) (take m (z′ ++ drop m z)) ≡ givenLine (heldAnswer s A h y)
     the-line =
-        let g = heldAnswer s A R C L U y in
+        let g = heldAnswer s A h y in
         (λ t. answerLineOf (held .answer t) ((x-cut ∙ held .x-is ∙ ap (λ (k : ℕ). filled k (g .x)) x-part) t) ((z-cut ∙ held .z-is ∙ ap (λ (k : ℕ). filled k (g .z)) z-part) t))
         ∙ factors-line p n m plan set y
 
-    pub answered : AnswerHeld (heldAnswer s A R C L U y) a n m (x′ ++ drop n x) (z′ ++ drop m z) w w′
+    pub answered : AnswerHeld (heldAnswer s A h y) a n m (x′ ++ drop n x) (z′ ++ drop m z) (h .work) w′
     answered =
         record {
           line-is = the-line;

@@ -13,7 +13,8 @@ use Rattle.print_text.specs.Answer.{answerLine}
 use Rattle.print_text.specs.Report.{refusalText}
 use Rattle.print_text.specs.Printed.{detailFromOne}
 use Rattle.print_text.proofs.Room.{refusal-room, answer-room}
-use Rattle.ask_lib.specs.Held.{answerLineOf, LineReady}
+use Rattle.ask_lib.specs.Held.{answerLineOf}
+use Rattle.ask_lib.specs.Needs.{LineReady}
 
 module _ (a : Answer) (n m : ℕ) (x z out : List ℕ) (d : LineReady a n m x z out) where
   pub detail-counts : (k e : ℕ) → a ≡ Answer.Refused k e → e < 4294967295

@@ -38,11 +38,11 @@ use Rattle.call_answer.specs.Meaning.{AnswersRight}
 use Rattle.call_answer.proofs.Lengths.{values-differ, columns-tested}
 use Rattle.call_answer.proofs.Ways.{wrong-lengths, question-tested, answered-number, answered-detail}
 use Rattle.call_answer.proofs.Theorems.{stored-right}
-use Rattle.factor_all.specs.Outcome as factorings
+use Rattle.factor_all.specs.Factorization.{Factorization}
 use Rattle.print_text.specs.Report.{refusalText}
 use Rattle.print_text.specs.Printed.{countedFromOne, printed, PrintsRefusal}
 use Rattle.print_text.proofs.Shown.{fills-shown, first-refusal}
-use Rattle.stages.specs.Stages.{reading, readOutcome, factoredOf, factorOutcome}
+use Rattle.stages.specs.Stages.{reading, factoredOf}
 use Rattle.stages.specs.Meaning.{factorsOf, FitsAll, OverflowsAt}
 use Rattle.stages.proofs.ReadText.{reading-good, outcome-passed, reading-numbers, factored-whole, factored-over}
 use Rattle.stages.proofs.Passing.{factors-pass}
@@ -153,17 +153,17 @@ module _ (text y : List ℕ) (size : ℕ) (b₀ b w₀ w : List ℕ) (call : Ask
   set = factorsOf (reading text)
 
   -- what is printed after reading
-  abbrev after-reading : factorings.Outcome → List ℕ
-  after-reading f = printed (countedFromOne storageTooShort (factorOutcome f)) (givenLine (answerFor (reading text) f y))
+  abbrev after-reading : Factorization → List ℕ
+  after-reading f = printed (countedFromOne storageTooShort (f .outcome)) (givenLine (answerFor (reading text) f y))
 
-  shown : take size b ≡ printed (readOutcome (reading text .result)) (after-reading (factoredOf (reading text)))
+  shown : take size b ≡ printed (reading text .result .outcome) (after-reading (factoredOf (reading text)))
   unfolding askOf askReadOf
   shown = fills-shown b₀ b size (askOf text y) (call .answer)
 
   pub ask-refused : ¬ StatesPlan largestEntries text → PrintsRefusal textFaults (take size b)
   ask-refused none =
       subst (PrintsRefusal textFaults) (sym shown)
-      (first-refusal textFaults (readOutcome (reading text .result)) (after-reading (factoredOf (reading text))) (reading-numbers text) (λ e. none (outcome-passed text .0 e)))
+      (first-refusal textFaults (reading text .result .outcome) (after-reading (factoredOf (reading text))) (reading-numbers text) (λ e. none (outcome-passed text .0 e)))
 
   module _ (states : StatesPlan largestEntries text) where
     passes₁ : StoredPasses p₁ n₁ m₁ plan set workLength

@@ -16,15 +16,15 @@ use Rattle.refusals.specs.Table.{storageTooShort, questionTooLarge}
 use Rattle.byte_buffer.specs.Fills.{Fills}
 use Rattle.text_plan.specs.Call.{ReadAnswer}
 use Rattle.limits.specs.Limits.{workLength, startsLength, printRoom}
-use Rattle.factor_all.specs.Outcome.{Outcome}
+use Rattle.factor_all.specs.Factorization.{Factorization}
 use Rattle.call_answer.specs.Calls.{Given, answerFactorsOf}
 use Rattle.call_answer.specs.declared.Answer.{Answer}
 use Rattle.print_text.specs.Answer.{answerText}
 use Rattle.print_text.specs.Printed.{countedFromOne, printed}
-use Rattle.stages.specs.Stages.{reading, readOutcome, factoredOf, factorOutcome, setFactored}
+use Rattle.stages.specs.Stages.{reading, factoredOf, setFactored}
 use Rattle.text_plan.specs.Held.{planOf}
 
-abbrev pub answerFor : ReadAnswer → Outcome → List ℕ → Given
+abbrev pub answerFor : ReadAnswer → Factorization → List ℕ → Given
 answerFor x f y = let r = x .result in answerFactorsOf (r .p) (r .n) (r .m) (planOf x) (setFactored f) y (r .n) (r .m) workLength
 
 abbrev pub isOpenAnswer : Answer → Bool
@@ -38,8 +38,8 @@ givenLine g = printed (countedFromOne questionTooLarge (g .outcome)) (answerText
 unfoldable pub askReadOf : ReadAnswer → List ℕ → List ℕ
 askReadOf x y =
     let f = factoredOf x in
-    printed (readOutcome (x .result))
-    (printed (countedFromOne storageTooShort (factorOutcome f))
+    printed (x .result .outcome)
+    (printed (countedFromOne storageTooShort (f .outcome))
     (givenLine (answerFor x f y)))
 
 unfoldable pub askOf : List ℕ → List ℕ → List ℕ

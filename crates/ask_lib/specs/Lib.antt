@@ -1,3 +1,4 @@
 pub mod Asking
 pub mod Held
 pub mod Meaning
+pub mod Needs

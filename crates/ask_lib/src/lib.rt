@@ -4,8 +4,9 @@ ghost use lib.ListN.{take};
 ghost use Rattle.byte_buffer.specs.Fills.{Fills};
 ghost use Rattle.ask_lib.specs.Asking.{AskLists, Asks};
 ghost use Rattle.print_text.specs.Printed.{Prints};
-ghost use Rattle.ask_lib.specs.Held.{answerLineOf, LineReady, heldAnswer, Answerable, AnswerHeld, RowCountable, stagesRefusal, stagedLine, AskStagedReady};
-ghost use Rattle.sparse.specs.Views.{before, after, storedAt, storedBefore};
+ghost use Rattle.ask_lib.specs.Held.{answerLineOf, heldAnswer, AnswerHeld, stagesRefusal, stagedLine};
+ghost use Rattle.ask_lib.specs.Needs.{LineReady, Answerable, RowCountable, AskStagedReady};
+ghost use Rattle.sparse.specs.Views.{before, after, storedAt, storedBefore, storageAt, storageBefore};
 use call_answer::Answer;
 use call_answer::from_factors::answer_from_factors;
 use limits::ENTRY_CELLS;
@@ -15,6 +16,8 @@ use print_text::answer::write_answer;
 use print_text::report::from_one;
 use print_text::report::write_refusal;
 use refusals::Outcome;
+use refusals::numbers::QUESTION_TOO_LARGE;
+use refusals::numbers::STORAGE_TOO_SHORT;
 use stages::Stages;
 use stages::factor_text;
 
@@ -27,7 +30,7 @@ fn write_line(answer: Answer, n: u32, m: u32, xs: &[u32], zs: &[u32], out: &mut 
     let z = &zs[..m as usize];
     match answer {
         Answer::Refused(number, detail) => {
-            let counted = from_one(15, number, detail);
+            let counted = from_one(QUESTION_TOO_LARGE, number, detail);
             write_refusal(number, counted, out)
         }
         Answer::Open => write_answer(true, x, out),
@@ -40,14 +43,18 @@ fn refusal(s: Stages) -> Outcome
     requires { ⌜ RowCountable s ⌝ }
     ensures { λ o. ⌜ o ≡ stagesRefusal s ⌝ }
 {
-    if s.reading.number != 0 {
-        return Outcome::Refused(s.reading.number, s.reading.detail);
-    }
-    if s.factored.number != 0 {
-        let counted = from_one(7, s.factored.number, s.factored.detail);
-        return Outcome::Refused(s.factored.number, counted);
-    }
-    Outcome::Passed
+    let read = s.reading;
+    let reading = read.outcome;
+    let Outcome::Passed = reading else {
+        return reading;
+    };
+    let factored = s.factored;
+    let factoring = factored.outcome;
+    let Outcome::Refused(number, detail) = factoring else {
+        return factoring;
+    };
+    let row = from_one(STORAGE_TOO_SHORT, number, detail);
+    Outcome::Refused(number, row)
 }
 
 // Answers from the plan and the set that the stages left in lists.
@@ -69,8 +76,8 @@ fn answer_held(
     z: &mut [u32],
     work: &mut [u64],
 ) -> Answer
-    requires { ⌜ Answerable s (storedAt starts cols vals) (now ro) (now co) (storedAt ls lc lv) (storedAt us uc uv) (now y) (now x) (now z) (now work) ⌝ }
-    ensures { λ a. ⌜ AnswerHeld (heldAnswer s (storedBefore starts cols vals) (before ro) (before co) (storedBefore ls lc lv) (storedBefore us uc uv) (before y)) a (s .reading .n) (s .reading .m) (after x) (after z) (before work) (after work) ⌝ }
+    requires { ⌜ Answerable s (storedAt starts cols vals) (storageAt ro co ls lc lv us uc uv work) (now y) (now x) (now z) ⌝ }
+    ensures { λ a. ⌜ AnswerHeld (heldAnswer s (storedBefore starts cols vals) (storageBefore ro co ls lc lv us uc uv work) (before y)) a (s .reading .n) (s .reading .m) (after x) (after z) (before work) (after work) ⌝ }
 {
     let n = s.reading.n as usize;
     let m = s.reading.m as usize;
@@ -119,8 +126,8 @@ fn ask_staged(
     out: &mut [u8],
     work: &mut [u64],
 ) -> usize
-    requires { ⌜ AskStagedReady s (storedAt starts cols vals) (now ro) (now co) (storedAt ls lc lv) (storedAt us uc uv) (now y) (now out) (now work) ⌝ }
-    ensures { λ size. ⌜ Prints (stagedLine s (storedBefore starts cols vals) (before ro) (before co) (storedBefore ls lc lv) (storedBefore us uc uv) (before y)) size (before out) (after out) (before work) (after work) ⌝ }
+    requires { ⌜ AskStagedReady s (storedAt starts cols vals) (storageAt ro co ls lc lv us uc uv work) (now y) (now out) ⌝ }
+    ensures { λ size. ⌜ Prints (stagedLine s (storedBefore starts cols vals) (storageBefore ro co ls lc lv us uc uv work) (before y)) size (before out) (after out) (before work) (after work) ⌝ }
 {
     let refused = refusal(s);
     if let Outcome::Refused(number, detail) = refused {

@@ -1,5 +1,6 @@
-// What the programs that run cases print of numbers and lists, on standard output.
+// What the programs that run cases print of numbers, outcomes and lists, on standard output.
 ghost use Prim.Native.Nat.{_+_, _^_, _≤_, _<_};
+use refusals::Outcome;
 
 // A space and a number.
 pub fn number(n: u64) {
@@ -9,6 +10,20 @@ pub fn number(n: u64) {
 
 fn wide(x: u32) -> u64 {
     x as u64
+}
+
+// The number of an outcome, 0 where it passed, and its detail.
+pub fn outcome(o: Outcome) {
+    match o {
+        Outcome::Passed => {
+            number(0);
+            number(0);
+        }
+        Outcome::Refused(k, detail) => {
+            number(wide(k));
+            number(wide(detail));
+        }
+    }
 }
 
 // A label and the numbers of a list.

@@ -1,13 +1,14 @@
 // What the cases print, on standard output.
 use case_print::number;
+use case_print::outcome;
 use text_plan::Reading;
 
 // A case's name and what reading returned.
 pub fn line(name: &[u8], r: Reading) {
     io::write_all(1, name);
     io::write_all(1, b":");
-    number(r.number as u64);
-    number(r.detail as u64);
+    let o = r.outcome;
+    outcome(o);
     io::write_all(1, b" plan");
     number(r.p as u64);
     number(r.n as u64);

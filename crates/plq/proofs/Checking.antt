@@ -1,14 +1,12 @@
 -- Reading a text and checking a certificate against its plan: one law for each way out.
-use mathlib.Core.Path.{_≡_, sym, ap, _∙_}
-use mathlib.Core.Bool.{Bool}
+use mathlib.Core.Path.{_≡_, refl, sym, ap, _∙_}
 use mathlib.Core.List.{List}
 use Prim.Native.Nat.{ℕ}
-use lib.Dec.{eqb}
 use lib.ListN.{length}
-use borrow.Author.Tests.{eq-eqb, ne-eqb}
-use Rattle.refusals.specs.Refusals.{_▷_, unless}
+use Rattle.refusals.specs.Refusals.{_▷_}
 use Rattle.refusals.specs.declared.Outcome.{Outcome}
-use Rattle.refusals.specs.declared.Outcome.the-variants.{Refused}
+use Rattle.refusals.specs.declared.Outcome.the-variants.{Passed, Refused}
+use Rattle.refusals.proofs.Refusals.{refused, after-passed}
 use Rattle.sparse.specs.Matrix.{Compressed}
 use Rattle.text_plan.specs.Call.{ReadAnswer, callOf, Gives}
 use Rattle.text_plan.specs.declared.Reading.{Reading}
@@ -19,7 +17,7 @@ use Rattle.text_plan.specs.Held.{heldPlan}
 use Rattle.stages.specs.Lists.{Held}
 use Rattle.stages.proofs.Holding.{as-reading, held, answer-is}
 use Rattle.plq.specs.Calls.{checkReadOf, checkTextOf}
-use Rattle.plq.specs.Lists.{CheckLists}
+use Rattle.plq.specs.Needs.{CheckLists}
 
 module _ (text : List ℕ) (A₀ A : Compressed) (w : List ℕ) (d : CheckLists A₀ w) (r : Reading)
     (read : Gives (callOf text (length (A₀ .starts)) (length (A₀ .cols)) (length (A₀ .vals))) r (A .starts) (A .cols) (A .vals)) where
@@ -32,18 +30,14 @@ module _ (text : List ℕ) (A₀ A : Compressed) (w : List ℕ) (d : CheckLists 
       (record { starts-length = a ∙ d .plan .starts-length; columns-length = b ∙ d .plan .columns-length; values-length = c ∙ d .plan .values-length })
 
   abbrev checked : List ℕ → ℕ → Outcome
-  checked cert = checkCertificateOf (r .p) (r .n) (r .m) (heldPlan r (A .starts) (A .cols) (A .vals)) cert
+  checked cert = checkCertificateOf (r .p) (r .n) (r .m) (heldPlan r A) cert
 
-  answered : (cert : List ℕ) → (unless (eqb (r .number) 0) (r .number) (r .detail) ▷ checked cert workLength) ≡ checkTextOf text cert
+  answered : (cert : List ℕ) → (r .outcome ▷ checked cert workLength) ≡ checkTextOf text cert
   unfolding checkTextOf checkReadOf
   answered cert = ap (λ (x : ReadAnswer). checkReadOf x cert) (answer-is text r A given)
 
-  pub text-refused : (cert : List ℕ) → (r .number ≡ 0 → ⊥) → Refused (r .number) (r .detail) ≡ checkTextOf text cert
-  text-refused cert h = ap (λ (b : Bool). unless b (r .number) (r .detail) ▷ checked cert workLength) (sym (ne-eqb (r .number) 0 h)) ∙ answered cert
+  pub text-refused : (cert : List ℕ) {k d : ℕ} → r .outcome ≡ Refused k d → r .outcome ≡ checkTextOf text cert
+  text-refused cert e = refused (r .outcome) (r .outcome) (checked cert workLength) _ _ e refl ∙ answered cert
 
-  pub text-checked : (cert : List ℕ) (o : Outcome) → r .number ≡ 0 → o ≡ checked cert (length w) → o ≡ checkTextOf text cert
-  text-checked cert o z e =
-      e
-      ∙ ap (checked cert) (d .work-length)
-      ∙ ap (λ (b : Bool). unless b (r .number) (r .detail) ▷ checked cert workLength) (sym (eq-eqb (r .number) 0 z))
-      ∙ answered cert
+  pub text-checked : (cert : List ℕ) (o : Outcome) → r .outcome ≡ Passed → o ≡ checked cert (length w) → o ≡ checkTextOf text cert
+  text-checked cert o z e = e ∙ ap (checked cert) (d .work-length) ∙ sym (after-passed (r .outcome) (checked cert workLength) z) ∙ answered cert

@@ -49,8 +49,8 @@ use Rattle.call_check.specs.Calls.{checkCertificateOf}
 use Rattle.call_check.proofs.Theorems.{factors-exactly, certificate-exactly, stored-certificate, rest, rest-numbers, after-plan}
 use Rattle.call_write.specs.Call.{writeOutcome, bytesGiven}
 use Rattle.call_write.proofs.Theorems.{write-room}
-use Rattle.factor_all.specs.Outcome as Outcomes
-use Rattle.stages.specs.Stages.{reading, readOutcome, factoredOf, factorOutcome, setFactored}
+use Rattle.factor_all.specs.Factorization.{Factorization, unlessOver}
+use Rattle.stages.specs.Stages.{reading, factoredOf, setFactored}
 use Rattle.stages.specs.Meaning.{factorsOf, FitsAll, OverflowsAt}
 use Rattle.stages.proofs.ReadText.{reading-good, outcome-passed, reading-numbers, firstRow, wholeSet, fits-all, row-overflows, factored-is, factored-whole}
 use Rattle.stages.proofs.Passing.{factors-pass}
@@ -90,25 +90,25 @@ module _ (text cert : List ℕ) where
   text-exactly =
       let (there, back) = certificate-exactly p n m A cert workLength in (
         (λ e.
-            let (read, passed) = both-passed (readOutcome (reading text .result)) check e in
+            let (read, passed) = both-passed (reading text .result .outcome) check e in
             let h = there passed in
             record { states = outcome-passed text .0 read; layout = h .layout; passes = h .passes }),
         λ h.
-            after-passed (readOutcome (reading text .result)) check (outcome-passed text .1 (h .states))
+            after-passed (reading text .result .outcome) check (outcome-passed text .1 (h .states))
             ∙ back (record { plan = reading-good text (h .states); work = refl; layout = h .layout; passes = h .passes }),
       )
 
   after-reading : StatesPlan largestEntries text → checkTextOf text cert ≡ rest p n m A cert workLength
   unfolding checkTextOf checkReadOf
   after-reading h =
-      after-passed (readOutcome (reading text .result)) check (outcome-passed text .1 h)
+      after-passed (reading text .result .outcome) check (outcome-passed text .1 h)
       ∙ after-plan p n m A cert workLength (reading-good text h) refl
 
   text-numbers : RefusedBy (textFaults ++ setFaults) (checkTextOf text cert)
   unfolding checkTextOf checkReadOf
-  text-numbers = go (readOutcome (reading text .result)) refl (reading-numbers text)
+  text-numbers = go (reading text .result .outcome) refl (reading-numbers text)
     where
-      go : (o : Outcome) → readOutcome (reading text .result) ≡ o → RefusedBy textFaults o → RefusedBy (textFaults ++ setFaults) (o ▷ check)
+      go : (o : Outcome) → reading text .result .outcome ≡ o → RefusedBy textFaults o → RefusedBy (textFaults ++ setFaults) (o ▷ check)
       go Passed e h =
           subst (RefusedBy (textFaults ++ setFaults)) (sym (after-plan p n m A cert workLength (reading-good text (outcome-passed text .0 e)) refl))
           (refused-then textFaults setFaults Passed (rest p n m A cert workLength) tt (rest-numbers p n m A cert workLength))
@@ -205,28 +205,28 @@ module _ (text : List ℕ) where
   made-is : StatesPlan largestEntries text → (room : ℕ) → makeTextOf text room ≡ (storage (firstRow text) ▷ roomFor room cert₁)
   unfolding makeTextOf makeReadOf
   made-is h room =
-      after-passed (readOutcome (reading text .result)) (after-factoring (factoredOf (reading text))) (outcome-passed text .1 h)
+      after-passed (reading text .result .outcome) (after-factoring (factoredOf (reading text))) (outcome-passed text .1 h)
       ∙ ap after-factoring (factored-is text h)
       ∙ go (firstRow text)
     where
-      after-factoring : Outcomes.Outcome → Outcome
-      after-factoring f = factorOutcome f ▷ writeOutcome p₁ n₁ m₁ x (setFactored f) workLength room
+      after-factoring : Factorization → Outcome
+      after-factoring f = f .outcome ▷ writeOutcome p₁ n₁ m₁ x (setFactored f) workLength room
 
-      go : (o : Option ℕ) → after-factoring (Outcomes.unlessOver o (wholeSet text)) ≡ (storage o ▷ roomFor room cert₁)
+      go : (o : Option ℕ) → after-factoring (unlessOver o (wholeSet text)) ≡ (storage o ▷ roomFor room cert₁)
       go none = write-room p₁ n₁ m₁ x (factorsOf (reading text)) workLength room (factors-exactly p₁ n₁ m₁ x (factorsOf (reading text)) workLength .1 (factors-pass p₁ n₁ m₁ x (reading-good text h)))
       go (some i) = refl
 
   made-refused : (room : ℕ) → RefusedBy (textFaults ++ (storageTooShort ∷ wrongLength ∷ [])) (makeTextOf text room)
   unfolding makeTextOf makeReadOf
-  made-refused room = go (readOutcome (reading text .result)) refl (reading-numbers text)
+  made-refused room = go (reading text .result .outcome) refl (reading-numbers text)
     where
       later : Outcome
-      later = factorOutcome (factoredOf (reading text)) ▷ writeOutcome p₁ n₁ m₁ x (setFactored (factoredOf (reading text))) workLength room
+      later = factoredOf (reading text) .outcome ▷ writeOutcome p₁ n₁ m₁ x (setFactored (factoredOf (reading text))) workLength room
 
-      go : (o : Outcome) → readOutcome (reading text .result) ≡ o → RefusedBy textFaults o → RefusedBy (textFaults ++ (7 ∷ 9 ∷ [])) (o ▷ later)
+      go : (o : Outcome) → reading text .result .outcome ≡ o → RefusedBy textFaults o → RefusedBy (textFaults ++ (7 ∷ 9 ∷ [])) (o ▷ later)
       go Passed e h =
           let states = outcome-passed text .0 e in
-          subst (RefusedBy (textFaults ++ (7 ∷ 9 ∷ []))) (sym (sym (after-passed (readOutcome (reading text .result)) later e) ∙ made-is states room))
+          subst (RefusedBy (textFaults ++ (7 ∷ 9 ∷ []))) (sym (sym (after-passed (reading text .result .outcome) later e) ∙ made-is states room))
           (refused-then textFaults (7 ∷ 9 ∷ []) Passed (storage (firstRow text) ▷ roomFor room cert₁) tt (stage-by (leb (length cert₁) room) (firstRow text)))
       go (Refused k d) e h = refused-then textFaults (7 ∷ 9 ∷ []) (Refused k d) Passed h tt
 
@@ -250,7 +250,7 @@ module _ (text : List ℕ) where
     -- a text that is not refused
     zero-states : z ≡ 0 → StatesPlan largestEntries text
     unfolding makeTextOf makeReadOf
-    zero-states e = outcome-passed text .0 (both-passed (readOutcome (reading text .result)) _ (passed-exactly .0 e) .0)
+    zero-states e = outcome-passed text .0 (both-passed (reading text .result .outcome) _ (passed-exactly .0 e) .0)
 
     module _ (states : StatesPlan largestEntries text) where
       is : z ≡ packed (storage (firstRow text) ▷ roomFor (length b₀) cert₁)

@@ -1,7 +1,7 @@
 -- The calls that take a plan as its text, as planning programs in C see them.
---   checkReadOf x cert       checking a certificate against the plan of a reading that was done
+--   checkReadOf x cert       checking a certificate against the plan of a reading that passed
 --   checkTextOf text cert    reading the text, then checking the certificate against its plan
---   makeReadOf x room        factoring the plan of a reading that was done, then writing its certificate into a buffer with so much room
+--   makeReadOf x room        factoring the plan of a reading that passed, then writing its certificate into a buffer with so much room
 --   makeTextOf text room     reading the text, then factoring its plan and writing its certificate
 --   certificateFor x         the certificate of the set that factoring gives for the plan of a reading
 --   packed o                 an outcome as one number: the table's number plus 256 times its detail
@@ -18,13 +18,13 @@ use Rattle.limits.specs.Limits.{workLength}
 use Rattle.certificate.specs.Layout.{certificateOf}
 use Rattle.call_check.specs.Calls.{checkCertificateOf}
 use Rattle.call_write.specs.Call.{writeOutcome, bytesGiven}
-use Rattle.stages.specs.Stages.{reading, readOutcome, factoredOf, factorOutcome, setFactored}
+use Rattle.stages.specs.Stages.{reading, factoredOf, setFactored}
 use Rattle.text_plan.specs.Held.{planOf}
 
 -- ---- checking
 
 unfoldable pub checkReadOf : ReadAnswer → List ℕ → Outcome
-checkReadOf x cert = let r = x .result in readOutcome r ▷ checkCertificateOf (r .p) (r .n) (r .m) (planOf x) cert workLength
+checkReadOf x cert = let r = x .result in r .outcome ▷ checkCertificateOf (r .p) (r .n) (r .m) (planOf x) cert workLength
 
 unfoldable pub checkTextOf : List ℕ → List ℕ → Outcome
 checkTextOf text cert = checkReadOf (reading text) cert
@@ -35,7 +35,7 @@ unfoldable pub makeReadOf : ReadAnswer → ℕ → Outcome
 makeReadOf x room =
     let r = x .result in
     let f = factoredOf x in
-    readOutcome r ▷ factorOutcome f ▷ writeOutcome (r .p) (r .n) (r .m) (planOf x) (setFactored f) workLength room
+    r .outcome ▷ f .outcome ▷ writeOutcome (r .p) (r .n) (r .m) (planOf x) (setFactored f) workLength room
 
 unfoldable pub makeTextOf : List ℕ → ℕ → Outcome
 makeTextOf text room = makeReadOf (reading text) room

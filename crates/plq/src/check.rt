@@ -5,8 +5,8 @@ ghost use Rattle.call_check.specs.Calls.{checkCertificateOf, Checks};
 ghost use Rattle.text_plan.specs.Held.{heldPlan};
 ghost use Rattle.stages.specs.Lists.{Held};
 ghost use Rattle.plq.specs.Calls.{checkTextOf};
-ghost use Rattle.plq.specs.Lists.{CheckLists};
-ghost use Rattle.sparse.specs.Views.{before, after, storedAt};
+ghost use Rattle.plq.specs.Needs.{CheckLists};
+ghost use Rattle.sparse.specs.Views.{before, after, storedAt, storedBefore};
 use call_check::check_certificate;
 use refusals::Outcome;
 use text_plan::Reading;
@@ -21,7 +21,7 @@ fn check_held(
     work: &mut [u64],
 ) -> Outcome
     requires { ⌜ Held r (storedAt starts cols vals) ⌝ }
-    ensures { λ o. ⌜ Checks (checkCertificateOf (r .p) (r .n) (r .m) (heldPlan r (before starts) (before cols) (before vals)) (before certificate) (length (before work))) o (before work) (after work) ⌝ }
+    ensures { λ o. ⌜ Checks (checkCertificateOf (r .p) (r .n) (r .m) (heldPlan r (storedBefore starts cols vals)) (before certificate) (length (before work))) o (before work) (after work) ⌝ }
 {
     let ro = r.n as usize + 1;
     let count = r.count as usize;
@@ -50,8 +50,9 @@ pub fn check_text(
     ensures { λ o. ⌜ o ≡ checkTextOf (before text) (before certificate) ⌝ }
 {
     let r = text_plan::read(text, starts, cols, vals);
-    if r.number != 0 {
-        return Outcome::Refused(r.number, r.detail);
-    }
+    let read = r.outcome;
+    let Outcome::Passed = read else {
+        return read;
+    };
     check_held(r, starts, cols, vals, certificate, work)
 }

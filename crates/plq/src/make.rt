@@ -1,8 +1,9 @@
 // Making a certificate of what the stages left in lists.
 ghost use lib.ListN.{length};
 ghost use Rattle.stages.specs.Staged.{Fits};
-ghost use Rattle.plq.specs.Held.{heldCertificate, writtenOf, stagedOutcome, Puts, StagedFits};
-ghost use Rattle.sparse.specs.Views.{before, after, storedAt, storedBefore};
+ghost use Rattle.plq.specs.Held.{heldCertificate, writtenOf, stagedOutcome, Puts};
+ghost use Rattle.plq.specs.Needs.{StagedFits};
+ghost use Rattle.sparse.specs.Views.{before, after, storedAt, storedBefore, storageAt, storageBefore};
 use call_write::write_certificate;
 use lists::clear_bytes;
 use refusals::Outcome;
@@ -25,8 +26,8 @@ fn write_held(
     buffer: &mut [u8],
     work: &mut [u64],
 ) -> Outcome
-    requires { ⌜ Fits s (storedAt starts cols vals) (now ro) (now co) (storedAt ls lc lv) (storedAt us uc uv) ⌝ }
-    ensures { λ o. ⌜ Puts (writtenOf s (storedBefore starts cols vals) (before ro) (before co) (storedBefore ls lc lv) (storedBefore us uc uv) (length (before work)) (length (before buffer))) (heldCertificate s (before ro) (before co) (storedBefore ls lc lv) (storedBefore us uc uv)) o (before buffer) (after buffer) ⌝ }
+    requires { ⌜ Fits s (storedAt starts cols vals) (storageAt ro co ls lc lv us uc uv work) ⌝ }
+    ensures { λ o. ⌜ Puts (writtenOf s (storedBefore starts cols vals) (storageBefore ro co ls lc lv us uc uv work) (length (before buffer))) (heldCertificate s (storageBefore ro co ls lc lv us uc uv work)) o (before buffer) (after buffer) ⌝ }
 {
     let r = s.reading;
     let n = r.n as usize;
@@ -75,19 +76,21 @@ pub fn make_staged(
     buffer: &mut [u8],
     work: &mut [u64],
 ) -> Outcome
-    requires { ⌜ StagedFits s (storedAt starts cols vals) (now ro) (now co) (storedAt ls lc lv) (storedAt us uc uv) ⌝ }
-    ensures { λ o. ⌜ Puts (stagedOutcome s (storedBefore starts cols vals) (before ro) (before co) (storedBefore ls lc lv) (storedBefore us uc uv) (length (before work)) (length (before buffer))) (heldCertificate s (before ro) (before co) (storedBefore ls lc lv) (storedBefore us uc uv)) o (before buffer) (after buffer) ⌝ }
+    requires { ⌜ StagedFits s (storedAt starts cols vals) (storageAt ro co ls lc lv us uc uv work) ⌝ }
+    ensures { λ o. ⌜ Puts (stagedOutcome s (storedBefore starts cols vals) (storageBefore ro co ls lc lv us uc uv work) (length (before buffer))) (heldCertificate s (storageBefore ro co ls lc lv us uc uv work)) o (before buffer) (after buffer) ⌝ }
 {
     let read = s.reading;
-    if read.number != 0 {
+    let reading = read.outcome;
+    let Outcome::Passed = reading else {
         clear_bytes(buffer);
-        return Outcome::Refused(read.number, read.detail);
-    }
+        return reading;
+    };
     let factored = s.factored;
-    if factored.number != 0 {
+    let factoring = factored.outcome;
+    let Outcome::Passed = factoring else {
         clear_bytes(buffer);
-        return Outcome::Refused(factored.number, factored.detail);
-    }
+        return factoring;
+    };
     write_held(
         s,
         starts,

@@ -1,18 +1,15 @@
 -- One law for each way out of printing the stages: what was written is what is printed of them.
 use mathlib.Core.Path.{_≡_, refl, sym, ap, _∙_, subst}
-use mathlib.Core.Bool.{Bool}
 use mathlib.Core.List.{List}
 use Prim.Native.Nat.{ℕ}
-use lib.Dec.{eqb}
 use lib.ListN.{length}
-use borrow.Author.Tests.{eq-eqb, ne-eqb}
 use Rattle.lists.specs.Filled.{zeros, filled}
-use Rattle.refusals.specs.Refusals.{unless}
 use Rattle.refusals.specs.Table.{storageTooShort}
 use Rattle.refusals.specs.declared.Outcome.{Outcome}
 use Rattle.refusals.specs.declared.Outcome.the-variants.{Passed, Refused}
 use Rattle.lists.proofs.Filled.{filled-whole}
 use Rattle.sparse.specs.Matrix.{Compressed}
+use Rattle.sparse.specs.Set.{Storage}
 use Rattle.row_space.specs.Solve.{openColumns}
 use Rattle.byte_buffer.specs.Fills.{Fills}
 use Rattle.limits.specs.Limits.{workLength}
@@ -25,43 +22,38 @@ use Rattle.print_text.specs.Printed.{detailFromOne, countedFromOne, printed, Pr
 use Rattle.stages.specs.declared.Stages.{Stages}
 use Rattle.text_plan.specs.Held.{heldPlan}
 use Rattle.stages.specs.Staged.{heldSet}
-use Rattle.report_lib.specs.Held.{heldSummary, heldList, heldText, stagedText, HeldReady}
+use Rattle.stages.proofs.Outcomes.{not-passed}
+use Rattle.report_lib.specs.Held.{heldSummary, heldList, heldText, stagedText}
+use Rattle.report_lib.specs.Needs.{HeldReady}
 
 -- ---- a list of open columns that is not refused has a cell for each column
 
-not-refused : (k d : ℕ) → Refused k d ≡ Passed → ⊥
-not-refused k d e = subst (λ (o : Outcome). passes o) (sym e) tt
-  where
-    passes : Outcome → Type 0
-    passes Passed = Unit {0}
-    passes (Refused k d) = ⊥
-
 listed-whole : (o : Outcome) (l : List ℕ) → listed o l .outcome ≡ Passed → listed o l .list ≡ l
 listed-whole Passed l e = refl
-listed-whole (Refused k d) l e = absurd (not-refused k d e)
+listed-whole (Refused k d) l e = absurd (not-passed refl e)
 
-module _ (s : Stages) (A : Compressed) (R C : List ℕ) (L U : Compressed) where
+module _ (s : Stages) (A : Compressed) (h : Storage) where
   abbrev list : Listed
-  list = heldList s A R C L U (s .reading .m) workLength
+  list = heldList s A h (s .reading .m) workLength
 
   abbrev check : Outcome
   check =
-      let r = s .reading in columnsAfter (checkFactorsOf (r .p) (r .n) (r .m) (heldPlan r (A .starts) (A .cols) (A .vals)) (heldSet s R C L U) workLength) (r .m) (r .m)
+      let r = s .reading in columnsAfter (checkFactorsOf (r .p) (r .n) (r .m) (heldPlan r A) (heldSet s h) workLength) (r .m) (r .m)
 
   list-length : list .outcome ≡ Passed → length (list .list) ≡ s .reading .m
   unfolding openFactorsOf
-  list-length e = ap length (listed-whole check (openColumns (s .reading .p) (s .reading .m) (heldSet s R C L U)) e) ∙ columns-long (s .reading .p) (s .reading .m) (heldSet s R C L U)
+  list-length e = ap length (listed-whole check (openColumns (s .reading .p) (s .reading .m) (heldSet s h)) e) ∙ columns-long (s .reading .p) (s .reading .m) (heldSet s h)
 
-  -- ---- reading and factoring were done
+  -- ---- reading and factoring passed
 
-  module _ (marks out w : List ℕ) (h : HeldReady s A R C L U marks out w) (o : Outcome) (marks′ w′ : List ℕ)
-      (q : Lists (heldList s A R C L U (length marks) (length w)) o marks marks′ w w′) where
+  module _ (marks out : List ℕ) (d : HeldReady s A h marks out) (o : Outcome) (marks′ w′ : List ℕ)
+      (q : Lists (heldList s A h (length marks) (length (h .work))) o marks marks′ (h .work) w′) where
     outcome-is : o ≡ list .outcome
-    outcome-is = q .outcome ∙ (λ t. heldList s A R C L U (h .marks-length t) (h .work-length t) .outcome)
+    outcome-is = q .outcome ∙ (λ t. heldList s A h (d .marks-length t) (d .work-length t) .outcome)
 
-    pub columns-refused : (k d size : ℕ) (out′ : List ℕ) → o ≡ Refused k d → Fills out out′ size (refusalText k d) → Prints (heldText s A R C L U) size out out′ w w′
+    pub columns-refused : (k j size : ℕ) (out′ : List ℕ) → o ≡ Refused k j → Fills out out′ size (refusalText k j) → Prints (heldText s A h) size out out′ (h .work) w′
     unfolding heldText
-    columns-refused k d size out′ e f =
+    columns-refused k j size out′ e f =
         record {
           text-is = subst (Fills out out′ size) (ap (λ (u : Outcome). printed u (reportText (heldSummary s) (list .list))) (sym e ∙ outcome-is)) f;
           cleared = q .cleared;
@@ -70,10 +62,10 @@ module _ (s : Stages) (A : Compressed) (R C : List ℕ) (L U : Compressed) where
     marks-are : o ≡ Passed → marks′ ≡ list .list
     marks-are e =
         q .list-is
-        ∙ (λ t. filled (h .marks-length t) (heldList s A R C L U (h .marks-length t) (h .work-length t) .list))
+        ∙ (λ t. filled (d .marks-length t) (heldList s A h (d .marks-length t) (d .work-length t) .list))
         ∙ filled-whole (s .reading .m) (list .list) (list-length (sym outcome-is ∙ e))
 
-    pub columns-listed : (size : ℕ) (out′ : List ℕ) (z : Summary) → o ≡ Passed → z ≡ heldSummary s → Fills out out′ size (reportText z marks′) → Prints (heldText s A R C L U) size out out′ w w′
+    pub columns-listed : (size : ℕ) (out′ : List ℕ) (z : Summary) → o ≡ Passed → z ≡ heldSummary s → Fills out out′ size (reportText z marks′) → Prints (heldText s A h) size out out′ (h .work) w′
     unfolding heldText
     columns-listed size out′ z e same f =
         record {
@@ -87,46 +79,32 @@ module _ (s : Stages) (A : Compressed) (R C : List ℕ) (L U : Compressed) where
 
   -- ---- any stages
 
-  module _ (out w : List ℕ) where
+  module _ (out : List ℕ) (size : ℕ) (out′ : List ℕ) where
     abbrev after-reading : List ℕ
-    after-reading =
-        printed (countedFromOne storageTooShort (unless (eqb (s .factored .number) 0) (s .factored .number) (s .factored .detail)))
-        (heldText s A R C L U)
+    after-reading = printed (countedFromOne storageTooShort (s .factored .outcome)) (heldText s A h)
 
-    pub read-refused : (size : ℕ) (out′ : List ℕ) → (s .reading .number ≡ 0 → ⊥) → w ≡ zeros (length w) → Fills out out′ size (refusalText (s .reading .number) (s .reading .detail))
-        → Prints (stagedText s A R C L U) size out out′ w w
+    pub read-refused : {k d : ℕ} → s .reading .outcome ≡ Refused k d → h .work ≡ zeros (length (h .work)) → Fills out out′ size (refusalText k d)
+        → Prints (stagedText s A h) size out out′ (h .work) (h .work)
     unfolding stagedText
-    read-refused size out′ n clear f =
-        record {
-          text-is =
-              subst (Fills out out′ size)
-              (ap (λ (b : Bool). printed (unless b (s .reading .number) (s .reading .detail)) after-reading) (sym (ne-eqb (s .reading .number) 0 n)))
-              f;
-          cleared = clear;
-        }
+    read-refused e clear f = record { text-is = subst (Fills out out′ size) (ap (λ (o : Outcome). printed o after-reading) (sym e)) f; cleared = clear }
 
-    -- after a reading that was done
-    read-done : s .reading .number ≡ 0 → after-reading ≡ stagedText s A R C L U
-    unfolding stagedText
-    read-done z = ap (λ (b : Bool). printed (unless b (s .reading .number) (s .reading .detail)) after-reading) (sym (eq-eqb (s .reading .number) 0 z))
+    module _ (passed : s .reading .outcome ≡ Passed) where
+      read-done : after-reading ≡ stagedText s A h
+      unfolding stagedText
+      read-done = ap (λ (o : Outcome). printed o after-reading) (sym passed)
 
-    pub factoring-refused : (size : ℕ) (out′ : List ℕ) (d : ℕ) → s .reading .number ≡ 0 → (s .factored .number ≡ 0 → ⊥) → w ≡ zeros (length w)
-        → d ≡ detailFromOne storageTooShort (s .factored .number) (s .factored .detail) → Fills out out′ size (refusalText (s .factored .number) d) → Prints (stagedText s A R C L U) size out out′ w w
-    factoring-refused size out′ d z n clear e f =
-        record {
-          text-is =
-              subst (Fills out out′ size)
-              (ap (refusalText (s .factored .number)) e
-              ∙ ap (λ (b : Bool). printed (countedFromOne storageTooShort (unless b (s .factored .number) (s .factored .detail))) (heldText s A R C L U)) (sym (ne-eqb (s .factored .number) 0 n))
-              ∙ read-done z)
-              f;
-          cleared = clear;
-        }
+      pub factoring-refused : {k d row : ℕ} → s .factored .outcome ≡ Refused k d → h .work ≡ zeros (length (h .work)) → row ≡ detailFromOne storageTooShort k d → Fills out out′ size (refusalText k row)
+          → Prints (stagedText s A h) size out out′ (h .work) (h .work)
+      factoring-refused {k = k} e clear q f =
+          record {
+            text-is =
+                subst (Fills out out′ size)
+                (ap (refusalText k) q ∙ ap (λ (o : Outcome). printed (countedFromOne storageTooShort o) (heldText s A h)) (sym e) ∙ read-done)
+                f;
+            cleared = clear;
+          }
 
-    pub factoring-done : (size : ℕ) (out′ w′ : List ℕ) → s .reading .number ≡ 0 → s .factored .number ≡ 0 → Prints (heldText s A R C L U) size out out′ w w′
-        → Prints (stagedText s A R C L U) size out out′ w w′
-    factoring-done size out′ w′ z n f =
-        subst (λ (text : List ℕ). Prints text size out out′ w w′)
-        (ap (λ (b : Bool). printed (countedFromOne storageTooShort (unless b (s .factored .number) (s .factored .detail))) (heldText s A R C L U)) (sym (eq-eqb (s .factored .number) 0 n))
-        ∙ read-done z)
-        f
+      pub factoring-done : (w′ : List ℕ) → s .factored .outcome ≡ Passed → Prints (heldText s A h) size out out′ (h .work) w′ → Prints (stagedText s A h) size out out′ (h .work) w′
+      factoring-done w′ e =
+          subst (λ (text : List ℕ). Prints text size out out′ (h .work) w′)
+          (ap (λ (o : Outcome). printed (countedFromOne storageTooShort o) (heldText s A h)) (sym e) ∙ read-done)

@@ -29,11 +29,11 @@ use Rattle.call_check.proofs.Theorems.{factors-exactly}
 use Rattle.call_open.specs.Calls.{Listed, columnsAfter, listed, openFactorsOf, Lists}
 use Rattle.call_open.specs.Meaning.{MarksOpen}
 use Rattle.call_open.proofs.Theorems.{columns-long, stored-marks}
-use Rattle.factor_all.specs.Outcome as factorings
+use Rattle.factor_all.specs.Factorization.{Factorization}
 use Rattle.print_text.specs.Report.{reportText, refusalText}
 use Rattle.print_text.specs.Printed.{countedFromOne, printed, PrintsRefusal}
 use Rattle.print_text.proofs.Shown.{fills-shown, first-refusal}
-use Rattle.stages.specs.Stages.{reading, readOutcome, factoredOf, factorOutcome}
+use Rattle.stages.specs.Stages.{reading, factoredOf}
 use Rattle.stages.specs.Meaning.{factorsOf, FitsAll, OverflowsAt}
 use Rattle.stages.proofs.ReadText.{reading-good, outcome-passed, reading-numbers, wholeSet, factored-whole, factored-over}
 use Rattle.stages.proofs.Passing.{factors-sized, factors-pass}
@@ -86,20 +86,20 @@ module _ (text : List ℕ) (size : ℕ) (b₀ b w₀ w : List ℕ) (call : Repor
   set = factorsOf (reading text)
 
   -- what is printed after reading, and after factoring
-  abbrev after-factoring : factorings.Outcome → List ℕ
+  abbrev after-factoring : Factorization → List ℕ
   after-factoring f = let g = openListOf (reading text) f in printed (g .outcome) (reportText (summaryOf (reading text) f) (g .list))
 
-  abbrev after-reading : factorings.Outcome → List ℕ
-  after-reading f = printed (countedFromOne storageTooShort (factorOutcome f)) (after-factoring f)
+  abbrev after-reading : Factorization → List ℕ
+  after-reading f = printed (countedFromOne storageTooShort (f .outcome)) (after-factoring f)
 
-  shown : take size b ≡ printed (readOutcome (reading text .result)) (after-reading (factoredOf (reading text)))
+  shown : take size b ≡ printed (reading text .result .outcome) (after-reading (factoredOf (reading text)))
   unfolding reportOf reportReadOf
   shown = fills-shown b₀ b size (reportOf text) (call .report)
 
   pub report-refused : ¬ StatesPlan largestEntries text → PrintsRefusal textFaults (take size b)
   report-refused none =
       subst (PrintsRefusal textFaults) (sym shown)
-      (first-refusal textFaults (readOutcome (reading text .result)) (after-reading (factoredOf (reading text))) (reading-numbers text) (λ e. none (outcome-passed text .0 e)))
+      (first-refusal textFaults (reading text .result .outcome) (after-reading (factoredOf (reading text))) (reading-numbers text) (λ e. none (outcome-passed text .0 e)))
 
   module _ (states : StatesPlan largestEntries text) where
     good : GoodPlan p n m A

@@ -1,3 +1,4 @@
 pub mod Reporting
 pub mod Held
 pub mod Meaning
+pub mod Needs

@@ -14,15 +14,15 @@ use Rattle.refusals.specs.Table.{storageTooShort}
 use Rattle.byte_buffer.specs.Fills.{Fills}
 use Rattle.text_plan.specs.Call.{ReadAnswer}
 use Rattle.limits.specs.Limits.{workLength, printRoom}
-use Rattle.factor_all.specs.Outcome.{Outcome}
+use Rattle.factor_all.specs.Factorization.{Factorization}
 use Rattle.call_open.specs.Calls.{Listed, openFactorsOf}
 use Rattle.print_text.specs.declared.lines.Summary.{Summary}
 use Rattle.print_text.specs.Report.{reportText}
 use Rattle.print_text.specs.Printed.{countedFromOne, printed}
-use Rattle.stages.specs.Stages.{reading, readOutcome, factoredOf, factorOutcome, setFactored}
+use Rattle.stages.specs.Stages.{reading, factoredOf, setFactored}
 use Rattle.text_plan.specs.Held.{planOf}
 
-abbrev pub summaryOf : ReadAnswer → Outcome → Summary
+abbrev pub summaryOf : ReadAnswer → Factorization → Summary
 summaryOf x f =
     record {
       modulus = x .result .p;
@@ -35,14 +35,14 @@ summaryOf x f =
       upper = length (f .U .vals);
     }
 
-abbrev pub openListOf : ReadAnswer → Outcome → Listed
+abbrev pub openListOf : ReadAnswer → Factorization → Listed
 openListOf x f = let r = x .result in openFactorsOf (r .p) (r .n) (r .m) (planOf x) (setFactored f) (r .m) workLength
 
 unfoldable pub reportReadOf : ReadAnswer → List ℕ
 reportReadOf x =
     let f = factoredOf x in
-    printed (readOutcome (x .result))
-    (printed (countedFromOne storageTooShort (factorOutcome f))
+    printed (x .result .outcome)
+    (printed (countedFromOne storageTooShort (f .outcome))
     (printed (openListOf x f .outcome)
     (reportText (summaryOf x f) (openListOf x f .list))))
 

@@ -4,9 +4,10 @@ ghost use lib.ListN.{length};
 ghost use Rattle.call_open.specs.Calls.{Lists};
 ghost use Rattle.stages.specs.Staged.{Fits};
 ghost use Rattle.print_text.specs.Printed.{Prints};
-ghost use Rattle.report_lib.specs.Held.{heldSummary, heldList, heldText, stagedText, HeldReady, ReportStagedReady};
+ghost use Rattle.report_lib.specs.Held.{heldSummary, heldList, heldText, stagedText};
+ghost use Rattle.report_lib.specs.Needs.{HeldReady, ReportStagedReady};
 ghost use Rattle.report_lib.specs.Reporting.{ReportLists, Reports};
-ghost use Rattle.sparse.specs.Views.{before, after, storedAt, storedBefore};
+ghost use Rattle.sparse.specs.Views.{before, after, storedAt, storedBefore, storageAt, storageBefore};
 use call_open::from_factors::open_columns_from_factors;
 use limits::ENTRY_CELLS;
 use limits::SIZE_CELLS;
@@ -16,11 +17,9 @@ use print_text::report::from_one;
 use print_text::report::write_refusal;
 use print_text::report::write_report;
 use refusals::Outcome;
+use refusals::numbers::STORAGE_TOO_SHORT;
 use stages::Stages;
 use stages::factor_text;
-
-// The number whose detail is a row of the plan, which counts from 1 in print: lent entry storage is too short.
-const STORAGE_TOO_SHORT: u32 = 7;
 
 // The numbers of a report.
 fn summary(s: Stages) -> Summary
@@ -57,8 +56,8 @@ fn list_held(
     marks: &mut [u32],
     work: &mut [u64],
 ) -> Outcome
-    requires { ⌜ Fits s (storedAt starts cols vals) (now ro) (now co) (storedAt ls lc lv) (storedAt us uc uv) ⌝ }
-    ensures { λ o. ⌜ Lists (heldList s (storedBefore starts cols vals) (before ro) (before co) (storedBefore ls lc lv) (storedBefore us uc uv) (length (before marks)) (length (before work))) o (before marks) (after marks) (before work) (after work) ⌝ }
+    requires { ⌜ Fits s (storedAt starts cols vals) (storageAt ro co ls lc lv us uc uv work) ⌝ }
+    ensures { λ o. ⌜ Lists (heldList s (storedBefore starts cols vals) (storageBefore ro co ls lc lv us uc uv work) (length (before marks)) (length (before work))) o (before marks) (after marks) (before work) (after work) ⌝ }
 {
     let r = s.reading;
     let f = s.factored;
@@ -89,7 +88,7 @@ fn list_held(
     )
 }
 
-// Writes what is printed once reading and factoring were done.
+// Writes what is printed once reading and factoring passed.
 fn report_held(
     s: Stages,
     starts: &[u32],
@@ -107,8 +106,8 @@ fn report_held(
     out: &mut [u8],
     work: &mut [u64],
 ) -> usize
-    requires { ⌜ HeldReady s (storedAt starts cols vals) (now ro) (now co) (storedAt ls lc lv) (storedAt us uc uv) (now marks) (now out) (now work) ⌝ }
-    ensures { λ size. ⌜ Prints (heldText s (storedBefore starts cols vals) (before ro) (before co) (storedBefore ls lc lv) (storedBefore us uc uv)) size (before out) (after out) (before work) (after work) ⌝ }
+    requires { ⌜ HeldReady s (storedAt starts cols vals) (storageAt ro co ls lc lv us uc uv work) (now marks) (now out) ⌝ }
+    ensures { λ size. ⌜ Prints (heldText s (storedBefore starts cols vals) (storageBefore ro co ls lc lv us uc uv work)) size (before out) (after out) (before work) (after work) ⌝ }
 {
     let listed = list_held(
         s,
@@ -150,17 +149,19 @@ fn report_staged(
     out: &mut [u8],
     work: &mut [u64],
 ) -> usize
-    requires { ⌜ ReportStagedReady s (storedAt starts cols vals) (now ro) (now co) (storedAt ls lc lv) (storedAt us uc uv) (now marks) (now out) (now work) ⌝ }
-    ensures { λ size. ⌜ Prints (stagedText s (storedBefore starts cols vals) (before ro) (before co) (storedBefore ls lc lv) (storedBefore us uc uv)) size (before out) (after out) (before work) (after work) ⌝ }
+    requires { ⌜ ReportStagedReady s (storedAt starts cols vals) (storageAt ro co ls lc lv us uc uv work) (now marks) (now out) ⌝ }
+    ensures { λ size. ⌜ Prints (stagedText s (storedBefore starts cols vals) (storageBefore ro co ls lc lv us uc uv work)) size (before out) (after out) (before work) (after work) ⌝ }
 {
     let r = s.reading;
     let f = s.factored;
-    if r.number != 0 {
-        return write_refusal(r.number, r.detail, out);
+    let reading = r.outcome;
+    if let Outcome::Refused(number, detail) = reading {
+        return write_refusal(number, detail, out);
     }
-    if f.number != 0 {
-        let detail = from_one(STORAGE_TOO_SHORT, f.number, f.detail);
-        return write_refusal(f.number, detail, out);
+    let factoring = f.outcome;
+    if let Outcome::Refused(number, detail) = factoring {
+        let row = from_one(STORAGE_TOO_SHORT, number, detail);
+        return write_refusal(number, row, out);
     }
     let m = r.m as usize;
     report_held(

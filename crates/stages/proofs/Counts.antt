@@ -1,4 +1,4 @@
--- What a factoring call gives, whatever its number: how many entries L and U have, and the set where the number is 0.
+-- What a factoring call gives, whatever its outcome: how many entries L and U have, and how large its numbers are.
 use mathlib.Core.Path.{_≡_, refl, sym, ap, _∙_}
 use mathlib.Core.Bool.{Bool, true, false, _&&_}
 use mathlib.Core.Option.{Option, none, some}
@@ -6,7 +6,7 @@ use Prim.Native.Nat.{ℕ, _≤_}
 use native.Mathlib.Omega.{arith}
 use lib.ListN.{length, getD}
 use Rattle.refusals.specs.Refusals.{_▷_, unless, detailOf}
-use Rattle.refusals.specs.declared.Outcome as tests
+use Rattle.refusals.specs.declared.Outcome.{Outcome}
 use Rattle.refusals.specs.declared.Outcome.the-variants.{Passed, Refused}
 use Rattle.residue.specs.Range.{isModulus}
 use Rattle.residue.proofs.Primes.{modulus-prime}
@@ -20,26 +20,26 @@ use Rattle.elimination.proofs.Selected.{structural-pairs}
 use Rattle.elimination.proofs.Theorem.{StoredFactors, factor-stored}
 use Rattle.call_plan.specs.Tests.{planLengths, limitsOk, planOutcome}
 use Rattle.call_plan.specs.Accepted.{GoodPlan}
-use Rattle.factor_all.specs.Outcome.{Outcome, done, unlessOver, factoringFrom, factoring}
+use Rattle.factor_all.specs.Factorization.{Factorization, refusal, done, unlessOver, factoringFrom, factoring}
 use Rattle.call_factor.specs.Lengths.{lentLengths, lentOutcome}
-use Rattle.call_factor.specs.Calls.{refusal, unlessRefused, factorCallOf}
+use Rattle.call_factor.specs.Calls.{unlessRefused, factorCallOf}
 use Rattle.call_factor.specs.declared.Lent.{Lent}
 use Rattle.call_factor.proofs.Theorems.{lent-good}
 use Rattle.stages.proofs.Rows.{row-inside}
 
-pub record Counted (n : ℕ) (o : Outcome) : Type 0 where
+pub record Counted (n : ℕ) (o : Factorization) : Type 0 where
   pub lower-last : getD (o .L .starts) n 0 ≡ length (o .L .vals)
   pub lower-paired : length (o .L .cols) ≡ length (o .L .vals)
   pub upper-last : getD (o .U .starts) (o .rank) 0 ≡ length (o .U .vals)
   pub upper-paired : length (o .U .cols) ≡ length (o .U .vals)
   pub rank-small : o .rank ≤ n
-  pub detail-small : o .detail ≤ n
+  pub detail-small : detailOf (o .outcome) ≤ n
 
 counted-refusal : (n c d : ℕ) → d ≤ n → Counted n (refusal c d)
 counted-refusal n c d h = record { lower-last = refl; lower-paired = refl; upper-last = refl; upper-paired = refl; rank-small = omega arith; detail-small = h }
 
 -- the tests before factoring have no detail
-no-detail : (t : Bool) (k : ℕ) (o : tests.Outcome) → detailOf o ≡ 0 → detailOf (unless t k 0 ▷ o) ≡ 0
+no-detail : (t : Bool) (k : ℕ) (o : Outcome) → detailOf o ≡ 0 → detailOf (unless t k 0 ▷ o) ≡ 0
 no-detail true k o h = h
 no-detail false k o h = refl
 
@@ -99,6 +99,6 @@ module _ (p n m : ℕ) (A : Compressed) (l : Lent) where
   unfolding factorCallOf
   counted = go (lentOutcome p n m A l) refl
     where
-      go : (o : tests.Outcome) → lentOutcome p n m A l ≡ o → Counted n (unlessRefused o (factoring p n m A (l .lc) (l .uc)))
+      go : (o : Outcome) → lentOutcome p n m A l ≡ o → Counted n (unlessRefused o (factoring p n m A (l .lc) (l .uc)))
       go Passed e = counted-factoring e (l .lc) (l .uc)
       go (Refused c d) e = counted-refusal n c d (omega (arith, ap detailOf (sym e) ∙ lent-detail))

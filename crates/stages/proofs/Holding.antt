@@ -62,5 +62,5 @@ module _ (text : List ℕ) (r : Reading) (A : Compressed) (g : Gives (reading te
   pub answer-is : record { result = r; starts = A .starts; columns = A .cols; values = A .vals } ≡ reading text
   answer-is t = record { result = g .result-is t; starts = g .starts-are t; columns = g .columns-are t; values = g .values-are t }
 
-  pub plan-is : heldPlan r (A .starts) (A .cols) (A .vals) ≡ planOf (reading text)
+  pub plan-is : heldPlan r A ≡ planOf (reading text)
   plan-is t = planOf (answer-is t)

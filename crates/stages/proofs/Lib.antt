@@ -1,3 +1,4 @@
+pub mod Outcomes
 pub mod Lists
 pub mod Holding
 pub mod Lending

@@ -1,5 +1,5 @@
 -- The plan that the stages read from a text.
---   reading-exactly    reading is done exactly if the text states a plan of at most 16,384 entries
+--   reading-exactly    reading passes exactly if the text states a plan of at most 16,384 entries
 --   reading-holds      and then it holds that plan
 --   reading-good       which every later call takes
 --   reading-numbers    else it is refused by 9 or 1 to 7
@@ -8,17 +8,14 @@
 --   factored-whole     done, with the set of the pivot rules, where L and U fit
 --   factored-over      else refused by 7 at the first row in processing order that overflows
 use mathlib.Core.Path.{_≡_, refl, ap, _∙_}
-use mathlib.Core.Logic.{_↔_, inl, inr}
-use mathlib.Core.Bool.{Bool, true, false}
+use mathlib.Core.Logic.{_↔_}
 use mathlib.Core.List.{List}
 use mathlib.Core.Option.{Option, none, some}
 use Prim.Native.Nat.{ℕ}
-use lib.Dec.{eqb}
-use borrow.Author.Tests.{eq-eqb, eqb-false}
 use Rattle.refusals.specs.Table.{textFaults, storageTooShort}
-use Rattle.refusals.specs.Refusals.{unless, NumberFrom}
+use Rattle.refusals.specs.Refusals.{numberOf}
 use Rattle.refusals.specs.declared.Outcome.the-variants.{Passed, Refused}
-use Rattle.refusals.proofs.Refusals.{RefusedBy, number-passed}
+use Rattle.refusals.proofs.Refusals.{RefusedBy}
 use Rattle.sparse.specs.Matrix.{Compressed, matrix}
 use Rattle.elimination.specs.Selection.{structural}
 use Rattle.elimination.proofs.Room.{some-overflows}
@@ -26,11 +23,11 @@ use Rattle.limits.specs.Limits.{largestEntries, startsLength}
 use Rattle.call_plan.specs.Accepted.{GoodPlan}
 use Rattle.text_plan.specs.Call.{callOf, Gives}
 use Rattle.text_plan.specs.Held.{planOf, StatesPlan, HoldsPlan}
-use Rattle.text_plan.proofs.Done.{done-exactly, holds-stated, read-good, read-by}
-use Rattle.factor_all.specs.Outcome.{Outcome, unlessOver}
+use Rattle.text_plan.proofs.Done.{done-exactly, holds-stated, read-good, refused-by}
+use Rattle.factor_all.specs.Factorization.{Factorization, unlessOver}
 use Rattle.call_factor.specs.Accepted.{LentRight}
 use Rattle.call_factor.proofs.Theorems.{over, whole, call-is, lent-passes, fits-exactly}
-use Rattle.stages.specs.Stages.{reading, readOutcome, lentFor, factoredOf, factorOutcome}
+use Rattle.stages.specs.Stages.{reading, lentFor, factoredOf}
 use Rattle.stages.specs.Meaning.{FitsAll, OverflowsAt}
 
 module _ (text : List ℕ) where
@@ -39,7 +36,7 @@ module _ (text : List ℕ) where
   unfolding reading
   as-call = record { result-is = refl; starts-are = refl; columns-are = refl; values-are = refl }
 
-  pub reading-exactly : (reading text .result .number ≡ 0) ↔ StatesPlan largestEntries text
+  pub reading-exactly : (numberOf (reading text .result .outcome) ≡ 0) ↔ StatesPlan largestEntries text
   reading-exactly =
       let (there, back) = done-exactly text startsLength largestEntries largestEntries (reading text .result) (reading text .starts) (reading text .columns) (reading text .values) as-call in
       ((λ e. there e .2), λ h. back (refl, refl, h))
@@ -52,21 +49,11 @@ module _ (text : List ℕ) where
 
   -- ---- as an outcome
 
-  pub outcome-passed : (readOutcome (reading text .result) ≡ Passed) ↔ StatesPlan largestEntries text
-  outcome-passed = (
-    (λ e. reading-exactly .0 (number-passed (reading text .result .number) (reading text .result .detail) e)),
-    λ h. ap (λ (b : Bool). unless b (reading text .result .number) (reading text .result .detail)) (eq-eqb (reading text .result .number) 0 (reading-exactly .1 h)),
-  )
+  pub outcome-passed : (reading text .result .outcome ≡ Passed) ↔ StatesPlan largestEntries text
+  outcome-passed = ((λ e. reading-exactly .0 (ap numberOf e)), λ h. reading-holds h .done)
 
-  pub reading-numbers : RefusedBy textFaults (readOutcome (reading text .result))
-  reading-numbers =
-      go (eqb (reading text .result .number) 0) refl
-      (read-by text startsLength largestEntries largestEntries (reading text .result) (reading text .starts) (reading text .columns) (reading text .values) as-call)
-    where
-      go : (b : Bool) → eqb (reading text .result .number) 0 ≡ b → NumberFrom textFaults (reading text .result .number) → RefusedBy textFaults (unless b (reading text .result .number) (reading text .result .detail))
-      go true e f = tt
-      go false e (inl z) = absurd (eqb-false (reading text .result .number) 0 e z)
-      go false e (inr f) = f
+  pub reading-numbers : RefusedBy textFaults (reading text .result .outcome)
+  reading-numbers = refused-by text startsLength largestEntries largestEntries (reading text .result) (reading text .starts) (reading text .columns) (reading text .values) as-call
 
   -- ---- factoring the plan that was read
 
@@ -87,7 +74,7 @@ module _ (text : List ℕ) where
   firstRow = over p n m A (lentFor n m)
 
   -- the set of the pivot rules, as factoring gives it
-  abbrev pub wholeSet : Outcome
+  abbrev pub wholeSet : Factorization
   wholeSet = whole p n m A (lentFor n m)
 
   pub fits-all : (firstRow ≡ none) ↔ FitsAll (reading text)
@@ -107,9 +94,9 @@ module _ (text : List ℕ) where
     pub factored-whole : FitsAll (reading text) → factoredOf (reading text) ≡ wholeSet
     factored-whole h = factored-is ∙ ap (λ (o : Option ℕ). unlessOver o wholeSet) (fits-all .1 h)
 
-    pub factored-over : ¬ FitsAll (reading text) → (i : ℕ) × (factorOutcome (factoredOf (reading text)) ≡ Refused storageTooShort i) × OverflowsAt (reading text) i
+    pub factored-over : ¬ FitsAll (reading text) → (i : ℕ) × (factoredOf (reading text) .outcome ≡ Refused storageTooShort i) × OverflowsAt (reading text) i
     factored-over f = go firstRow refl
       where
-        go : (o : Option ℕ) → firstRow ≡ o → (i : ℕ) × (factorOutcome (factoredOf (reading text)) ≡ Refused storageTooShort i) × OverflowsAt (reading text) i
+        go : (o : Option ℕ) → firstRow ≡ o → (i : ℕ) × (factoredOf (reading text) .outcome ≡ Refused storageTooShort i) × OverflowsAt (reading text) i
         go none e = absurd (f (fits-all .0 e))
-        go (some i) e = (i, ap factorOutcome (factored-is ∙ ap (λ (o : Option ℕ). unlessOver o wholeSet) e), row-overflows i e)
+        go (some i) e = (i, ap (λ (g : Factorization). g .outcome) (factored-is ∙ ap (λ (o : Option ℕ). unlessOver o wholeSet) e), row-overflows i e)

@@ -1,17 +1,12 @@
 // A plan's text, read and then factored: the stages that the calls on a text begin with. They work in lists of the largest lengths.
-ghost use Rattle.sparse.specs.Matrix.{compressed};
-ghost use Rattle.sparse.specs.Views.{before, after, storedAt, storedAfter};
-ghost use Rattle.factor_all.specs.Outcome.{Leaves};
-ghost use Rattle.call_factor.specs.Calls.{factorCallOf};
-ghost use Prim.Native.Nat.{_+_};
-ghost use lib.ListN.{take};
-ghost use Rattle.stages.specs.Stages.{lentFor};
-ghost use Rattle.text_plan.specs.Held.{heldPlan};
-ghost use Rattle.stages.specs.Lists.{StageLists, Lendable};
+ghost use Rattle.sparse.specs.Views.{before, storedAt, storedBefore, storedAfter, storageAt, storageAfter};
+ghost use Rattle.stages.specs.Lists.{StageLists};
+ghost use Rattle.stages.specs.Needs.{Lendable, HeldFactored};
 ghost use Rattle.stages.specs.Staged.{Staged};
 use call_factor::factor;
 use factor_all::factor::Factored;
 use lists::clear_row;
+use refusals::Outcome;
 use text_plan::Reading;
 
 // What the stages return: what reading returned, what factoring returned after it, and the entry counts of L and U.
@@ -38,8 +33,8 @@ fn factor_held(
     uv: &mut [u32],
     work: &mut [u64],
 ) -> Factored
-    requires { ⌜ Lendable r (storedAt starts cols vals) (now ro) (now co) (storedAt ls lc lv) (storedAt us uc uv) (now work) ⌝ }
-    ensures { λ f. ⌜ Leaves (factorCallOf (r .p) (r .n) (r .m) (heldPlan r (before starts) (before cols) (before vals)) (lentFor (r .n) (r .m))) (f .number) (f .detail) (f .rank) (f .structural) (take (r .n) (after ro)) (take (r .m) (after co)) (compressed (take (r .n + 1) (after ls)) (after lc) (after lv)) (compressed (take (r .n + 1) (after us)) (after uc) (after uv)) (after work) ⌝ }
+    requires { ⌜ Lendable r (storedAt starts cols vals) (storageAt ro co ls lc lv us uc uv work) ⌝ }
+    ensures { λ f. ⌜ HeldFactored r (storedBefore starts cols vals) f (storageAfter ro co ls lc lv us uc uv work) ⌝ }
 {
     let n = r.n as usize;
     let m = r.m as usize;
@@ -79,15 +74,15 @@ pub fn factor_text(
     uv: &mut [u32],
     work: &mut [u64],
 ) -> Stages
-    requires { ⌜ StageLists (storedAt starts cols vals) (now ro) (now co) (storedAt ls lc lv) (storedAt us uc uv) (now work) ⌝ }
-    ensures { λ s. ⌜ Staged (before text) s (storedAfter starts cols vals) (after ro) (after co) (storedAfter ls lc lv) (storedAfter us uc uv) (before work) (after work) ⌝ }
+    requires { ⌜ StageLists (storedAt starts cols vals) (storageAt ro co ls lc lv us uc uv work) ⌝ }
+    ensures { λ s. ⌜ Staged (before text) s (storedAfter starts cols vals) (before work) (storageAfter ro co ls lc lv us uc uv work) ⌝ }
 {
     let reading = text_plan::read(text, starts, cols, vals);
-    if reading.number != 0 {
+    let read = reading.outcome;
+    let Outcome::Passed = read else {
         clear_row(work);
         let factored = Factored {
-            number: 0,
-            detail: 0,
+            outcome: Outcome::Passed,
             rank: 0,
             structural: 0,
         };
@@ -97,7 +92,7 @@ pub fn factor_text(
             lower: 0,
             upper: 0,
         };
-    }
+    };
     let factored = factor_held(
         reading,
         starts,

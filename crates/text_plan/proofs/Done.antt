@@ -1,15 +1,15 @@
 -- What a call that reads a text returns and leaves.
---   done-exactly        it returns 0 exactly if its lists have their lengths and the text states a plan for which they have room
---   holds-stated        and then the result and the lists hold that plan
---   read-good           which every later call takes
---   each-stated         each triple that is stated is stored: its residue stands at its place
---   read-by             else it returns one of 9 and 1 to 7
---   read-cleared        and leaves p, n, m, the entry count and all lists 0
---   read-any-order      the order of the triples does not matter: texts that state the same triples leave the same
+--   done-exactly            it returns 0 exactly if its lists have their lengths and the text states a plan for which they have room
+--   holds-stated            and then the result and the lists hold that plan
+--   read-good               which every later call takes
+--   each-stated             each triple that is stated is stored: its residue stands at its place
+--   refused-by, read-by     else it returns one of 9 and 1 to 7
+--   read-cleared            and leaves p, n, m, the entry count and all lists 0
+--   read-any-order          the order of the triples does not matter: texts that state the same triples leave the same
 --   read-rising-as-before   a text that was accepted while triples had to rise is read as it was, and leaves what it left
---   accepted-exactly    line by line: a text is accepted, as these sizes and entries, exactly if it states that plan
+--   accepted-exactly        line by line: a text is accepted, as these sizes and entries, exactly if it states that plan
 use mathlib.Core.Path.{_≡_, refl, sym, ap, _∙_, subst}
-use mathlib.Core.Logic.{_↔_, inl, inr}
+use mathlib.Core.Logic.{_↔_}
 use mathlib.Core.List.{List, [], _∷_, _++_}
 use mathlib.Core.Bool.{Bool, true, false, cond, _&&_, not, true≢false}
 use Prim.Native.Nat.{ℕ, _+_, _-_}
@@ -19,7 +19,8 @@ use lib.ListN.{length}
 use borrow.Author.Tests.{eqb-true, eq-eqb}
 use Rattle.lists.specs.Tests.{among}
 use Rattle.refusals.specs.Table.{textFaults}
-use Rattle.refusals.specs.Refusals.{NumberFrom}
+use Rattle.refusals.specs.Refusals.{numberOf, NumberFrom}
+use Rattle.refusals.proofs.Refusals.{RefusedBy, number-from}
 use Rattle.lists.specs.Filled.{zeros}
 use Rattle.lists.proofs.Bools.{and-left, and-right}
 use Rattle.text_fields.specs.Pieces.{Pieces, last, more, pieces}
@@ -28,7 +29,7 @@ use Rattle.text_fields.specs.declared.numbers.Number.{Number}
 use Rattle.text_fields.specs.declared.numbers.Number.the-variants.{Value, NotNumber}
 use Rattle.residue.specs.Range.{isModulus}
 use Rattle.residue.specs.Signed.{residueOf}
-use Rattle.sparse.specs.Matrix.{matrix, form}
+use Rattle.sparse.specs.Matrix.{compressed, matrix, form}
 use Rattle.sparse.proofs.Rows.{form-paired}
 use Rattle.lists.specs.Members.{Member}
 use Rattle.text_judge.specs.declared.header.Header.{Header}
@@ -143,11 +144,11 @@ pub record Accepts (text : List ℕ) (a b c : ℕ) : Type 0 where
   pub read-is : readOf b text ≡ accepted sizes seen
   pub answer-is : callOf text a b c ≡ readAnswerOf b (accepted sizes seen)
 
-pub done-accepts : (text : List ℕ) (a b c : ℕ) → callOf text a b c .result .number ≡ 0 → Accepts text a b c
+pub done-accepts : (text : List ℕ) (a b c : ℕ) → numberOf (callOf text a b c .result .outcome) ≡ 0 → Accepts text a b c
 unfolding callOf answerBy
 done-accepts text a b c z = go (eqb a startsLength && eqb b c) (readOf b text) refl refl (read-numbered b text) z
   where
-    go : (t : Bool) (o : ReadResult) → (eqb a startsLength && eqb b c) ≡ t → readOf b text ≡ o → Numbered o → cond t (readAnswerOf b o) (refuses 9 0 a b c) .result .number ≡ 0 → Accepts text a b c
+    go : (t : Bool) (o : ReadResult) → (eqb a startsLength && eqb b c) ≡ t → readOf b text ≡ o → Numbered o → numberOf (cond t (readAnswerOf b o) (refuses 9 0 a b c) .result .outcome) ≡ 0 → Accepts text a b c
     go false o e r n z = absurd (omega arith)
     go true (refused k d) e r n z = absurd (not-zero k n z)
     go true (accepted s seen) e r n z =
@@ -196,17 +197,17 @@ module _ (text : List ℕ) (a b c : ℕ) (r : Reading) (st co va : List ℕ) (ca
   pub holds-stated : a ≡ startsLength → b ≡ c → (h : StatesPlan b text) → HoldsPlan (h .sizes) (h .triples) r st co va
   holds-stated long paired h = subst (Holds (h .sizes) (h .triples)) given (answer-holds text a b c long paired h)
 
-  pub done-exactly : (r .number ≡ 0) ↔ ((a ≡ startsLength) × (b ≡ c) × StatesPlan b text)
+  pub done-exactly : (numberOf (r .outcome) ≡ 0) ↔ ((a ≡ startsLength) × (b ≡ c) × StatesPlan b text)
   done-exactly = (
-    (λ z. let h = done-accepts text a b c (ap (λ (x : ReadAnswer). x .result .number) given ∙ z) in (h .starts-length, h .lists-length, accepts-stated text a b c h)),
-    λ h. holds-stated (h .0) (h .1) (h .2) .done,
+    (λ z. let h = done-accepts text a b c (ap (λ (x : ReadAnswer). numberOf (x .result .outcome)) given ∙ z) in (h .starts-length, h .lists-length, accepts-stated text a b c h)),
+    λ h. ap numberOf (holds-stated (h .0) (h .1) (h .2) .done),
   )
 
-  pub read-good : r .number ≡ 0 → GoodPlan (r .p) (r .n) (r .m) (heldPlan r st co va)
+  pub read-good : numberOf (r .outcome) ≡ 0 → GoodPlan (r .p) (r .n) (r .m) (heldPlan r (compressed st co va))
   read-good z =
       let (long, paired, h) = done-exactly .0 z in
       let x = holds-stated long paired h in
-      let A = heldPlan r st co va in
+      let A = heldPlan r (compressed st co va) in
       let formed : form (r .p) (r .m) A ≡ true = (λ t. form (x .modulus-is t) (x .columns-are t) A) ∙ x .formed in
       let few = few-entries b (h .sizes) (planText (h .sizes) (h .triples)) (entriesOf (h .sizes .modulus .p) (h .triples)) (reads-stated b (h .sizes) (h .triples) (h .plan)) in
       record {
@@ -219,23 +220,26 @@ module _ (text : List ℕ) (a b c : ℕ) (r : Reading) (st co va : List ℕ) (ca
         formed = formed;
       }
 
-  pub read-by : NumberFrom textFaults (r .number)
+  pub refused-by : RefusedBy textFaults (r .outcome)
   unfolding callOf answerBy among
-  read-by =
-      subst (λ (x : ReadAnswer). NumberFrom textFaults (x .result .number)) given
+  refused-by =
+      subst (λ (x : ReadAnswer). RefusedBy textFaults (x .result .outcome)) given
       (go (eqb a startsLength && eqb b c) (readOf b text) (read-numbered b text))
     where
-      go : (t : Bool) (o : ReadResult) → Numbered o → NumberFrom textFaults (cond t (readAnswerOf b o) (refuses 9 0 a b c) .result .number)
-      go false o n = inr refl
-      go true (refused k d) n = inr n
-      go true (accepted s seen) n = inl refl
+      go : (t : Bool) (o : ReadResult) → Numbered o → RefusedBy textFaults (cond t (readAnswerOf b o) (refuses 9 0 a b c) .result .outcome)
+      go false o n = refl
+      go true (refused k d) n = n
+      go true (accepted s seen) n = tt
 
-  pub read-cleared : ¬ (r .number ≡ 0) → ReadCleared a b c r st co va
+  pub read-by : NumberFrom textFaults (numberOf (r .outcome))
+  read-by = number-from textFaults (r .outcome) refused-by
+
+  pub read-cleared : ¬ (numberOf (r .outcome) ≡ 0) → ReadCleared a b c r st co va
   unfolding callOf answerBy
-  read-cleared = subst (λ (x : ReadAnswer). ¬ (x .result .number ≡ 0) → ReadCleared a b c (x .result) (x .starts) (x .columns) (x .values)) given (go (eqb a startsLength && eqb b c) (readOf b text) refl)
+  read-cleared = subst (λ (x : ReadAnswer). ¬ (numberOf (x .result .outcome) ≡ 0) → ReadCleared a b c (x .result) (x .starts) (x .columns) (x .values)) given (go (eqb a startsLength && eqb b c) (readOf b text) refl)
     where
       go : (t : Bool) (o : ReadResult) → (eqb a startsLength && eqb b c) ≡ t
-          → let x = cond t (readAnswerOf b o) (refuses 9 0 a b c) in ¬ (x .result .number ≡ 0) → ReadCleared a b c (x .result) (x .starts) (x .columns) (x .values)
+          → let x = cond t (readAnswerOf b o) (refuses 9 0 a b c) in ¬ (numberOf (x .result .outcome) ≡ 0) → ReadCleared a b c (x .result) (x .starts) (x .columns) (x .values)
       go false o e n = record { result-is = refl; starts-are = refl; columns-are = refl; values-are = refl }
       go true (refused k d) e n =
           record {
@@ -262,7 +266,7 @@ read-any-order s room ts us g h same r st co va call =
 -- t is any of the triples of a plan that is stated: xs stand before it, ys after it
 pub each-stated : (s : Sizes) (room : ℕ) (xs : List StatedEntry) (t : StatedEntry) (ys : List StatedEntry) → Plan room s (xs ++ (t ∷ ys))
     → (r : Reading) (st co va : List ℕ) → Gives (callOf (planText s (xs ++ (t ∷ ys))) startsLength room room) r st co va
-    → matrix (heldPlan r st co va) (t .row - 1) (t .column - 1) ≡ residueOf (s .modulus .p) (integerOf (t .value))
+    → matrix (heldPlan r (compressed st co va)) (t .row - 1) (t .column - 1) ≡ residueOf (s .modulus .p) (integerOf (t .value))
 each-stated s room xs t ys h r st co va call =
     let ts = xs ++ (t ∷ ys) in
     let place = stated-inside s [] xs t ys (h .apart) in

@@ -19,8 +19,8 @@ use Rattle.text_judge.specs.Line.{lineOf}
 use Rattle.text_judge.specs.Judge.{judgeLine, mayStand, before}
 use Rattle.text_opening.specs.Reading.{Entry, ReadResult, refused, accepted, kept, onward, triples, verdictOn}
 use Rattle.text_plan.specs.Rising.{lastRow, lastColumn, rises}
-use Rattle.text_plan.specs.Stored.{startsOf, RowsWithin, EntriesStored, Storable}
-use Rattle.text_plan.specs.Call.{ReadingReady, Shows}
+use Rattle.text_plan.specs.Stored.{startsOf, RowsWithin, EntriesStored}
+use Rattle.text_plan.specs.Needs.{Storable, ReadingReady, Shows}
 use Rattle.text_opening.specs.Opening.{Limits}
 use Rattle.text_plan.proofs.EachLine.{ending-none, ending-some, no-lines, last-line, next-place, line-more, next-limits}
 use Rattle.text_plan.proofs.StoredForm.{starts-length, columns-length, values-length}

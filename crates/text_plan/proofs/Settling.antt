@@ -13,7 +13,7 @@ use Rattle.text_plan.specs.declared.triples.TripleLines.the-variants.{Re
 use Rattle.text_opening.specs.Reading.{Entry, ReadResult, refused, accepted, kept, fresh, placed, triples}
 use Rattle.text_plan.specs.Rising.{lastRow, rises}
 use Rattle.text_plan.specs.Stored.{EntriesStored}
-use Rattle.text_plan.specs.Call.{Shows, StoresAll, Settles}
+use Rattle.text_plan.specs.Needs.{Shows, StoresAll, Settles}
 use Rattle.text_plan.proofs.RisingFirst.{isFive, First, rising-first}
 
 pub refused-read : {A : Type 0} {c k n r : ℕ} → Refused c k ≡ Read n r → A

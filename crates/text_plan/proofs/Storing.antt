@@ -7,7 +7,7 @@ use lib.ListN.{length, set, length-append}
 use borrow.Author.Tests.{eq-eqb, ne-eqb}
 use Rattle.text_opening.specs.Reading.{Entry, kept}
 use Rattle.text_plan.specs.Stored.{startsOf, RowsWithin, EntriesStored}
-use Rattle.text_plan.specs.Call.{NothingStored}
+use Rattle.text_plan.specs.Needs.{NothingStored}
 use Rattle.text_plan.proofs.StoredForm.{starts-none, columns-none, values-none, rows-wider, rows-more, starts-more, columns-more, values-more}
 
 -- lists that are all zero hold nothing

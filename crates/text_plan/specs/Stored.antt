@@ -1,11 +1,10 @@
 -- The stored form of entries that stand in order, as the lent lists hold it. Rows and columns are stored from 0.
---   countTo k es             how many entries stand in the first k rows
---   startsOf n es            the row starts of n rows, zero past them
+--   countTo k es                 how many entries stand in the first k rows
+--   startsOf n es                the row starts of n rows, zero past them
 --   columnsStored, valuesOf      the columns and the values, zero past the last entry
---   RowsWithin n es          every entry stands in a row from 1 to n
+--   RowsWithin n es              every entry stands in a row from 1 to n
 --   EntriesStored n room es ..   the lists, with room for so many entries, hold the entries es, all in the first n rows
---   Storable ..              the lists have room for the entry v at i and j, after the row given
-use Prim.Native.Nat.{ℕ, _+_, _-_, _^_, _≤_, _<_}
+use Prim.Native.Nat.{ℕ, _+_, _-_, _≤_}
 use mathlib.Core.Path.{_≡_}
 use mathlib.Core.List.{List, [], _∷_, map}
 use mathlib.Core.Bool.{cond}
@@ -39,14 +38,3 @@ pub record EntriesStored (n room : ℕ) (es : List Entry) (count : ℕ) (starts 
   pub starts-are : starts ≡ startsOf n es
   pub columns-are : columns ≡ columnsStored room es
   pub values-are : values ≡ valuesOf room es
-
-pub record Storable (starts columns values count row i j v : ℕ) : Type 0 where
-  pub order : row ≤ i
-  pub inside : i < startsLength
-  pub starts-length : starts ≡ startsLength
-  pub first-row : 1 ≤ i
-  pub first-column : 1 ≤ j
-  pub column-fits : j < 2 ^ 32
-  pub count-fits : count + 1 < 2 ^ 32
-  pub lists : columns ≡ values
-  pub room : (v ≡ 0 → ⊥) → count < columns

@@ -1,12 +1,14 @@
 // The lent lists are filled entry by entry.
 ghost use mathlib.Core.Path.{_≡_};
-ghost use mathlib.Core.List.{List, _∷_};
+ghost use mathlib.Core.List.{List};
 ghost use Prim.Native.Nat.{_≤_, _<_};
 ghost use lib.ListN.{length};
 ghost use Rattle.limits.specs.Limits.{startsLength};
-ghost use Rattle.text_opening.specs.Reading.{Entry, kept};
-ghost use Rattle.text_plan.specs.Stored.{RowsWithin, startsOf, EntriesStored, Storable};
-ghost use Rattle.sparse.specs.Views.{before, after};
+ghost use Rattle.text_opening.specs.Reading.{Entry};
+ghost use Rattle.text_plan.specs.Stored.{RowsWithin, startsOf};
+ghost use Rattle.text_plan.specs.Needs.{Storable, AddsEntry};
+ghost use Rattle.text_plan.specs.Collect.{tripleOf};
+ghost use Rattle.sparse.specs.Views.{before, after, storedBefore, storedAfter};
 
 // The starts after the rows `from` + 1 to `to`, which have no entry: all entries stand before them.
 pub fn extend_starts(starts: &mut [u32], from: usize, to: usize, count: u32)
@@ -32,7 +34,7 @@ pub fn store(
     v: u32,
 ) -> u32
     requires { ⌜ Storable (length (now starts)) (length (now cols)) (length (now vals)) count row i j v ⌝ }
-    ensures { λ r. ⌜ ((seen : List Entry) → EntriesStored row (length (before cols)) (kept seen) count (before starts) (before cols) (before vals) → EntriesStored i (length (before cols)) (kept (record { row = i; column = j; value = v } ∷ seen)) r (after starts) (after cols) (after vals)) ⌝ }
+    ensures { λ r. ⌜ AddsEntry (tripleOf i j v) row count (storedBefore starts cols vals) r (storedAfter starts cols vals) ⌝ }
 {
     let top = i as usize;
     extend_starts(starts, row as usize, top, count);

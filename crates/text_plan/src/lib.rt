@@ -4,10 +4,13 @@ ghost use mathlib.Core.List.{[]};
 ghost use lib.ListN.{length, drop};
 ghost use Rattle.text_fields.specs.Pieces.{pieces};
 ghost use Rattle.text_opening.specs.Reading.{fresh, triples, readOf};
-ghost use Rattle.text_plan.specs.Call.{readAnswerOf, callOf, refusalOf, Gives, NothingStored, ReadingReady, Settles};
+ghost use Rattle.text_plan.specs.Call.{readAnswerOf, callOf, refusalOf, Gives};
+ghost use Rattle.text_plan.specs.Needs.{NothingStored, ReadingReady, Settles};
 ghost use Rattle.sparse.specs.Views.{before, after};
 use limits::START_CELLS;
+use refusals::Outcome;
 use refusals::numbers::REPEATED_PLACE;
+use refusals::numbers::WRONG_LENGTH;
 use text_judge::judge::Sizes;
 use text_lines::Place;
 use text_opening::opening::Opening;
@@ -18,10 +21,9 @@ pub mod filling;
 pub mod sorting;
 pub mod triples;
 
-// What reading a text returns: document 01's number and its detail, and on 0 the modulus, the sizes and the number of entries.
+// What reading a text returns: passed with the modulus, the sizes and the number of entries; or refused, and 0 for all of them.
 pub struct Reading {
-    pub number: u32,
-    pub detail: u32,
+    pub outcome: Outcome,
     pub p: u32,
     pub n: u32,
     pub m: u32,
@@ -29,11 +31,11 @@ pub struct Reading {
 }
 
 fn refusal(number: u32, detail: u32) -> Reading
-    ensures { λ r. ⌜ r ≡ refusalOf number detail ⌝ }
+    ensures { λ r. ⌜ r ≡ refusalOf (Outcome.Refused number detail) ⌝ }
 {
+    let outcome = Outcome::Refused(number, detail);
     Reading {
-        number,
-        detail,
+        outcome,
         p: 0,
         n: 0,
         m: 0,
@@ -87,8 +89,7 @@ fn fill(text: &[u8], starts: &mut [u32], cols: &mut [u32], vals: &mut [u32]) -> 
                 let n = s.n;
                 filling::extend_starts(starts, row as usize, n as usize, count);
                 Reading {
-                    number: 0,
-                    detail: 0,
+                    outcome: Outcome::Passed,
                     p: modulus.p,
                     n,
                     m: s.m,
@@ -110,10 +111,10 @@ pub fn read(text: &[u8], starts: &mut [u32], cols: &mut [u32], vals: &mut [u32])
     lists::clear(cols);
     lists::clear(vals);
     if starts.len() != START_CELLS {
-        return refusal(9, 0);
+        return refusal(WRONG_LENGTH, 0);
     }
     if cols.len() != vals.len() {
-        return refusal(9, 0);
+        return refusal(WRONG_LENGTH, 0);
     }
     fill(text, starts, cols, vals)
 }

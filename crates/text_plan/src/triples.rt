@@ -4,7 +4,7 @@ ghost use lib.ListN.{length, drop};
 ghost use Rattle.text_fields.specs.Pieces.{pieces};
 ghost use Rattle.text_opening.specs.Reading.{triples};
 ghost use Rattle.text_plan.specs.Rising.{rises};
-ghost use Rattle.text_plan.specs.Call.{ReadingReady, Shows};
+ghost use Rattle.text_plan.specs.Needs.{ReadingReady, Shows};
 ghost use Rattle.sparse.specs.Views.{before, after};
 use refusals::numbers::MALFORMED;
 use text_judge::judge::Sizes;

@@ -2,6 +2,7 @@
 use mathlib.Core.Path.{sym}
 use lib.Seq.{length-take-le}
 use Rattle.sparse.specs.Matrix.{Compressed, compressed}
+use Rattle.sparse.specs.Set.{Storage, storageOf}
 use Rattle.stages.proofs.Lending.{back}
 use Rattle.ask_lib.proofs.Answered.{x-fits, z-fits, x-part, z-part, answered}
 use borrow.Author.Needs.{needs}
@@ -11,11 +12,10 @@ use Rattle.ask_lib.proofs.answer_held.Tie as tie
 abbrev plan : tie.Start → Compressed
 plan s = compressed (s .args .starts .now) (s .args .cols .now) (s .args .vals .now)
 
-abbrev lower : tie.Start → Compressed
-lower s = compressed (s .args .ls .now) (s .args .lc .now) (s .args .lv .now)
-
-abbrev upper : tie.Start → Compressed
-upper s = compressed (s .args .us .now) (s .args .uc .now) (s .args .uv .now)
+abbrev lent : tie.Start → Storage
+lent s =
+    storageOf (s .args .ro .now) (s .args .co .now) (compressed (s .args .ls .now) (s .args .lc .now) (s .args .lv .now))
+    (compressed (s .args .us .now) (s .args .uc .now) (s .args .uv .now)) (s .args .work .now)
 
 cast-n : tie.Need-cast-n
 cast-n c = search needs
@@ -78,16 +78,16 @@ slice-aggregate-answer-from-factors-11 : tie.Need-slice-aggregate-answer-from-fa
 slice-aggregate-answer-from-factors-11 c = sym (length-take-le _ _ (c .before .before .before .before .before .before .before .before .before .before .before .before .before .before .before .before .before .before .before .before .before .before .before .before .before .before .before .before .before .before .before .before .pre .fits .U-values))
 
 slice-relend-prefix-answer-from-factors : tie.Need-slice-relend-prefix-answer-from-factors
-slice-relend-prefix-answer-from-factors c = let s = c .before .before .before .before .before .before .before .before .before .before .before .before .before .before .before .before .before .before .before .before .before .before .before .before .before .before .before .before .before .before .before .before in x-fits (s .args .s) (plan s) (s .args .ro .now) (s .args .co .now) (lower s) (upper s) (s .args .y .now) (s .args .x .now) (s .args .z .now) (s .args .work .now) (s .pre)
+slice-relend-prefix-answer-from-factors c = let s = c .before .before .before .before .before .before .before .before .before .before .before .before .before .before .before .before .before .before .before .before .before .before .before .before .before .before .before .before .before .before .before .before in x-fits (s .args .s) (plan s) (lent s) (s .args .y .now) (s .args .x .now) (s .args .z .now) (s .pre)
 
 slice-aggregate-answer-from-factors-12 : tie.Need-slice-aggregate-answer-from-factors-12
-slice-aggregate-answer-from-factors-12 c = let s = c .before .before .before .before .before .before .before .before .before .before .before .before .before .before .before .before .before .before .before .before .before .before .before .before .before .before .before .before .before .before .before .before .before in sym (x-part (s .args .s) (plan s) (s .args .ro .now) (s .args .co .now) (lower s) (upper s) (s .args .y .now) (s .args .x .now) (s .args .z .now) (s .args .work .now) (s .pre))
+slice-aggregate-answer-from-factors-12 c = let s = c .before .before .before .before .before .before .before .before .before .before .before .before .before .before .before .before .before .before .before .before .before .before .before .before .before .before .before .before .before .before .before .before .before in sym (x-part (s .args .s) (plan s) (lent s) (s .args .y .now) (s .args .x .now) (s .args .z .now) (s .pre))
 
 slice-relend-prefix-answer-from-factors-2 : tie.Need-slice-relend-prefix-answer-from-factors-2
-slice-relend-prefix-answer-from-factors-2 c = let s = c .before .before .before .before .before .before .before .before .before .before .before .before .before .before .before .before .before .before .before .before .before .before .before .before .before .before .before .before .before .before .before .before .before in z-fits (s .args .s) (plan s) (s .args .ro .now) (s .args .co .now) (lower s) (upper s) (s .args .y .now) (s .args .x .now) (s .args .z .now) (s .args .work .now) (s .pre)
+slice-relend-prefix-answer-from-factors-2 c = let s = c .before .before .before .before .before .before .before .before .before .before .before .before .before .before .before .before .before .before .before .before .before .before .before .before .before .before .before .before .before .before .before .before .before in z-fits (s .args .s) (plan s) (lent s) (s .args .y .now) (s .args .x .now) (s .args .z .now) (s .pre)
 
 slice-aggregate-answer-from-factors-13 : tie.Need-slice-aggregate-answer-from-factors-13
-slice-aggregate-answer-from-factors-13 c = let s = c .before .before .before .before .before .before .before .before .before .before .before .before .before .before .before .before .before .before .before .before .before .before .before .before .before .before .before .before .before .before .before .before .before .before in sym (z-part (s .args .s) (plan s) (s .args .ro .now) (s .args .co .now) (lower s) (upper s) (s .args .y .now) (s .args .x .now) (s .args .z .now) (s .args .work .now) (s .pre))
+slice-aggregate-answer-from-factors-13 c = let s = c .before .before .before .before .before .before .before .before .before .before .before .before .before .before .before .before .before .before .before .before .before .before .before .before .before .before .before .before .before .before .before .before .before .before in sym (z-part (s .args .s) (plan s) (lent s) (s .args .y .now) (s .args .x .now) (s .args .z .now) (s .pre))
 
 answer-from-factors-requires : tie.Need-answer-from-factors-requires
 answer-from-factors-requires c κs = search needs
@@ -102,7 +102,7 @@ same-length-3 : tie.Need-same-length-3
 same-length-3 c = c .before .before .before .before .before .before .answer-from-factors .kept .1 .1 .1 .1 .1 .1 .1 .1 .1 .1 .1 .1 .1 .1 .1 .1 .1 .1 .0
 
 returns : tie.Need-returns
-returns c = let s = c .before .before .before .before .before .before .before .before .before .before .before .before .before .before .before .before .before .before .before .before .before .before .before .before .before .before .before .before .before .before .before .before .before .before .before .before .before .before .before .before .before .before in let a = c .before .before .before .before .before .before .answer-from-factors in answered (s .args .s) (plan s) (s .args .ro .now) (s .args .co .now) (lower s) (upper s) (s .args .y .now) (s .args .x .now) (s .args .z .now) (s .args .work .now) (s .pre) (a .result) (a .last .1 .1 .1 .1 .1 .1 .1 .1 .1 .1 .1 .1 .1 .1 .1 .1 .0) (a .last .1 .1 .1 .1 .1 .1 .1 .1 .1 .1 .1 .1 .1 .1 .1 .1 .1 .0) (a .last .1 .1 .1 .1 .1 .1 .1 .1 .1 .1 .1 .1 .1 .1 .1 .1 .1 .1 .0) (a .kept .1 .1 .1 .1 .1 .1 .1 .1 .1 .1 .1 .1 .1 .1 .1 .1 .0) (a .kept .1 .1 .1 .1 .1 .1 .1 .1 .1 .1 .1 .1 .1 .1 .1 .1 .1 .0) (a .ensures)
+returns c = let s = c .before .before .before .before .before .before .before .before .before .before .before .before .before .before .before .before .before .before .before .before .before .before .before .before .before .before .before .before .before .before .before .before .before .before .before .before .before .before .before .before .before .before in let a = c .before .before .before .before .before .before .answer-from-factors in answered (s .args .s) (plan s) (lent s) (s .args .y .now) (s .args .x .now) (s .args .z .now) (s .pre) (a .result) (a .last .1 .1 .1 .1 .1 .1 .1 .1 .1 .1 .1 .1 .1 .1 .1 .1 .0) (a .last .1 .1 .1 .1 .1 .1 .1 .1 .1 .1 .1 .1 .1 .1 .1 .1 .1 .0) (a .last .1 .1 .1 .1 .1 .1 .1 .1 .1 .1 .1 .1 .1 .1 .1 .1 .1 .1 .0) (a .kept .1 .1 .1 .1 .1 .1 .1 .1 .1 .1 .1 .1 .1 .1 .1 .1 .0) (a .kept .1 .1 .1 .1 .1 .1 .1 .1 .1 .1 .1 .1 .1 .1 .1 .1 .1 .0) (a .ensures)
 
 pub answer-held-spec : {M : Type 1} → statement M
 answer-held-spec =

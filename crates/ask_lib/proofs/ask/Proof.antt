@@ -1,6 +1,7 @@
 -- `ask` meets its contract. Assumes nothing.
 use mathlib.Core.Path.{refl, sym, _∙_}
 use Rattle.sparse.specs.Matrix.{compressed}
+use Rattle.sparse.specs.Set.{storageOf}
 use Rattle.ask_lib.proofs.Asked.{staged-ready, asks}
 use Rattle.ask_lib.proofs.ask.Statement.{statement}
 use Rattle.ask_lib.proofs.ask.Tie as tie
@@ -75,7 +76,7 @@ slice-aggregate-ask-staged-11 : tie.Need-slice-aggregate-ask-staged-11
 slice-aggregate-ask-staged-11 c = sym (c .before .before .before .before .before .before .before .before .before .before .before .before .before .before .before .before .before .before .before .before .before .before .before .before .factor-text .kept .1 .1 .1 .1 .1 .1 .1 .1 .1 .1 .1 .0)
 
 ask-staged-requires : tie.Need-ask-staged-requires
-ask-staged-requires c κs = let s = c .before .before .before .before .before .before .before .before .before .before .before .before .before .before .before .before .before .before .before .before .before .before .before .before .before .before .before .before .before .before .before .before .before .before .before .before .before .before .before .before .before .before .before in let f = c .before .before .before .before .before .before .before .before .before .before .before .before .before .before .before .before .before .before .before .before .before .before .before .before .before .before .factor-text in staged-ready (s .args .text .now) (s .args .y .now) (f .result) (compressed (f .last .1 .0) (f .last .1 .1 .0) (f .last .1 .1 .1 .0)) (f .last .1 .1 .1 .1 .0) (f .last .1 .1 .1 .1 .1 .0) (compressed (f .last .1 .1 .1 .1 .1 .1 .0) (f .last .1 .1 .1 .1 .1 .1 .1 .0) (f .last .1 .1 .1 .1 .1 .1 .1 .1 .0)) (compressed (f .last .1 .1 .1 .1 .1 .1 .1 .1 .1 .0) (f .last .1 .1 .1 .1 .1 .1 .1 .1 .1 .1 .0) (f .last .1 .1 .1 .1 .1 .1 .1 .1 .1 .1 .1 .0)) (s .args .work .now) (f .last .1 .1 .1 .1 .1 .1 .1 .1 .1 .1 .1 .1 .0) (f .ensures) (s .args .out .now) (s .pre) (f .kept .1 .1 .1 .1 .0) (f .kept .1 .1 .1 .1 .1 .0)
+ask-staged-requires c κs = let s = c .before .before .before .before .before .before .before .before .before .before .before .before .before .before .before .before .before .before .before .before .before .before .before .before .before .before .before .before .before .before .before .before .before .before .before .before .before .before .before .before .before .before .before in let f = c .before .before .before .before .before .before .before .before .before .before .before .before .before .before .before .before .before .before .before .before .before .before .before .before .before .before .factor-text in staged-ready (s .args .text .now) (s .args .y .now) (f .result) (compressed (f .last .1 .0) (f .last .1 .1 .0) (f .last .1 .1 .1 .0)) (s .args .work .now) (storageOf (f .last .1 .1 .1 .1 .0) (f .last .1 .1 .1 .1 .1 .0) (compressed (f .last .1 .1 .1 .1 .1 .1 .0) (f .last .1 .1 .1 .1 .1 .1 .1 .0) (f .last .1 .1 .1 .1 .1 .1 .1 .1 .0)) (compressed (f .last .1 .1 .1 .1 .1 .1 .1 .1 .1 .0) (f .last .1 .1 .1 .1 .1 .1 .1 .1 .1 .1 .0) (f .last .1 .1 .1 .1 .1 .1 .1 .1 .1 .1 .1 .0)) (f .last .1 .1 .1 .1 .1 .1 .1 .1 .1 .1 .1 .1 .0)) (f .ensures) (s .args .out .now) (s .pre) (f .kept .1 .1 .1 .1 .0) (f .kept .1 .1 .1 .1 .1 .0)
 
 same-length : tie.Need-same-length
 same-length c = c .before .before .before .before .ask-staged .kept .1 .1 .1 .1 .1 .1 .1 .1 .1 .1 .1 .1 .1 .0
@@ -84,7 +85,7 @@ same-length-2 : tie.Need-same-length-2
 same-length-2 c = c .before .before .before .before .ask-staged .kept .1 .1 .1 .1 .1 .1 .1 .1 .1 .1 .1 .1 .1 .1 .0 ∙ c .before .before .before .before .before .before .before .before .before .before .before .before .before .before .before .before .before .before .before .before .before .before .before .before .before .before .before .before .before .before .before .factor-text .kept .1 .1 .1 .1 .1 .1 .1 .1 .1 .1 .1 .1 .0
 
 returns : tie.Need-returns
-returns c = let s = c .before .before .before .before .before .before .before .before .before .before .before .before .before .before .before .before .before .before .before .before .before .before .before .before .before .before .before .before .before .before .before .before .before .before .before .before .before .before .before .before .before .before .before .before .before .before .before .before in let f = c .before .before .before .before .before .before .before .before .before .before .before .before .before .before .before .before .before .before .before .before .before .before .before .before .before .before .before .before .before .before .before .factor-text in let g = c .before .before .before .before .ask-staged in asks (s .args .text .now) (s .args .y .now) (f .result) (compressed (f .last .1 .0) (f .last .1 .1 .0) (f .last .1 .1 .1 .0)) (f .last .1 .1 .1 .1 .0) (f .last .1 .1 .1 .1 .1 .0) (compressed (f .last .1 .1 .1 .1 .1 .1 .0) (f .last .1 .1 .1 .1 .1 .1 .1 .0) (f .last .1 .1 .1 .1 .1 .1 .1 .1 .0)) (compressed (f .last .1 .1 .1 .1 .1 .1 .1 .1 .1 .0) (f .last .1 .1 .1 .1 .1 .1 .1 .1 .1 .1 .0) (f .last .1 .1 .1 .1 .1 .1 .1 .1 .1 .1 .1 .0)) (s .args .work .now) (f .last .1 .1 .1 .1 .1 .1 .1 .1 .1 .1 .1 .1 .0) (f .ensures) (g .result) (s .args .out .now) (g .last .1 .1 .1 .1 .1 .1 .1 .1 .1 .1 .1 .1 .1 .0) (g .last .1 .1 .1 .1 .1 .1 .1 .1 .1 .1 .1 .1 .1 .1 .0) (g .ensures)
+returns c = let s = c .before .before .before .before .before .before .before .before .before .before .before .before .before .before .before .before .before .before .before .before .before .before .before .before .before .before .before .before .before .before .before .before .before .before .before .before .before .before .before .before .before .before .before .before .before .before .before .before in let f = c .before .before .before .before .before .before .before .before .before .before .before .before .before .before .before .before .before .before .before .before .before .before .before .before .before .before .before .before .before .before .before .factor-text in let g = c .before .before .before .before .ask-staged in asks (s .args .text .now) (s .args .y .now) (f .result) (compressed (f .last .1 .0) (f .last .1 .1 .0) (f .last .1 .1 .1 .0)) (s .args .work .now) (storageOf (f .last .1 .1 .1 .1 .0) (f .last .1 .1 .1 .1 .1 .0) (compressed (f .last .1 .1 .1 .1 .1 .1 .0) (f .last .1 .1 .1 .1 .1 .1 .1 .0) (f .last .1 .1 .1 .1 .1 .1 .1 .1 .0)) (compressed (f .last .1 .1 .1 .1 .1 .1 .1 .1 .1 .0) (f .last .1 .1 .1 .1 .1 .1 .1 .1 .1 .1 .0) (f .last .1 .1 .1 .1 .1 .1 .1 .1 .1 .1 .1 .0)) (f .last .1 .1 .1 .1 .1 .1 .1 .1 .1 .1 .1 .1 .0)) (f .ensures) (g .result) (s .args .out .now) (g .last .1 .1 .1 .1 .1 .1 .1 .1 .1 .1 .1 .1 .1 .0) (g .last .1 .1 .1 .1 .1 .1 .1 .1 .1 .1 .1 .1 .1 .1 .0) (g .ensures)
 
 pub ask-spec : {M : Type 1} → statement M
 ask-spec =

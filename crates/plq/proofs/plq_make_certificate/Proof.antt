@@ -1,6 +1,7 @@
 -- `plq_make_certificate` meets its contract. Assumes nothing.
 use mathlib.Core.Path.{refl, sym}
 use Rattle.sparse.specs.Matrix.{compressed}
+use Rattle.sparse.specs.Set.{storageOf}
 use Rattle.plq.proofs.Making.{staged-fits, makes}
 use borrow.Author.Needs.{needs}
 use Rattle.plq.proofs.plq_make_certificate.Statement.{statement}
@@ -82,7 +83,7 @@ slice-aggregate-make-staged-12 : tie.Need-slice-aggregate-make-staged-12
 slice-aggregate-make-staged-12 c = sym (c .before .before .before .before .before .before .before .before .before .before .before .before .before .before .before .before .before .before .before .before .before .before .before .before .before .factor-text .kept .1 .1 .1 .1 .1 .1 .1 .1 .1 .1 .1 .1 .0)
 
 make-staged-requires : tie.Need-make-staged-requires
-make-staged-requires c κs = let s = c .before .before .before .before .before .before .before .before .before .before .before .before .before .before .before .before .before .before .before .before .before .before .before .before .before .before .before .before .before .before .before .before .before .before .before .before .before .before .before .before in let x = c .before .before .before .before .before .before .before .before .before .before .before .before .before .before .before .before .before .before .before .before .before .before .before .before .before .factor-text in staged-fits (s .args .text .now) (x .result) (compressed (x .last .1 .0) (x .last .1 .1 .0) (x .last .1 .1 .1 .0)) (x .last .1 .1 .1 .1 .0) (x .last .1 .1 .1 .1 .1 .0) (compressed (x .last .1 .1 .1 .1 .1 .1 .0) (x .last .1 .1 .1 .1 .1 .1 .1 .0) (x .last .1 .1 .1 .1 .1 .1 .1 .1 .0)) (compressed (x .last .1 .1 .1 .1 .1 .1 .1 .1 .1 .0) (x .last .1 .1 .1 .1 .1 .1 .1 .1 .1 .1 .0) (x .last .1 .1 .1 .1 .1 .1 .1 .1 .1 .1 .1 .0)) _ (x .last .1 .1 .1 .1 .1 .1 .1 .1 .1 .1 .1 .1 .0) (x .ensures)
+make-staged-requires c κs = let s = c .before .before .before .before .before .before .before .before .before .before .before .before .before .before .before .before .before .before .before .before .before .before .before .before .before .before .before .before .before .before .before .before .before .before .before .before .before .before .before .before in let x = c .before .before .before .before .before .before .before .before .before .before .before .before .before .before .before .before .before .before .before .before .before .before .before .before .before .factor-text in staged-fits (s .args .text .now) (x .result) (compressed (x .last .1 .0) (x .last .1 .1 .0) (x .last .1 .1 .1 .0)) _ (storageOf (x .last .1 .1 .1 .1 .0) (x .last .1 .1 .1 .1 .1 .0) (compressed (x .last .1 .1 .1 .1 .1 .1 .0) (x .last .1 .1 .1 .1 .1 .1 .1 .0) (x .last .1 .1 .1 .1 .1 .1 .1 .1 .0)) (compressed (x .last .1 .1 .1 .1 .1 .1 .1 .1 .1 .0) (x .last .1 .1 .1 .1 .1 .1 .1 .1 .1 .1 .0) (x .last .1 .1 .1 .1 .1 .1 .1 .1 .1 .1 .1 .0)) (x .last .1 .1 .1 .1 .1 .1 .1 .1 .1 .1 .1 .1 .0)) (x .ensures)
 
 pack-requires : tie.Need-pack-requires
 pack-requires c κs = search needs
@@ -91,7 +92,7 @@ same-length : tie.Need-same-length
 same-length c = c .before .before .before .before .make-staged .kept .1 .1 .1 .1 .1 .1 .1 .1 .1 .1 .1 .1 .0
 
 returns : tie.Need-returns
-returns c = let s = c .before .before .before .before .before .before .before .before .before .before .before .before .before .before .before .before .before .before .before .before .before .before .before .before .before .before .before .before .before .before .before .before .before .before .before .before .before .before .before .before .before .before .before .before .before in let x = c .before .before .before .before .before .before .before .before .before .before .before .before .before .before .before .before .before .before .before .before .before .before .before .before .before .before .before .before .before .before .factor-text in let g = c .before .before .before .before .make-staged in makes (s .args .text .now) (x .result) (compressed (x .last .1 .0) (x .last .1 .1 .0) (x .last .1 .1 .1 .0)) (x .last .1 .1 .1 .1 .0) (x .last .1 .1 .1 .1 .1 .0) (compressed (x .last .1 .1 .1 .1 .1 .1 .0) (x .last .1 .1 .1 .1 .1 .1 .1 .0) (x .last .1 .1 .1 .1 .1 .1 .1 .1 .0)) (compressed (x .last .1 .1 .1 .1 .1 .1 .1 .1 .1 .0) (x .last .1 .1 .1 .1 .1 .1 .1 .1 .1 .1 .0) (x .last .1 .1 .1 .1 .1 .1 .1 .1 .1 .1 .1 .0)) _ (x .last .1 .1 .1 .1 .1 .1 .1 .1 .1 .1 .1 .1 .0) (x .ensures) (x .kept .1 .1 .1 .1 .1 .1 .1 .1 .1 .1 .1 .1 .0) (s .args .buffer .now) (g .last .1 .1 .1 .1 .1 .1 .1 .1 .1 .1 .1 .1 .0) (g .result) (c .pack .result) (c .pack .ensures) (g .ensures)
+returns c = let s = c .before .before .before .before .before .before .before .before .before .before .before .before .before .before .before .before .before .before .before .before .before .before .before .before .before .before .before .before .before .before .before .before .before .before .before .before .before .before .before .before .before .before .before .before .before in let x = c .before .before .before .before .before .before .before .before .before .before .before .before .before .before .before .before .before .before .before .before .before .before .before .before .before .before .before .before .before .before .factor-text in let g = c .before .before .before .before .make-staged in makes (s .args .text .now) (x .result) (compressed (x .last .1 .0) (x .last .1 .1 .0) (x .last .1 .1 .1 .0)) _ (storageOf (x .last .1 .1 .1 .1 .0) (x .last .1 .1 .1 .1 .1 .0) (compressed (x .last .1 .1 .1 .1 .1 .1 .0) (x .last .1 .1 .1 .1 .1 .1 .1 .0) (x .last .1 .1 .1 .1 .1 .1 .1 .1 .0)) (compressed (x .last .1 .1 .1 .1 .1 .1 .1 .1 .1 .0) (x .last .1 .1 .1 .1 .1 .1 .1 .1 .1 .1 .0) (x .last .1 .1 .1 .1 .1 .1 .1 .1 .1 .1 .1 .0)) (x .last .1 .1 .1 .1 .1 .1 .1 .1 .1 .1 .1 .1 .0)) (x .ensures) (x .kept .1 .1 .1 .1 .1 .1 .1 .1 .1 .1 .1 .1 .0) (s .args .buffer .now) (g .last .1 .1 .1 .1 .1 .1 .1 .1 .1 .1 .1 .1 .0) (g .result) (c .pack .result) (c .pack .ensures) (g .ensures)
 
 pub plq-make-certificate-spec : {M : Type 1} → statement M
 plq-make-certificate-spec =

@@ -1,6 +1,7 @@
 -- `report` meets its contract. Assumes nothing.
 use mathlib.Core.Path.{refl, sym, _∙_}
 use Rattle.sparse.specs.Matrix.{compressed}
+use Rattle.sparse.specs.Set.{storageOf}
 use Rattle.report_lib.proofs.Reported.{ready, reported}
 use Rattle.report_lib.proofs.report.Statement.{statement}
 use Rattle.report_lib.proofs.report.Tie as tie
@@ -78,7 +79,7 @@ slice-aggregate-report-staged-12 : tie.Need-slice-aggregate-report-staged-12
 slice-aggregate-report-staged-12 c = refl
 
 report-staged-requires : tie.Need-report-staged-requires
-report-staged-requires c κs = let s = c .before .before .before .before .before .before .before .before .before .before .before .before .before .before .before .before .before .before .before .before .before .before .before .before .before .before .before .before .before .before .before .before .before .before .before .before .before .before .before .before .before .before .before in let f = c .before .before .before .before .before .before .before .before .before .before .before .before .before .before .before .before .before .before .before .before .before .before .before .before .before .before .before .factor-text in ready (s .args .text .now) (f .result) (compressed (f .last .1 .0) (f .last .1 .1 .0) (f .last .1 .1 .1 .0)) (f .last .1 .1 .1 .1 .0) (f .last .1 .1 .1 .1 .1 .0) (compressed (f .last .1 .1 .1 .1 .1 .1 .0) (f .last .1 .1 .1 .1 .1 .1 .1 .0) (f .last .1 .1 .1 .1 .1 .1 .1 .1 .0)) (compressed (f .last .1 .1 .1 .1 .1 .1 .1 .1 .1 .0) (f .last .1 .1 .1 .1 .1 .1 .1 .1 .1 .1 .0) (f .last .1 .1 .1 .1 .1 .1 .1 .1 .1 .1 .1 .0)) (s .args .work .now) (f .last .1 .1 .1 .1 .1 .1 .1 .1 .1 .1 .1 .1 .0) (f .ensures) _ (s .args .out .now) (s .pre) (f .kept .1 .1 .1 .1 .1 .0) refl
+report-staged-requires c κs = let s = c .before .before .before .before .before .before .before .before .before .before .before .before .before .before .before .before .before .before .before .before .before .before .before .before .before .before .before .before .before .before .before .before .before .before .before .before .before .before .before .before .before .before .before in let f = c .before .before .before .before .before .before .before .before .before .before .before .before .before .before .before .before .before .before .before .before .before .before .before .before .before .before .before .factor-text in ready (s .args .text .now) (f .result) (compressed (f .last .1 .0) (f .last .1 .1 .0) (f .last .1 .1 .1 .0)) (s .args .work .now) (storageOf (f .last .1 .1 .1 .1 .0) (f .last .1 .1 .1 .1 .1 .0) (compressed (f .last .1 .1 .1 .1 .1 .1 .0) (f .last .1 .1 .1 .1 .1 .1 .1 .0) (f .last .1 .1 .1 .1 .1 .1 .1 .1 .0)) (compressed (f .last .1 .1 .1 .1 .1 .1 .1 .1 .1 .0) (f .last .1 .1 .1 .1 .1 .1 .1 .1 .1 .1 .0) (f .last .1 .1 .1 .1 .1 .1 .1 .1 .1 .1 .1 .0)) (f .last .1 .1 .1 .1 .1 .1 .1 .1 .1 .1 .1 .1 .0)) (f .ensures) _ (s .args .out .now) (s .pre) (f .kept .1 .1 .1 .1 .1 .0) refl
 
 same-length : tie.Need-same-length
 same-length c = c .before .before .before .before .before .report-staged .kept .1 .1 .1 .1 .1 .1 .1 .1 .1 .1 .1 .1 .1 .0
@@ -87,7 +88,7 @@ same-length-2 : tie.Need-same-length-2
 same-length-2 c = c .before .before .before .before .before .report-staged .kept .1 .1 .1 .1 .1 .1 .1 .1 .1 .1 .1 .1 .1 .1 .0 ∙ c .before .before .before .before .before .before .before .before .before .before .before .before .before .before .before .before .before .before .before .before .before .before .before .before .before .before .before .before .before .before .before .before .before .factor-text .kept .1 .1 .1 .1 .1 .1 .1 .1 .1 .1 .1 .1 .0
 
 returns : tie.Need-returns
-returns c = let s = c .before .before .before .before .before .before .before .before .before .before .before .before .before .before .before .before .before .before .before .before .before .before .before .before .before .before .before .before .before .before .before .before .before .before .before .before .before .before .before .before .before .before .before .before .before .before .before .before .before in let f = c .before .before .before .before .before .before .before .before .before .before .before .before .before .before .before .before .before .before .before .before .before .before .before .before .before .before .before .before .before .before .before .before .before .factor-text in let g = c .before .before .before .before .before .report-staged in reported (s .args .text .now) (f .result) (compressed (f .last .1 .0) (f .last .1 .1 .0) (f .last .1 .1 .1 .0)) (f .last .1 .1 .1 .1 .0) (f .last .1 .1 .1 .1 .1 .0) (compressed (f .last .1 .1 .1 .1 .1 .1 .0) (f .last .1 .1 .1 .1 .1 .1 .1 .0) (f .last .1 .1 .1 .1 .1 .1 .1 .1 .0)) (compressed (f .last .1 .1 .1 .1 .1 .1 .1 .1 .1 .0) (f .last .1 .1 .1 .1 .1 .1 .1 .1 .1 .1 .0) (f .last .1 .1 .1 .1 .1 .1 .1 .1 .1 .1 .1 .0)) (s .args .work .now) (f .last .1 .1 .1 .1 .1 .1 .1 .1 .1 .1 .1 .1 .0) (f .ensures) (g .result) (s .args .out .now) (g .last .1 .1 .1 .1 .1 .1 .1 .1 .1 .1 .1 .1 .1 .0) (g .last .1 .1 .1 .1 .1 .1 .1 .1 .1 .1 .1 .1 .1 .1 .0) (g .ensures)
+returns c = let s = c .before .before .before .before .before .before .before .before .before .before .before .before .before .before .before .before .before .before .before .before .before .before .before .before .before .before .before .before .before .before .before .before .before .before .before .before .before .before .before .before .before .before .before .before .before .before .before .before .before in let f = c .before .before .before .before .before .before .before .before .before .before .before .before .before .before .before .before .before .before .before .before .before .before .before .before .before .before .before .before .before .before .before .before .before .factor-text in let g = c .before .before .before .before .before .report-staged in reported (s .args .text .now) (f .result) (compressed (f .last .1 .0) (f .last .1 .1 .0) (f .last .1 .1 .1 .0)) (s .args .work .now) (storageOf (f .last .1 .1 .1 .1 .0) (f .last .1 .1 .1 .1 .1 .0) (compressed (f .last .1 .1 .1 .1 .1 .1 .0) (f .last .1 .1 .1 .1 .1 .1 .1 .0) (f .last .1 .1 .1 .1 .1 .1 .1 .1 .0)) (compressed (f .last .1 .1 .1 .1 .1 .1 .1 .1 .1 .0) (f .last .1 .1 .1 .1 .1 .1 .1 .1 .1 .1 .0) (f .last .1 .1 .1 .1 .1 .1 .1 .1 .1 .1 .1 .0)) (f .last .1 .1 .1 .1 .1 .1 .1 .1 .1 .1 .1 .1 .0)) (f .ensures) (g .result) (s .args .out .now) (g .last .1 .1 .1 .1 .1 .1 .1 .1 .1 .1 .1 .1 .1 .0) (g .last .1 .1 .1 .1 .1 .1 .1 .1 .1 .1 .1 .1 .1 .1 .0) (g .ensures)
 
 pub report-spec : {M : Type 1} → statement M
 report-spec =

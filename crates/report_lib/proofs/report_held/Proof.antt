@@ -1,6 +1,7 @@
 -- `report_held` meets its contract: each way out is a law of `Printing`. Assumes nothing.
 use native.Mathlib.Omega.{arith}
 use Rattle.sparse.specs.Matrix.{compressed}
+use Rattle.sparse.specs.Set.{storageOf}
 use Rattle.print_text.proofs.Room.{report-room, refusal-room}
 use Rattle.report_lib.proofs.Printing.{columns-refused, columns-listed}
 use borrow.Author.Needs.{needs}
@@ -26,7 +27,7 @@ same-length-3 : tie.Need-same-length-3
 same-length-3 c = c .before .before .before .before .before .before .before .before .before .before .before .list-held .kept .1 .1 .1 .1 .1 .1 .1 .1 .1 .1 .1 .1 .1 .0
 
 returns : tie.Need-returns
-returns c = let s = c .before .before .before .before .before .before .before .before .before .before .before .before .before .before .before .before .before .before .before .before .before .before .before .before .before .before .before .before in let x = c .before .before .before .before .before .before .before .before .before .before .before .list-held in columns-refused _ (compressed _ _ _) _ _ (compressed _ _ _) (compressed _ _ _) _ _ _ (s .pre) (x .result) _ _ (x .ensures) _ _ _ _ (c .before .before .before .before .before .listed .given .1) (c .before .before .write-refusal .ensures)
+returns c = let s = c .before .before .before .before .before .before .before .before .before .before .before .before .before .before .before .before .before .before .before .before .before .before .before .before .before .before .before .before in let x = c .before .before .before .before .before .before .before .before .before .before .before .list-held in columns-refused _ (compressed _ _ _) (storageOf _ _ (compressed _ _ _) (compressed _ _ _) _) _ _ (s .pre) (x .result) _ _ (x .ensures) _ _ _ _ (c .before .before .before .before .before .listed .given .1) (c .before .before .write-refusal .ensures)
 
 enum-told : tie.Need-enum-told
 enum-told c = search needs
@@ -47,7 +48,7 @@ same-length-6 : tie.Need-same-length-6
 same-length-6 c = c .before .before .before .before .before .before .before .before .before .before .before .before .list-held .kept .1 .1 .1 .1 .1 .1 .1 .1 .1 .1 .1 .1 .1 .0
 
 returns-2 : tie.Need-returns-2
-returns-2 c = let s = c .before .before .before .before .before .before .before .before .before .before .before .before .before .before .before .before .before .before .before .before .before .before .before .before .before .before .before .before .before in let x = c .before .before .before .before .before .before .before .before .before .before .before .before .list-held in columns-listed _ (compressed _ _ _) _ _ (compressed _ _ _) (compressed _ _ _) _ _ _ (s .pre) (x .result) _ _ (x .ensures) _ _ _ (c .before .before .before .before .before .before .enum-told .given .1) (c .before .before .before .before .before .summary .ensures) (c .before .before .write-report .ensures)
+returns-2 c = let s = c .before .before .before .before .before .before .before .before .before .before .before .before .before .before .before .before .before .before .before .before .before .before .before .before .before .before .before .before .before in let x = c .before .before .before .before .before .before .before .before .before .before .before .before .list-held in columns-listed _ (compressed _ _ _) (storageOf _ _ (compressed _ _ _) (compressed _ _ _) _) _ _ (s .pre) (x .result) _ _ (x .ensures) _ _ _ (c .before .before .before .before .before .before .enum-told .given .1) (c .before .before .before .before .before .summary .ensures) (c .before .before .write-report .ensures)
 
 pub report-held-spec : {M : Type 1} → statement M
 report-held-spec =

@@ -3,6 +3,7 @@ use mathlib.Core.Path.{sym}
 use Prim.Native.Nat.{_+_}
 use lib.Seq.{length-take-le}
 use Rattle.sparse.specs.Matrix.{Compressed, compressed}
+use Rattle.sparse.specs.Set.{Storage, storageOf}
 use Rattle.stages.proofs.Lending.{back, R-part, C-part, L-part, U-part, lent-back}
 use borrow.Author.Needs.{needs}
 use Rattle.stages.proofs.factor_held.Statement.{statement}
@@ -11,11 +12,10 @@ use Rattle.stages.proofs.factor_held.Tie as tie
 abbrev plan : tie.Start → Compressed
 plan s = compressed (s .args .starts .now) (s .args .cols .now) (s .args .vals .now)
 
-abbrev lower : tie.Start → Compressed
-lower s = compressed (s .args .ls .now) (s .args .lc .now) (s .args .lv .now)
-
-abbrev upper : tie.Start → Compressed
-upper s = compressed (s .args .us .now) (s .args .uc .now) (s .args .uv .now)
+abbrev lent : tie.Start → Storage
+lent s =
+    storageOf (s .args .ro .now) (s .args .co .now) (compressed (s .args .ls .now) (s .args .lc .now) (s .args .lv .now))
+    (compressed (s .args .us .now) (s .args .uc .now) (s .args .uv .now)) (s .args .work .now)
 
 cast-n : tie.Need-cast-n
 cast-n c = search needs
@@ -42,13 +42,13 @@ slice-relend-prefix-factor : tie.Need-slice-relend-prefix-factor
 slice-relend-prefix-factor c = search needs
 
 slice-aggregate-factor-4 : tie.Need-slice-aggregate-factor-4
-slice-aggregate-factor-4 c = let s = c .before .before .before .before .before .before .before .before .before .before .before .before .before .before .before .before .before .before .before in sym (R-part (s .args .r) (plan s) (s .args .ro .now) (s .args .co .now) (lower s) (upper s) (s .args .work .now) (s .pre))
+slice-aggregate-factor-4 c = let s = c .before .before .before .before .before .before .before .before .before .before .before .before .before .before .before .before .before .before .before in sym (R-part (s .args .r) (plan s) (lent s) (s .pre))
 
 slice-relend-prefix-factor-2 : tie.Need-slice-relend-prefix-factor-2
 slice-relend-prefix-factor-2 c = search needs
 
 slice-aggregate-factor-5 : tie.Need-slice-aggregate-factor-5
-slice-aggregate-factor-5 c = let s = c .before .before .before .before .before .before .before .before .before .before .before .before .before .before .before .before .before .before .before .before in sym (C-part (s .args .r) (plan s) (s .args .ro .now) (s .args .co .now) (lower s) (upper s) (s .args .work .now) (s .pre))
+slice-aggregate-factor-5 c = let s = c .before .before .before .before .before .before .before .before .before .before .before .before .before .before .before .before .before .before .before .before in sym (C-part (s .args .r) (plan s) (lent s) (s .pre))
 
 add-factor-2 : tie.Need-add-factor-2
 add-factor-2 c = search needs
@@ -57,7 +57,7 @@ slice-relend-prefix-factor-3 : tie.Need-slice-relend-prefix-factor-3
 slice-relend-prefix-factor-3 c = search needs
 
 slice-aggregate-factor-6 : tie.Need-slice-aggregate-factor-6
-slice-aggregate-factor-6 c = let s = c .before .before .before .before .before .before .before .before .before .before .before .before .before .before .before .before .before .before .before .before .before in sym (L-part (s .args .r) (plan s) (s .args .ro .now) (s .args .co .now) (lower s) (upper s) (s .args .work .now) (s .pre))
+slice-aggregate-factor-6 c = let s = c .before .before .before .before .before .before .before .before .before .before .before .before .before .before .before .before .before .before .before .before .before in sym (L-part (s .args .r) (plan s) (lent s) (s .pre))
 
 add-factor-3 : tie.Need-add-factor-3
 add-factor-3 c = search needs
@@ -66,7 +66,7 @@ slice-relend-prefix-factor-4 : tie.Need-slice-relend-prefix-factor-4
 slice-relend-prefix-factor-4 c = search needs
 
 slice-aggregate-factor-7 : tie.Need-slice-aggregate-factor-7
-slice-aggregate-factor-7 c = let s = c .before .before .before .before .before .before .before .before .before .before .before .before .before .before .before .before .before .before .before .before .before .before .before .before in sym (U-part (s .args .r) (plan s) (s .args .ro .now) (s .args .co .now) (lower s) (upper s) (s .args .work .now) (s .pre))
+slice-aggregate-factor-7 c = let s = c .before .before .before .before .before .before .before .before .before .before .before .before .before .before .before .before .before .before .before .before .before .before .before .before in sym (U-part (s .args .r) (plan s) (lent s) (s .pre))
 
 factor-requires : tie.Need-factor-requires
 factor-requires c κs = search needs
@@ -100,7 +100,7 @@ same-length-9 c = c .before .before .before .before .before .before .before .bef
 
 returns : tie.Need-returns
 returns c = let s = c .before .before .before .before .before .before .before .before .before .before .before .before .before .before .before .before .before .before .before .before .before .before .before .before .before .before .before .before .before .before .before .before .before .before .before .before .before .before .before .before .before .before .before .before .before .before in let x = c .before .before .before .before .before .before .before .before .before .before .before .before .before .before .before .before .before .before .factor in
-    lent-back (s .args .r) (plan s) (s .args .ro .now) (s .args .co .now) (lower s) (upper s) (s .args .work .now) (s .pre) (x .result .number) (x .result .detail) (x .result .rank) (x .result .structural) (x .last .1 .1 .1 .1 .1 .1 .0) (x .last .1 .1 .1 .1 .1 .1 .1 .0) (compressed (x .last .1 .1 .1 .1 .1 .1 .1 .1 .0) (x .last .1 .1 .1 .1 .1 .1 .1 .1 .1 .0) (x .last .1 .1 .1 .1 .1 .1 .1 .1 .1 .1 .0)) (compressed (x .last .1 .1 .1 .1 .1 .1 .1 .1 .1 .1 .1 .0) (x .last .1 .1 .1 .1 .1 .1 .1 .1 .1 .1 .1 .1 .0) (x .last .1 .1 .1 .1 .1 .1 .1 .1 .1 .1 .1 .1 .1 .0)) (x .last .1 .1 .1 .1 .1 .1 .1 .1 .1 .1 .1 .1 .1 .1 .0) (x .kept .1 .1 .1 .1 .1 .1 .0) (x .kept .1 .1 .1 .1 .1 .1 .1 .0) (x .kept .1 .1 .1 .1 .1 .1 .1 .1 .0) (x .kept .1 .1 .1 .1 .1 .1 .1 .1 .1 .1 .1 .0) (x .ensures)
+    lent-back (s .args .r) (plan s) (lent s) (s .pre) (x .result) (storageOf (x .last .1 .1 .1 .1 .1 .1 .0) (x .last .1 .1 .1 .1 .1 .1 .1 .0) (compressed (x .last .1 .1 .1 .1 .1 .1 .1 .1 .0) (x .last .1 .1 .1 .1 .1 .1 .1 .1 .1 .0) (x .last .1 .1 .1 .1 .1 .1 .1 .1 .1 .1 .0)) (compressed (x .last .1 .1 .1 .1 .1 .1 .1 .1 .1 .1 .1 .0) (x .last .1 .1 .1 .1 .1 .1 .1 .1 .1 .1 .1 .1 .0) (x .last .1 .1 .1 .1 .1 .1 .1 .1 .1 .1 .1 .1 .1 .0)) (x .last .1 .1 .1 .1 .1 .1 .1 .1 .1 .1 .1 .1 .1 .1 .0)) (x .kept .1 .1 .1 .1 .1 .1 .0) (x .kept .1 .1 .1 .1 .1 .1 .1 .0) (x .kept .1 .1 .1 .1 .1 .1 .1 .1 .0) (x .kept .1 .1 .1 .1 .1 .1 .1 .1 .1 .1 .1 .0) (x .ensures)
 
 pub factor-held-spec : {M : Type 1} → statement M
 factor-held-spec =

@@ -13,7 +13,7 @@ use Rattle.text_judge.specs.declared.judge.Sizes.{Sizes}
 use Rattle.text_opening.specs.declared.opening.Opening.{Opening}
 use Rattle.limits.specs.Limits.{startsLength}
 use Rattle.text_opening.specs.Reading.{ReadResult, fresh, readOf, triples}
-use Rattle.text_plan.specs.Call.{Settles}
+use Rattle.text_plan.specs.Needs.{Settles}
 use Rattle.text_opening.specs.Opening.{Limits, Bounded, afterOpen}
 use Rattle.text_plan.proofs.Answers.{gives-refusal, settles-refused, extendable, gives-read}
 use Rattle.text_plan.proofs.fill.Statement.{statement}

@@ -10,7 +10,7 @@ use Rattle.lists.proofs.Filled.{length-zeros}
 use Rattle.text_fields.specs.Pieces.{pieces}
 use Rattle.limits.specs.Limits.{startsLength}
 use Rattle.text_opening.specs.Reading.{fresh, triples}
-use Rattle.text_plan.specs.Call.{Settles}
+use Rattle.text_plan.specs.Needs.{Settles}
 use Rattle.text_plan.proofs.Settling.{refused-settles, read-settles}
 use Rattle.text_plan.proofs.read_lines.Statement.{statement}
 use Rattle.text_plan.proofs.read_lines.Tie as tie

@@ -8,6 +8,12 @@ use Rattle.plq.proofs.check.check_text.Tie as tie
 read-requires : tie.Need-read-requires
 read-requires c κs = search needs
 
+enum-told : tie.Need-enum-told
+enum-told c = search needs
+
+enum-told-2 : tie.Need-enum-told-2
+enum-told-2 c = search needs
+
 same-length : tie.Need-same-length
 same-length c = search needs
 
@@ -18,7 +24,7 @@ same-length-3 : tie.Need-same-length-3
 same-length-3 c = search needs
 
 returns : tie.Need-returns
-returns c = text-refused _ (compressed _ _ _) (compressed _ _ _) _ (c .before .before .before .before .before .before .before .before .before .before .before .before .before .before .before .before .before .before .pre) _ (c .before .before .before .before .before .before .before .before .read .ensures) _ (c .if1 .taken)
+returns c = text-refused _ (compressed _ _ _) (compressed _ _ _) _ (c .before .before .before .before .before .before .before .before .before .before .before .before .before .before .before .before .before .before .pre) _ (c .before .before .before .before .before .before .before .before .read .ensures) _ (c .enum-told2 .given .1)
 
 check-held-requires : tie.Need-check-held-requires
 check-held-requires c κs = let x = c .before .before .before .before .before .before .before .before .before .before .before .before .read in plan-held _ (compressed _ _ _) (compressed _ _ _) _ (c .before .before .before .before .before .before .before .before .before .before .before .before .before .before .before .before .before .before .before .before .before .before .pre) _ (x .ensures) (x .kept .1 .0) (x .kept .1 .1 .0) (x .kept .1 .1 .1 .0)
@@ -36,13 +42,15 @@ same-length-7 : tie.Need-same-length-7
 same-length-7 c = search needs
 
 returns-2 : tie.Need-returns-2
-returns-2 c = text-checked _ (compressed _ _ _) (compressed _ _ _) _ (c .before .before .before .before .before .before .before .before .before .before .before .before .before .before .before .before .before .before .before .before .before .before .before .before .before .pre) _ (c .before .before .before .before .before .before .before .before .before .before .before .before .before .before .before .read .ensures) _ _ (c .before .before .before .before .before .before .before .if1 .left) (c .before .before .check-held .ensures .outcome)
+returns-2 c = text-checked _ (compressed _ _ _) (compressed _ _ _) _ (c .before .before .before .before .before .before .before .before .before .before .before .before .before .before .before .before .before .before .before .before .before .before .before .before .before .pre) _ (c .before .before .before .before .before .before .before .before .before .before .before .before .before .before .before .read .ensures) _ _ (c .before .before .before .before .before .before .before .enum-told .given .1) (c .before .before .check-held .ensures .outcome)
 
 pub check-text-spec : {M : Type 1} → statement M
 check-text-spec =
     tie.close
     (tie.spec
     read-requires
+    enum-told
+    enum-told-2
     same-length
     same-length-2
     same-length-3
