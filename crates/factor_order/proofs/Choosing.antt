@@ -17,7 +17,7 @@ use Rattle.sparse.specs.Matrix.{Compressed, rowOf, form}
 use Rattle.sparse.proofs.Entries.{row-columns}
 use Rattle.sparse.proofs.Rows.{form-row, form-starts}
 use Rattle.elimination.specs.Structural.{size, leads, prefer, chosen}
-use Rattle.factor_order.specs.Search.{rowIn, RowWithin, PreferReady, Preferred, Chosen}
+use Rattle.factor_order.specs.Search.{rowIn, RowStarts, PreferReady, Preferred, Chosen}
 
 pub row-named : (x : ℕ) → (x ≡ 0 → ⊥) → rowIn x ≡ some (x - 1)
 row-named zero h = absurd (h refl)
@@ -53,7 +53,7 @@ module _ (ss : List ℕ) (i x : ℕ) where
 -- ---- what the form gives
 
 module _ (p m : ℕ) (A : Compressed) (formed : form p m A ≡ true) (i : ℕ) (inside : i + 1 < length (A .starts)) where
-  pub row-within : RowWithin (A .starts) i
+  pub row-within : RowStarts (A .starts) i
   row-within = record { inside = inside; rising = form-starts p m (A .starts) (A .cols) (A .vals) formed i inside .0 }
 
   module _ (some-entry : 0 < size A i) where

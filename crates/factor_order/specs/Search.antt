@@ -1,6 +1,6 @@
 -- The search for structural pivots. The working row has a cell for each column, which names the row chosen for it so far.
 --   rowIn x                      the row that a cell names: none where it is 0, else one less than it
---   RowWithin ss i               row i is one of the rows that start at ss, and its start is not past its end
+--   RowStarts ss i               row i is one of the rows that start at ss, and its start is not past its end
 --   PreferReady ss i x           the rows up to i are such, and the cell x names none or one before i
 --   Preferred ss i x y           y is the cell after row i, which leads at its column, where x was the cell before
 --   Chosen A i w                 the cells of w name the rows chosen among the first i
@@ -25,12 +25,12 @@ rowIn (suc i) = some i
 
 -- ---- the choice
 
-pub record RowWithin (ss : List ℕ) (i : ℕ) : Type 0 where
+pub record RowStarts (ss : List ℕ) (i : ℕ) : Type 0 where
   pub inside : i + 1 < length ss
   pub rising : getD ss i 0 ≤ getD ss (i + 1) 0
 
 pub record PreferReady (ss : List ℕ) (i x : ℕ) : Type 0 where
-  pub rows : (k : ℕ) → k ≤ i → RowWithin ss k
+  pub rows : (k : ℕ) → k ≤ i → RowStarts ss k
   pub before : x ≤ i
 
 pub record Preferred (ss : List ℕ) (i x y : ℕ) : Type 0 where

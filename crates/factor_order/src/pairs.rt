@@ -5,14 +5,14 @@ ghost use mathlib.Core.Path.{_≡_};
 ghost use Prim.Native.Nat.{_+_, _-_};
 ghost use lib.ListN.{length, getD};
 ghost use Rattle.factor_order.specs.Needs.{Searchable, Findable};
-ghost use Rattle.factor_order.specs.Search.{RowWithin, PreferReady, Preferred, Chosen, ChooseReady, ConsiderReady, PairsFound};
+ghost use Rattle.factor_order.specs.Search.{RowStarts, PreferReady, Preferred, Chosen, ChooseReady, ConsiderReady, PairsFound};
 ghost use Rattle.sparse.specs.Views.{before, after, storedAt, storedBefore};
 use limits::SIZE_CELLS;
 use lists::index;
 
 // How many entries row i has.
 fn entries(starts: &[u32], i: usize) -> u32
-    requires { ⌜ RowWithin (now starts) i ⌝ }
+    requires { ⌜ RowStarts (now starts) i ⌝ }
     ensures { λ r. ⌜ r ≡ getD (before starts) (i + 1) 0 - getD (before starts) i 0 ⌝ }
 {
     starts[i + 1] - starts[i]

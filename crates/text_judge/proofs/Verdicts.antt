@@ -12,7 +12,7 @@ use Rattle.text_judge.specs.declared.line.Line.{Line}
 use Rattle.text_judge.specs.declared.line.Line.the-variants.{Triple, NotTriple}
 use Rattle.text_judge.specs.declared.judge.Sizes.{Sizes}
 use Rattle.text_judge.specs.declared.judge.Verdict.the-variants.{Refused, Last, Entry}
-use Rattle.text_judge.specs.Judge.{judgeLine, residueAt, inRange, isLast, isZero, within, before}
+use Rattle.text_judge.specs.Judge.{judgeLine, residueAt, inRange, isLast, isZero, within, precedes}
 
 -- the line of an entry: its fields, each test passed
 pub record IsEntry (stands full : Bool) (s : Sizes) (l : Line) (i j v : ℕ) : Type 0 where
@@ -101,7 +101,7 @@ judged-last stands full s (Triple a b w) e =
 pub within-bounds : (i n : ℕ) → within i n ≡ true → (1 ≤ i) × (i ≤ n)
 within-bounds i n e = (leb-true 1 i (and-left (leb 1 i) (leb i n) e), leb-true i n (and-right (leb 1 i) (leb i n) e))
 
-pub before-row : (a b i j : ℕ) → before a b i j ≡ true → a ≤ i
+pub before-row : (a b i j : ℕ) → precedes a b i j ≡ true → a ≤ i
 before-row a b i j e = go (ltb a i) (eqb a i) refl refl e
   where
     go : (x y : Bool) → ltb a i ≡ x → eqb a i ≡ y → (x || (y && ltb b j)) ≡ true → a ≤ i

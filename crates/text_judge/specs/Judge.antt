@@ -5,7 +5,7 @@
 --   isZero v              v is `0`
 --   entryIf u i j v       the entry, or 7 where u says that the storage is used up and v is to be stored
 --   within i n            i lies from 1 to n
---   before a b i j        a and b stand before i and j: by row, then by column
+--   precedes a b i j        a and b stand before i and j: by row, then by column
 --   mayStand free l       the line l may stand where it says, as `free` tells of a place
 --   judgeLine f u s l         the verdict on the line l of a plan with the sizes s, where f says whether it may stand here and u
 --                         whether the entry storage is used up: 3, then 4, 5, 6, 7
@@ -42,8 +42,8 @@ isLast i j v = eqb i 0 && eqb j 0 && isZero v
 abbrev pub within : ℕ → ℕ → Bool
 within i n = leb 1 i && leb i n
 
-abbrev pub before : ℕ → ℕ → ℕ → ℕ → Bool
-before a b i j = ltb a i || (eqb a i && ltb b j)
+abbrev pub precedes : ℕ → ℕ → ℕ → ℕ → Bool
+precedes a b i j = ltb a i || (eqb a i && ltb b j)
 
 abbrev pub mayStand : (ℕ → ℕ → Bool) → Line → Bool
 mayStand free (Triple i j v) = free i j

@@ -2,7 +2,7 @@
 ghost use mathlib.Core.Path.{_≡_};
 ghost use Prim.Native.Nat.{_<_};
 ghost use Rattle.text_judge.specs.Line.{lineOf};
-ghost use Rattle.text_judge.specs.Judge.{before, mayStand, judgeLine};
+ghost use Rattle.text_judge.specs.Judge.{precedes, mayStand, judgeLine};
 ghost use Rattle.text_judge.specs.Sight.{judgedFrom};
 use crate::line::Line;
 use crate::sight::Sight;
@@ -25,7 +25,7 @@ pub enum Verdict {
 
 // Whether a and b stand before i and j: by row, then by column.
 fn is_before(a: u64, b: u64, i: u64, j: u64) -> bool
-    ensures { λ r. ⌜ r ≡ before a b i j ⌝ }
+    ensures { λ r. ⌜ r ≡ precedes a b i j ⌝ }
 {
     if a < i {
         return true;
@@ -38,7 +38,7 @@ fn is_before(a: u64, b: u64, i: u64, j: u64) -> bool
 
 // Whether a line may stand after the one at a and b.
 fn may_stand(a: u64, b: u64, line: Line) -> bool
-    ensures { λ r. ⌜ r ≡ mayStand (before a b) line ⌝ }
+    ensures { λ r. ⌜ r ≡ mayStand (precedes a b) line ⌝ }
 {
     match line {
         Line::Triple { i, j, v: _ } => is_before(a, b, i, j),
@@ -71,7 +71,7 @@ fn verdict_from(stands: bool, seen: Sight) -> Verdict
 // The line of these bytes, after the one at a and b; `full` says whether the entry storage is used up.
 pub fn judge_after(a: u64, b: u64, full: bool, s: Sizes, bytes: &[u8]) -> Verdict
     requires { ⌜ 0 < s .modulus .p ⌝ }
-    ensures { λ r. ⌜ r ≡ judgeLine (mayStand (before a b) (lineOf (now (bytes .entry)))) full s (lineOf (now (bytes .entry))) ⌝ }
+    ensures { λ r. ⌜ r ≡ judgeLine (mayStand (precedes a b) (lineOf (now (bytes .entry)))) full s (lineOf (now (bytes .entry))) ⌝ }
 {
     let line = crate::line::line_of(bytes);
     let stands = may_stand(a, b, line);

@@ -16,7 +16,7 @@ use Rattle.text_judge.specs.declared.judge.Verdict.the-variants.{Refused, Last,
 use Rattle.text_plan.specs.declared.triples.TripleLines.the-variants.{Read}
 use Rattle.limits.specs.Limits.{startsLength}
 use Rattle.text_judge.specs.Line.{lineOf}
-use Rattle.text_judge.specs.Judge.{judgeLine, mayStand, before}
+use Rattle.text_judge.specs.Judge.{judgeLine, mayStand, precedes}
 use Rattle.text_opening.specs.Reading.{Entry, ReadResult, refused, accepted, kept, onward, triples, verdictOn}
 use Rattle.text_plan.specs.Rising.{lastRow, lastColumn, rises}
 use Rattle.text_plan.specs.Stored.{startsOf, RowsWithin, EntriesStored}
@@ -104,13 +104,13 @@ module _ {text : List ℕ} {from : Place} {s : Sizes} {room : ℕ} {st co va : L
     unfolding triples
     no-feed h = g .same ∙ ap (triples rises s room (here .line) (g .seen)) (last-line (g .limits) e h)
 
-    module _ {verdict : Verdict} (j : verdict ≡ judgeLine (mayStand (before a b) (lineOf l)) (leb room count) s (lineOf l)) (ends : Ends text (here .at) (here .line) (length l))
+    module _ {verdict : Verdict} (j : verdict ≡ judgeLine (mayStand (precedes a b) (lineOf l)) (leb room count) s (lineOf l)) (ends : Ends text (here .at) (here .line) (length l))
         (next : Place) (follows : (next .at ≡ lineEnd text (here .at) + 1) × (next .line ≡ here .line + 1)) where
       abbrev rest : Pieces
       rest = pieces 10 (drop (next .at) text)
 
       verdict-is : verdict ≡ verdictOn rises s room (g .seen) l
-      verdict-is = j ∙ (λ k. judgeLine (mayStand (before (g .last-a k) (g .last-b k)) (lineOf l)) (leb room (g .stored .number k)) s (lineOf l))
+      verdict-is = j ∙ (λ k. judgeLine (mayStand (precedes (g .last-a k) (g .last-b k)) (lineOf l)) (leb room (g .stored .number k)) s (lineOf l))
 
       judged-line : whole ≡ onward s (here .line) (g .seen) rest (λ t. triples rises s room (here .line + 1) (t ∷ g .seen) rest) verdict
       unfolding triples
@@ -137,11 +137,11 @@ module _ {text : List ℕ} {from : Place} {s : Sizes} {room : ℕ} {st co va : L
         abbrev entry : Entry
         entry = record { row = i; column = k; value = v }
 
-        judged : IsEntry (mayStand (before a b) (lineOf l)) (leb room count) s (lineOf l) i k v
-        judged = judged-entry (mayStand (before a b) (lineOf l)) (leb room count) s (lineOf l) i k v (sym j ∙ ve)
+        judged : IsEntry (mayStand (precedes a b) (lineOf l)) (leb room count) s (lineOf l) i k v
+        judged = judged-entry (mayStand (precedes a b) (lineOf l)) (leb room count) s (lineOf l) i k v (sym j ∙ ve)
 
-        ordered : before a b i k ≡ true
-        ordered = sym (ap (mayStand (before a b)) (judged .line)) ∙ judged .order
+        ordered : precedes a b i k ≡ true
+        ordered = sym (ap (mayStand (precedes a b)) (judged .line)) ∙ judged .order
 
         -- a value that is stored has a place
         space : (v ≡ 0 → ⊥) → count < room

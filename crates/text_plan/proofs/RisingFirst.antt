@@ -17,7 +17,7 @@ use Rattle.text_fields.specs.declared.numbers.Number.the-variants.{Value, NotNu
 use Rattle.residue.specs.Range.{isModulus}
 use Rattle.limits.specs.Limits.{largestSize, largestText}
 use Rattle.text_judge.specs.Line.{lineOf, headerOf}
-use Rattle.text_judge.specs.Judge.{mayStand, before}
+use Rattle.text_judge.specs.Judge.{mayStand, precedes}
 use Rattle.text_opening.specs.Reading.{Entry, ReadResult, refused, accepted, kept, fresh, placed, ending, onward, triples, withSizes, fromSecond, withModulus, fromFirst, readBy, readOf}
 use Rattle.text_plan.specs.Rising.{lastRow, lastColumn, rises, readRisingOf}
 use Rattle.text_plan.specs.Call.{answerBy, readAnswerOf, answerRisingOf}
@@ -42,7 +42,7 @@ true-false e = let z : _≡_ {A = ℕ} 0 1 = cc in absurd (omega arith)
 abbrev pub Before : ℕ → ℕ → Entry → Type 0
 Before i j t = (t .row < i) ⊎ ((t .row ≡ i) × (t .column < j))
 
-is-before : (t : Entry) (i j : ℕ) → before (t .row) (t .column) i j ≡ true → Before i j t
+is-before : (t : Entry) (i j : ℕ) → precedes (t .row) (t .column) i j ≡ true → Before i j t
 is-before t i j e = go (or-cases (ltb (t .row) i) (eqb (t .row) i && ltb (t .column) j) e)
   where
     go : (ltb (t .row) i ≡ true) ⊎ ((eqb (t .row) i && ltb (t .column) j) ≡ true) → Before i j t
@@ -69,7 +69,7 @@ Risen s [] = Unit {0}
 Risen s (t ∷ ts) = All (Before (t .row) (t .column)) ts × In s t × Risen s ts
 
 -- what stands after the latest stands after all
-all-before : (s : Sizes) (seen : List Entry) (i j : ℕ) → Risen s seen → before (lastRow seen) (lastColumn seen) i j ≡ true → All (Before i j) seen
+all-before : (s : Sizes) (seen : List Entry) (i j : ℕ) → Risen s seen → precedes (lastRow seen) (lastColumn seen) i j ≡ true → All (Before i j) seen
 all-before s [] i j u e = tt
 all-before s (t ∷ ts) i j u e =
     let b = is-before t i j e in
@@ -154,20 +154,20 @@ rising-first s room (more l rest) k seen u =
         → First (onward s k seen rest before-next (judgedFrom may-rise v)) (onward s k seen rest next (judgedFrom (mayStand (fresh seen) (lineOf l)) v))
     go (Stops c) h ih = record { same = λ e. refl; fine = tt }
     go Finishes h ih = record { same = λ e. refl; fine = ending-fine s (k + 1) seen rest u }
-    go (Stands i j v) h ih = rw (ap (mayStand (rises seen)) (h .line), ap (mayStand (fresh seen)) (h .line)) (both (before (lastRow seen) (lastColumn seen) i j) refl)
+    go (Stands i j v) h ih = rw (ap (mayStand (rises seen)) (h .line), ap (mayStand (fresh seen)) (h .line)) (both (precedes (lastRow seen) (lastColumn seen) i j) refl)
       where
         t : Entry
         t = tripleOf i j v
 
-        both : (x : Bool) → before (lastRow seen) (lastColumn seen) i j ≡ x → First (onward s k seen rest before-next (judgedFrom x (Stands i j v))) (onward s k seen rest next (judgedFrom (fresh seen i j) (Stands i j v)))
+        both : (x : Bool) → precedes (lastRow seen) (lastColumn seen) i j ≡ x → First (onward s k seen rest before-next (judgedFrom x (Stands i j v))) (onward s k seen rest next (judgedFrom (fresh seen i j) (Stands i j v)))
         both true e =
             let a = all-before s seen i j u e in
             let inside : In s t = record { row-in = omega (arith, within-bounds i (s .n) (h .row-inside)); column-in = omega (arith, within-bounds j (s .m) (h .column-inside)) } in
             rw (all-fresh seen i j a) (ih t (a, inside, u))
         both false e = record { same = λ q. true-false q; fine = tt }
-    go (Fails c i j) h ih = rw (ap (mayStand (rises seen)) (h .line), ap (mayStand (fresh seen)) (h .line)) (both (before (lastRow seen) (lastColumn seen) i j) refl)
+    go (Fails c i j) h ih = rw (ap (mayStand (rises seen)) (h .line), ap (mayStand (fresh seen)) (h .line)) (both (precedes (lastRow seen) (lastColumn seen) i j) refl)
       where
-        both : (x : Bool) → before (lastRow seen) (lastColumn seen) i j ≡ x → First (onward s k seen rest before-next (judgedFrom x (Fails c i j))) (onward s k seen rest next (judgedFrom (fresh seen i j) (Fails c i j)))
+        both : (x : Bool) → precedes (lastRow seen) (lastColumn seen) i j ≡ x → First (onward s k seen rest before-next (judgedFrom x (Fails c i j))) (onward s k seen rest next (judgedFrom (fresh seen i j) (Fails c i j)))
         both true e = rw (all-fresh seen i j (all-before s seen i j u e)) (record { same = λ q. refl; fine = tt })
         both false e = record { same = λ q. true-false q; fine = tt }
 

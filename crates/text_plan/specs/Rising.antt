@@ -5,7 +5,7 @@
 use Prim.Native.Nat.{ℕ}
 use mathlib.Core.List.{List, [], _∷_}
 use mathlib.Core.Bool.{Bool}
-use Rattle.text_judge.specs.Judge.{before}
+use Rattle.text_judge.specs.Judge.{precedes}
 use Rattle.text_opening.specs.Reading.{Entry, ReadResult, readBy}
 
 abbrev pub lastRow : List Entry → ℕ
@@ -17,7 +17,7 @@ lastColumn [] = 0
 lastColumn (t ∷ ts) = t .column
 
 abbrev pub rises : List Entry → ℕ → ℕ → Bool
-rises seen i j = before (lastRow seen) (lastColumn seen) i j
+rises seen i j = precedes (lastRow seen) (lastColumn seen) i j
 
 abbrev pub readRisingOf : ℕ → List ℕ → ReadResult
 readRisingOf = readBy rises
