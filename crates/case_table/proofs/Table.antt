@@ -14,7 +14,7 @@ use Rattle.algebra.specs.Sum.{sum, dot, δ, place}
 use Rattle.algebra.specs.Prime.{Prime}
 use Rattle.algebra.specs.Matrix.{vector}
 use Rattle.algebra.specs.Rank.{Rank}
-use Rattle.algebra.specs.Reduction.{reduced}
+use Rattle.algebra.specs.Reduction.{reduced, multiples}
 use Rattle.residue.specs.Inverse.{invMod, inverseBelow}
 use Rattle.residue.specs.Primality.{isPrime, dividedBelow}
 use Rattle.residue.specs.Range.{isModulus}
@@ -33,7 +33,7 @@ use Rattle.row_space.specs.declared.Verdict.the-variants.{Open, Closed}
 use Rattle.elimination.specs.Structural.{leads, prefer, chosen, leading}
 use Rattle.elimination.specs.Chains.{chain, closes}
 use Rattle.elimination.specs.Selection.{pairAt, lowerPair as lowerOf, without, unfit, extended, extendedTo, free, lowest, ordered, selected, structural}
-use Rattle.elimination.specs.Pivots.{columnsOf, uppersOf, coefficients, withPivot, withDependent, placedRow, turn, turns}
+use Rattle.elimination.specs.Pivots.{columnsOf, uppersOf, multiplesBy, withPivot, withDependent, placedRow, turn, turns}
 use Rattle.elimination.specs.Factoring.{rest, schedule, rowsOf, lowersOf, factored, factorFrom, factor}
 use Rattle.elimination.proofs.Theorem.{factor-rank}
 use Rattle.elimination.proofs.Example.{roomD, D-pairs as pairs-computed, D-factors as factors-computed, D-rooms as rooms-computed}
@@ -93,7 +93,7 @@ unfolding isPrime dividedBelow
 two = true-prime 2 refl
 
 pub table : Table
-unfolding zeros tabulate all first sum dot δ place reduced invMod inverseBelow startsFrom startsOk risesFrom rowsFrom valuesOk wellFormed weigh columnsFrom nonzeros startsAfter allColumns allValues compress among below distinct permutation lowerRow lower upperRow upper agrees productOutcome judgeFactors judge backL backU lowest solve leads prefer chosen leading chain closes lowerOf without unfit extended extendedTo free lowestOf ordered selected structural columnsOf uppersOf coefficients withPivot withDependent placedRow turn turns among rest schedule rowsOf lowersOf factored factorFrom factor words bytes mark version factorNumbers numbersOf certificateOf placesOf field setIn setOfCertificate begins lengthOk sizesOk headerOk isPrime dividedBelow isModulus planLengths setLengths limitsOk planOutcome certificateOutcome checkCertificateOf
+unfolding zeros tabulate all first sum dot δ place reduced invMod inverseBelow startsFrom startsOk risesFrom rowsFrom valuesOk wellFormed weigh columnsFrom nonzeros startsAfter allColumns allValues compress among below distinct permutation lowerRow lower upperRow upper agrees productOutcome judgeFactors judge backL backU lowest solve leads prefer chosen leading chain closes lowerOf without unfit extended extendedTo free lowestOf ordered selected structural columnsOf uppersOf multiplesBy multiples withPivot withDependent placedRow turn turns among rest schedule rowsOf lowersOf factored factorFrom factor words bytes mark version factorNumbers numbersOf certificateOf placesOf field setIn setOfCertificate begins lengthOk sizesOk headerOk isPrime dividedBelow isModulus planLengths setLengths limitsOk planOutcome certificateOutcome checkCertificateOf
 table =
     record {
       empty-rank = factor-rank 7 0 0 silent seven refl refl;

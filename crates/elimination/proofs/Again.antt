@@ -20,11 +20,11 @@ use Rattle.sparse.specs.Dense.{columnsFrom, nonzeros, compress}
 use Rattle.sparse.proofs.DenseLaws.{values-same, columns-same, compress-same}
 use Rattle.elimination.specs.Structural.{Pair}
 use Rattle.elimination.specs.Pairs.{Pairs}
-use Rattle.elimination.specs.Pivots.{Found, columnsOf, uppersOf, upperOf, rankOf, reducedBy, coefficients, turns}
+use Rattle.elimination.specs.Pivots.{Found, columnsOf, uppersOf, upperOf, rankOf, reducedBy, multiplesBy, turns}
 use Rattle.elimination.specs.Factoring.{schedule, nothing, rowsOf, lowersOf, factored, factorFrom}
 use Rattle.elimination.specs.Invariant.{cells, Echelon, Lower, Invariant}
 use Rattle.elimination.proofs.Invariant.{uppers-many, Remainder}
-use Rattle.elimination.proofs.Turns.{coefficient-residue, reduced-remainder}
+use Rattle.elimination.proofs.Turns.{multiple-residue, reduced-remainder}
 use Rattle.elimination.proofs.Schedule.{schedule-holds}
 use Rattle.elimination.proofs.Theorem.{lowers-many, row-combines}
 
@@ -59,61 +59,61 @@ padded-at (x ∷ xs) n zero = refl
 padded-at (x ∷ xs) n (suc k) = padded-at xs n k
 
 module _ (p n m : ℕ) (A : Matrix) (prime : Prime p) (f : Found) (v : Invariant p n m A f) (i : ℕ) (small : (j : ℕ) → j < m → A i j < p) (ls : List ℕ) (h : Lower p n m A (uppersOf f) i ls) where
-  remainder : Remainder p n m A f i (coefficients p f (A i)) (reducedBy p f (rankOf f) (A i))
+  remainder : Remainder p n m A f i (multiplesBy p f (A i)) (reducedBy p f (rankOf f) (A i))
   remainder = reduced-remainder p n m A prime f v i small (h .row)
 
   -- both combine the row at the pivot columns, where nothing remains
   both : (l : ℕ) → l < length (uppersOf f)
       → dot (length (uppersOf f)) (vector ls) (λ k. upperOf f k (getD (columnsOf f) l 0))
-      ≈⟨ p ⟩ dot (length (uppersOf f)) (vector (coefficients p f (A i))) (λ k. upperOf f k (getD (columnsOf f) l 0))
+      ≈⟨ p ⟩ dot (length (uppersOf f)) (vector (multiplesBy p f (A i))) (λ k. upperOf f k (getD (columnsOf f) l 0))
   both l b =
       let c = v .echelon .rows l b .inside in
       turn (h .product (getD (columnsOf f) l 0) c) ⊙ remainder .split (getD (columnsOf f) l 0) c ⊙ exact (omega (arith, remainder .clear l b))
 
-  pub lower-again : (k : ℕ) → getD ls k 0 ≡ getD (coefficients p f (A i)) k 0
+  pub lower-again : (k : ℕ) → getD ls k 0 ≡ getD (multiplesBy p f (A i)) k 0
   lower-again k = go (decLt k (length (uppersOf f)))
     where
-      go : Dec (k < length (uppersOf f)) → getD ls k 0 ≡ getD (coefficients p f (A i)) k 0
+      go : Dec (k < length (uppersOf f)) → getD ls k 0 ≡ getD (multiplesBy p f (A i)) k 0
       go (yes b) =
-          equal-residues (h .residues k) (coefficient-residue p n m A prime f v i small k)
-          (combination-unique p (length (uppersOf f)) prime (λ k l. upperOf f k (getD (columnsOf f) l 0)) (echelon-triangular p m prime (columnsOf f) (uppersOf f) (v .echelon)) (vector ls) (vector (coefficients p f (A i))) both k b)
+          equal-residues (h .residues k) (multiple-residue p n m A prime f v i small k)
+          (combination-unique p (length (uppersOf f)) prime (λ k l. upperOf f k (getD (columnsOf f) l 0)) (echelon-triangular p m prime (columnsOf f) (uppersOf f) (v .echelon)) (vector ls) (vector (multiplesBy p f (A i))) both k b)
       go (no b) =
           List·getD-eq-default ls 0 {n = k} (omega (arith, h .narrow))
-          ∙ sym (List·getD-eq-default (coefficients p f (A i)) 0 {n = k} (omega (arith, remainder .long)))
+          ∙ sym (List·getD-eq-default (multiplesBy p f (A i)) 0 {n = k} (omega (arith, remainder .long)))
 
-  pub columns-again : columnsFrom 0 ls ≡ columnsFrom 0 (coefficients p f (A i))
-  columns-again = columns-same 0 ls (coefficients p f (A i)) lower-again
+  pub columns-again : columnsFrom 0 ls ≡ columnsFrom 0 (multiplesBy p f (A i))
+  columns-again = columns-same 0 ls (multiplesBy p f (A i)) lower-again
 
-  pub values-again : nonzeros ls ≡ nonzeros (coefficients p f (A i))
-  values-again = values-same ls (coefficients p f (A i)) lower-again
+  pub values-again : nonzeros ls ≡ nonzeros (multiplesBy p f (A i))
+  values-again = values-same ls (multiplesBy p f (A i)) lower-again
 
-  pub padded-again : filled (rankOf f) ls ≡ coefficients p f (A i)
+  pub padded-again : filled (rankOf f) ls ≡ multiplesBy p f (A i)
   unfolding filled
   padded-again =
-      ext-getD 0 (filled (rankOf f) ls) (coefficients p f (A i))
+      ext-getD 0 (filled (rankOf f) ls) (multiplesBy p f (A i))
       (length-filled (rankOf f) ls (omega (arith, h .narrow, uppers-many f)) ∙ sym (remainder .long ∙ uppers-many f))
       (λ k b. padded-at ls (rankOf f - length ls) k ∙ lower-again k)
 
 -- L as a whole, in R's order
 pub L-again : (p n m : ℕ) (A : Matrix) → Prime p → ((i j : ℕ) → i < n → j < m → A i j < p) → (f : Found) → Invariant p n m A f
-    → compress (lowersOf f) ≡ compress (map (λ i. coefficients p f (A i)) (rowsOf f))
+    → compress (lowersOf f) ≡ compress (map (λ i. multiplesBy p f (A i)) (rowsOf f))
 L-again p n m A prime small f v =
-    compress-same (lowersOf f) (map (λ i. coefficients p f (A i)) (rowsOf f))
-    (record { as-many = lowers-many f ∙ sym (length-map (rowsOf f) (λ i. coefficients p f (A i))); cells = cell })
+    compress-same (lowersOf f) (map (λ i. multiplesBy p f (A i)) (rowsOf f))
+    (record { as-many = lowers-many f ∙ sym (length-map (rowsOf f) (λ i. multiplesBy p f (A i))); cells = cell })
   where
-    cell : (k j : ℕ) → k < length (lowersOf f) → getD (getD (lowersOf f) k []) j 0 ≡ getD (getD (map (λ i. coefficients p f (A i)) (rowsOf f)) k []) j 0
+    cell : (k j : ℕ) → k < length (lowersOf f) → getD (getD (lowersOf f) k []) j 0 ≡ getD (getD (map (λ i. multiplesBy p f (A i)) (rowsOf f)) k []) j 0
     cell k j b =
         let h = row-combines p n m A f v k (omega (arith, lowers-many f)) in
         lower-again p n m A prime f v (getD (rowsOf f) k 0) (λ j l. small (getD (rowsOf f) k 0) j (h .row) l) (getD (lowersOf f) k []) h j
         ∙ ap (λ (l : List ℕ). getD l j 0) (sym (map-at (rowsOf f) k (omega (arith, lowers-many f))))
       where
-        map-at : (xs : List ℕ) (k : ℕ) → k < length xs → getD (map (λ i. coefficients p f (A i)) xs) k [] ≡ coefficients p f (A (getD xs k 0))
+        map-at : (xs : List ℕ) (k : ℕ) → k < length xs → getD (map (λ i. multiplesBy p f (A i)) xs) k [] ≡ multiplesBy p f (A (getD xs k 0))
         map-at [] k b = absurd (omega arith)
         map-at (x ∷ xs) zero b = refl
         map-at (x ∷ xs) (suc k) b = map-at xs k (omega arith)
 
 -- and of the finished factors
 pub factorFrom-again : (p n m : ℕ) (A : Matrix) (pairs : List Pair) → Prime p → ((i j : ℕ) → i < n → j < m → A i j < p) → Pairs n m A pairs
-    → factorFrom p n m A pairs .L ≡ compress (map (λ i. coefficients p (turns p m A nothing (schedule n pairs)) (A i)) (factorFrom p n m A pairs .R))
+    → factorFrom p n m A pairs .L ≡ compress (map (λ i. multiplesBy p (turns p m A nothing (schedule n pairs)) (A i)) (factorFrom p n m A pairs .R))
 unfolding factorFrom factored
 factorFrom-again p n m A pairs prime small h = L-again p n m A prime small (turns p m A nothing (schedule n pairs)) (schedule-holds p n m A prime small pairs h)

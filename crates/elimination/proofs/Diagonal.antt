@@ -17,7 +17,7 @@ use Rattle.sparse.specs.Dense.{columnsFrom, nonzeros, compress}
 use Rattle.sparse.proofs.DenseLaws.{compress-columns, compress-values}
 use Rattle.elimination.specs.Structural.{Pair}
 use Rattle.elimination.specs.Pairs.{pairRows, pairColumns}
-use Rattle.elimination.specs.Pivots.{Pivot, Found, rankOf, reducedBy, coefficients, withPivot, withDependent, Turn, pair, other, turn, turns}
+use Rattle.elimination.specs.Pivots.{Pivot, Found, rankOf, reducedBy, multiplesBy, withPivot, withDependent, Turn, pair, other, turn, turns}
 use Rattle.elimination.specs.Factoring.{rest, schedule, nothing, lowersOf, factored, factorFrom}
 use Rattle.elimination.proofs.Listed.{snoc-length}
 use Rattle.elimination.specs.Invariant.{noPivot}
@@ -64,7 +64,7 @@ module _ (p m : ℕ) (A : Matrix) where
   unfolding turn
   turn-kept f (pair q) = pivot-kept f (q .row) (q .column) (zeros (rankOf f)) (A (q .row))
   turn-kept f (other i) =
-      other-either p m A f i (Kept f) (dependent-kept f i (coefficients p f (A i))) (λ c. pivot-kept f i c (coefficients p f (A i)) (reducedBy p f (rankOf f) (A i)))
+      other-either p m A f i (Kept f) (dependent-kept f i (multiplesBy p f (A i))) (λ c. pivot-kept f i c (multiplesBy p f (A i)) (reducedBy p f (rankOf f) (A i)))
 
   turns-kept : (f : Found) (ts : List Turn) → Kept f (turns p m A f ts)
   unfolding turns

@@ -7,14 +7,14 @@ use Rattle.lists.specs.Filled.{zeros}
 use Rattle.lists.specs.Tabulate.{tabulate}
 use Rattle.lists.specs.Tests.{first, among}
 use Rattle.algebra.specs.Sum.{sum, dot, δ, place}
-use Rattle.algebra.specs.Reduction.{reduced}
+use Rattle.algebra.specs.Reduction.{reduced, multiples}
 use Rattle.residue.specs.Inverse.{invMod, inverseBelow}
 use Rattle.sparse.specs.Matrix.{Compressed, compressed, matrix}
 use Rattle.sparse.specs.Set.{setOf}
 use Rattle.sparse.specs.Row.{weigh}
 use Rattle.sparse.specs.Dense.{columnsFrom, nonzeros, startsAfter, allColumns, allValues, compress}
 use Rattle.elimination.specs.Structural.{leads, prefer, chosen, leading}
-use Rattle.elimination.specs.Pivots.{columnsOf, uppersOf, coefficients, withPivot, withDependent, placedRow, turn, turns}
+use Rattle.elimination.specs.Pivots.{columnsOf, uppersOf, multiplesBy, withPivot, withDependent, placedRow, turn, turns}
 use Rattle.elimination.specs.Factoring.{rest, schedule, rowsOf, lowersOf, nothing, entries, fits, firstOver, factored, factorFrom}
 use Rattle.elimination.specs.Chains.{chain, closes}
 use Rattle.elimination.specs.Selection.{pairAt, lowerPair, without, unfit, extended, extendedTo, free, lowest, ordered, selected, structural}
@@ -37,7 +37,7 @@ pub D-factors : factorFrom 7 5 5 (matrix D) (structural D 5 5)
     (0 ∷ 2 ∷ 1 ∷ 4 ∷ 3 ∷ [])
     (compressed (0 ∷ 1 ∷ 2 ∷ 3 ∷ 4 ∷ 6 ∷ []) (0 ∷ 1 ∷ 2 ∷ 3 ∷ 0 ∷ 2 ∷ []) (2 ∷ 5 ∷ 3 ∷ 3 ∷ 4 ∷ 3 ∷ []))
     (compressed (0 ∷ 2 ∷ 4 ∷ 6 ∷ 7 ∷ []) (0 ∷ 2 ∷ 1 ∷ 2 ∷ 1 ∷ 3 ∷ 4 ∷ []) (1 ∷ 4 ∷ 3 ∷ 1 ∷ 1 ∷ 5 ∷ 1 ∷ []))
-unfolding zeros tabulate first sum dot δ place reduced invMod inverseBelow weigh columnsFrom nonzeros startsAfter allColumns allValues compress leads prefer chosen leading columnsOf uppersOf coefficients withPivot withDependent placedRow turn turns among rest schedule rowsOf lowersOf factored factorFrom chain closes lowerPair without unfit extended extendedTo free lowest ordered selected structural
+unfolding zeros tabulate first sum dot δ place reduced invMod inverseBelow weigh columnsFrom nonzeros startsAfter allColumns allValues compress leads prefer chosen leading columnsOf uppersOf multiplesBy multiples withPivot withDependent placedRow turn turns among rest schedule rowsOf lowersOf factored factorFrom chain closes lowerPair without unfit extended extendedTo free lowest ordered selected structural
 D-factors = refl
 
 -- with room for so many entries of L and of U
@@ -45,7 +45,7 @@ abbrev pub roomD : ℕ → ℕ → Option ℕ
 roomD l u = firstOver 7 5 (matrix D) l u nothing (schedule 5 (structural D 5 5))
 
 pub D-rooms : (roomD 6 7 ≡ none) × (roomD 4 7 ≡ some 2) × (roomD 6 6 ≡ some 4)
-unfolding zeros tabulate first sum dot δ place reduced invMod inverseBelow weigh columnsFrom nonzeros startsAfter allColumns allValues compress leads prefer chosen leading columnsOf uppersOf coefficients withPivot withDependent placedRow turn turns among rest schedule rowsOf lowersOf entries fits firstOver chain closes lowerPair without unfit extended extendedTo free lowest ordered selected structural
+unfolding zeros tabulate first sum dot δ place reduced invMod inverseBelow weigh columnsFrom nonzeros startsAfter allColumns allValues compress leads prefer chosen leading columnsOf uppersOf multiplesBy multiples withPivot withDependent placedRow turn turns among rest schedule rowsOf lowersOf entries fits firstOver chain closes lowerPair without unfit extended extendedTo free lowest ordered selected structural
 D-rooms = (refl, refl, refl)
 
 -- the rows 0 1, 1 2 and 0 2: row 2 leads to row 0, row 0 to row 1, and row 1 back to column 2

@@ -9,7 +9,7 @@ use borrow.Author.Tests.{eq-eqb, ne-eqb}
 use Rattle.algebra.specs.Matrix.{Vector, Matrix}
 use Rattle.elimination.specs.Structural.{Pair}
 use Rattle.elimination.specs.Pairs.{pairRows}
-use Rattle.elimination.specs.Pivots.{Pivot, Found, rankOf, reducedBy, coefficients, withPivot, withDependent, pair, other, turn, turns}
+use Rattle.elimination.specs.Pivots.{Pivot, Found, rankOf, reducedBy, multiplesBy, withPivot, withDependent, pair, other, turn, turns}
 use Rattle.lists.specs.Tests.{among}
 use Rattle.elimination.specs.Factoring.{rest, schedule, nothing, rowsOf}
 use Rattle.elimination.proofs.Listed.{map-append, among-append}
@@ -86,8 +86,8 @@ module _ (ps : List ℕ) (k : ℕ) (f : Found) (o : Ordered ps k f) where
 module _ (p m : ℕ) (A : Matrix) where
   turn-ordered : (ps : List ℕ) (k : ℕ) (f : Found) → Ordered ps k f → among k ps ≡ false → Ordered ps (suc k) (turn p m A f (other k))
   turn-ordered ps k f o e =
-      other-either p m A f k (Ordered ps (suc k)) (ordered-dependent ps k f o e (coefficients p f (A k)))
-      (λ c. ordered-pivot ps k f o p m c (coefficients p f (A k)) (reducedBy p f (rankOf f) (A k)))
+      other-either p m A f k (Ordered ps (suc k)) (ordered-dependent ps k f o e (multiplesBy p f (A k)))
+      (λ c. ordered-pivot ps k f o p m c (multiplesBy p f (A k)) (reducedBy p f (rankOf f) (A k)))
 
   others-ordered : (ps : List ℕ) (k : ℕ) (f : Found) → Ordered ps 0 f → Ordered ps k (turns p m A f (map other (rest ps k)))
   unfolding rest turns

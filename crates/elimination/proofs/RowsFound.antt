@@ -10,7 +10,7 @@ use Rattle.lists.specs.Filled.{zeros}
 use Rattle.algebra.specs.Matrix.{Vector, Matrix, Distinct, Permutation, vector}
 use Rattle.elimination.specs.Structural.{Pair}
 use Rattle.elimination.specs.Pairs.{pairRows, Pairs}
-use Rattle.elimination.specs.Pivots.{Pivot, Dependent, Found, rankOf, reducedBy, coefficients, withPivot, withDependent, Turn, pair, other, turn, turns}
+use Rattle.elimination.specs.Pivots.{Pivot, Dependent, Found, rankOf, reducedBy, multiplesBy, withPivot, withDependent, Turn, pair, other, turn, turns}
 use Rattle.lists.specs.Tests.{among}
 use Rattle.elimination.specs.Factoring.{rest, schedule, nothing, rowsOf, rowOfTurn}
 use Rattle.elimination.proofs.Listed.{snoc-length, map-append, among-append, listed}
@@ -81,8 +81,8 @@ module _ (p m : ℕ) (A : Matrix) where
   unfolding turn
   turn-row f (pair q) = pivot-row f (q .row) p m (q .column) (zeros (rankOf f)) (A (q .row))
   turn-row f (other i) =
-      other-either p m A f i (λ f′. OneMore f f′ i) (dependent-row f i (coefficients p f (A i)))
-      (λ c. pivot-row f i p m c (coefficients p f (A i)) (reducedBy p f (rankOf f) (A i)))
+      other-either p m A f i (λ f′. OneMore f f′ i) (dependent-row f i (multiplesBy p f (A i)))
+      (λ c. pivot-row f i p m c (multiplesBy p f (A i)) (reducedBy p f (rankOf f) (A i)))
 
   pub turns-length : (f : Found) (ts : List Turn) → length (rowsOf (turns p m A f ts)) ≡ length (rowsOf f) + length ts
   unfolding turns

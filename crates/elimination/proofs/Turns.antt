@@ -7,6 +7,7 @@ use native.Mathlib.Omega.{arith}
 use lib.Dec.{eqb, leb}
 use lib.ListN.{length, getD, List·getD-eq-default}
 use borrow.Author.Tests.{leb-true, leb-false, eqb-true, eqb-false}
+use Rattle.algebra.specs.Reduction.{multiples}
 use Rattle.lists.specs.Filled.{zeros}
 use Rattle.lists.specs.Tests.{first}
 use Rattle.lists.proofs.Filled.{length-zeros, zeros-at}
@@ -19,20 +20,20 @@ use Rattle.algebra.proofs.Congruence.{exact, _⊙_}
 use Rattle.algebra.proofs.Dot.{dot-vanish, dot-eq}
 use Rattle.algebra.proofs.Reduction.{taken, reduced-small, reduced-split, reduced-pivot}
 use Rattle.elimination.specs.Structural.{Pair}
-use Rattle.elimination.specs.Pivots.{Found, columnsOf, uppersOf, upperOf, rankOf, reducedBy, coefficients, withPivot, withDependent, placedRow, pair, other, turn}
+use Rattle.elimination.specs.Pivots.{Found, columnsOf, uppersOf, upperOf, rankOf, reducedBy, multiplesBy, withPivot, withDependent, placedRow, pair, other, turn}
 use Rattle.elimination.specs.Invariant.{Invariant}
 use Rattle.elimination.proofs.Invariant.{uppers-many, Remainder, dependent-holds, pivot-holds}
 
 -- another row becomes a dependent row or a pivot row
-pub other-either : (p m : ℕ) (A : Matrix) (f : Found) (i : ℕ) (P : Found → Type 0) → P (withDependent f i (coefficients p f (A i)))
-    → ((c : ℕ) → P (withPivot p m f i c (coefficients p f (A i)) (reducedBy p f (rankOf f) (A i)))) → P (turn p m A f (other i))
+pub other-either : (p m : ℕ) (A : Matrix) (f : Found) (i : ℕ) (P : Found → Type 0) → P (withDependent f i (multiplesBy p f (A i)))
+    → ((c : ℕ) → P (withPivot p m f i c (multiplesBy p f (A i)) (reducedBy p f (rankOf f) (A i)))) → P (turn p m A f (other i))
 unfolding turn placedRow
 other-either p m A f i P dependent pivot = go (leb m c)
   where
     c : ℕ
     c = first m (λ j. eqb (reducedBy p f (rankOf f) (A i) j) 0)
 
-    go : (b : Bool) → P (cond b (withDependent f i (coefficients p f (A i))) (withPivot p m f i c (coefficients p f (A i)) (reducedBy p f (rankOf f) (A i))))
+    go : (b : Bool) → P (cond b (withDependent f i (multiplesBy p f (A i))) (withPivot p m f i c (multiplesBy p f (A i)) (reducedBy p f (rankOf f) (A i))))
     go true = dependent
     go false = pivot c
 
@@ -48,31 +49,31 @@ module _ (p n m : ℕ) (A : Matrix) (prime : Prime p) (f : Found) (v : Invariant
   abbrev remains : Vector
   remains = reducedBy p f (rankOf f) (A i)
 
-  abbrev multiples : Vector
-  multiples = taken p pos m (rankOf f) (vector (columnsOf f)) (upperOf f) inside (A i) small
+  abbrev each : Vector
+  each = taken p pos m (rankOf f) (vector (columnsOf f)) (upperOf f) inside (A i) small
 
-  pub coefficient-at : (k : ℕ) → k < rankOf f → getD (coefficients p f (A i)) k 0 ≡ reducedBy p f k (A i) (getD (columnsOf f) k 0)
-  unfolding coefficients
-  coefficient-at k h = tabulate-at (rankOf f) (λ k. reducedBy p f k (A i) (getD (columnsOf f) k 0)) k h
+  pub multiple-at : (k : ℕ) → k < rankOf f → getD (multiplesBy p f (A i)) k 0 ≡ reducedBy p f k (A i) (getD (columnsOf f) k 0)
+  unfolding multiplesBy multiples
+  multiple-at k h = tabulate-at (rankOf f) (λ k. reducedBy p f k (A i) (getD (columnsOf f) k 0)) k h
 
-  pub coefficients-long : length (coefficients p f (A i)) ≡ rankOf f
-  unfolding coefficients
-  coefficients-long = length-tabulate (rankOf f) (λ k. reducedBy p f k (A i) (getD (columnsOf f) k 0))
+  pub multiples-long : length (multiplesBy p f (A i)) ≡ rankOf f
+  unfolding multiplesBy multiples
+  multiples-long = length-tabulate (rankOf f) (λ k. reducedBy p f k (A i) (getD (columnsOf f) k 0))
 
-  pub coefficient-residue : (k : ℕ) → getD (coefficients p f (A i)) k 0 < p
-  coefficient-residue k = go (decLt k (rankOf f))
+  pub multiple-residue : (k : ℕ) → getD (multiplesBy p f (A i)) k 0 < p
+  multiple-residue k = go (decLt k (rankOf f))
     where
-      go : Dec (k < rankOf f) → getD (coefficients p f (A i)) k 0 < p
-      go (yes h) = rw (coefficient-at k h) (reduced-small p pos m (rankOf f) (vector (columnsOf f)) (upperOf f) inside (A i) small k (vector (columnsOf f) k) (inside k h))
-      go (no h) = omega (arith, pos, List·getD-eq-default (coefficients p f (A i)) 0 {n = k} (omega (arith, coefficients-long)))
+      go : Dec (k < rankOf f) → getD (multiplesBy p f (A i)) k 0 < p
+      go (yes h) = rw (multiple-at k h) (reduced-small p pos m (rankOf f) (vector (columnsOf f)) (upperOf f) inside (A i) small k (vector (columnsOf f) k) (inside k h))
+      go (no h) = omega (arith, pos, List·getD-eq-default (multiplesBy p f (A i)) 0 {n = k} (omega (arith, multiples-long)))
 
-  pub reduced-remainder : i < n → Remainder p n m A f i (coefficients p f (A i)) remains
+  pub reduced-remainder : i < n → Remainder p n m A f i (multiplesBy p f (A i)) remains
   unfolding taken
   reduced-remainder row =
       record {
         row = row;
-        long = coefficients-long ∙ sym (uppers-many f);
-        residues = coefficient-residue;
+        long = multiples-long ∙ sym (uppers-many f);
+        residues = multiple-residue;
         small = reduced-small p pos m (rankOf f) (vector (columnsOf f)) (upperOf f) inside (A i) small (rankOf f);
         clear = λ k h. reduced-pivot p pos m (rankOf f) (vector (columnsOf f)) (upperOf f) inside (A i) small
             (λ k j l b. v .echelon .rows k (omega (arith, uppers-many f)) .left j l)
@@ -83,10 +84,10 @@ module _ (p n m : ℕ) (A : Matrix) (prime : Prime p) (f : Found) (v : Invariant
             ⊙ exact (ap (λ (x : ℕ). remains j + x) (whole j));
       }
     where
-      whole : (j : ℕ) → dot (rankOf f) multiples (λ k. upperOf f k j) ≡ dot (length (uppersOf f)) (vector (coefficients p f (A i))) (λ k. upperOf f k j)
+      whole : (j : ℕ) → dot (rankOf f) each (λ k. upperOf f k j) ≡ dot (length (uppersOf f)) (vector (multiplesBy p f (A i))) (λ k. upperOf f k j)
       whole j =
-          dot-eq (rankOf f) {u = multiples} {u′ = vector (coefficients p f (A i))} {v = λ k. upperOf f k j} (λ k h. sym (coefficient-at k h)) (λ k h. refl)
-          ∙ ap (λ (r : ℕ). dot r (vector (coefficients p f (A i))) (λ k. upperOf f k j)) (sym (uppers-many f))
+          dot-eq (rankOf f) {u = each} {u′ = vector (multiplesBy p f (A i))} {v = λ k. upperOf f k j} (λ k h. sym (multiple-at k h)) (λ k h. refl)
+          ∙ ap (λ (r : ℕ). dot r (vector (multiplesBy p f (A i))) (λ k. upperOf f k j)) (sym (uppers-many f))
 
 -- ---- the two turns
 
@@ -101,15 +102,15 @@ module _ (p n m : ℕ) (A : Matrix) (prime : Prime p) (small : (i j : ℕ) → i
       c : ℕ
       c = first m (λ j. eqb (w j) 0)
 
-      h : Remainder p n m A f i (coefficients p f (A i)) w
+      h : Remainder p n m A f i (multiplesBy p f (A i)) w
       h = reduced-remainder p n m A prime f v i (λ j l. small i j row l) row
 
-      go : (b : Bool) → leb m c ≡ b → Invariant p n m A (cond b (withDependent f i (coefficients p f (A i))) (withPivot p m f i c (coefficients p f (A i)) w))
+      go : (b : Bool) → leb m c ≡ b → Invariant p n m A (cond b (withDependent f i (multiplesBy p f (A i))) (withPivot p m f i c (multiplesBy p f (A i)) w))
       go true e =
-          dependent-holds p n m A f i (coefficients p f (A i)) w v h
+          dependent-holds p n m A f i (multiplesBy p f (A i)) w v h
           (λ j l. eqb-true (w j) 0 (first-before m (λ j. eqb (w j) 0) j (omega (arith, leb-true m c e))))
       go false e =
-          pivot-holds p n m A prime f i c (coefficients p f (A i)) w v h (leb-false m c e)
+          pivot-holds p n m A prime f i c (multiplesBy p f (A i)) w v h (leb-false m c e)
           (eqb-false (w c) 0 (first-here m (λ j. eqb (w j) 0) (leb-false m c e)))
 
   pub pair-holds : (q : Pair) → q .row < n → q .column < m → ¬ (A (q .row) (q .column) ≡ 0)

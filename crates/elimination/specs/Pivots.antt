@@ -5,7 +5,7 @@
 --   columnsOf, upperOf   the pivot columns, and the rows of U as a matrix
 --   uppersOf, rankOf   the rows of U as dense rows, and how many there are
 --   reducedBy p f k y  y less multiples of the first k rows of U
---   coefficients       the multiples that were taken away, one for each pivot
+--   multiplesBy       the multiples that were taken away, one for each pivot
 --   withPivot, withDependent   what is found, and one pivot row or one dependent row more
 --   placedRow             a row by its remainder: dependent where that is zero, else a pivot row
 --   Turn               what is done next: a structural pivot, or another row
@@ -20,7 +20,7 @@ use Rattle.lists.specs.Filled.{zeros}
 use Rattle.lists.specs.Tabulate.{tabulate}
 use Rattle.lists.specs.Tests.{first}
 use Rattle.algebra.specs.Matrix.{Vector, Matrix, vector}
-use Rattle.algebra.specs.Reduction.{reduced}
+use Rattle.algebra.specs.Reduction.{reduced, multiples}
 use Rattle.residue.specs.Inverse.{invMod}
 use Rattle.elimination.specs.Structural.{Pair}
 
@@ -56,8 +56,8 @@ abbrev pub reducedBy : ℕ → Found → ℕ → Vector → Vector
 reducedBy p f k y = reduced p (vector (columnsOf f)) (upperOf f) k y
 
 -- the multiples that were taken away, one for each pivot
-unfoldable pub coefficients : ℕ → Found → Vector → List ℕ
-coefficients p f y = tabulate (rankOf f) (λ k. reducedBy p f k y (getD (columnsOf f) k 0))
+unfoldable pub multiplesBy : ℕ → Found → Vector → List ℕ
+multiplesBy p f y = multiples p (rankOf f) (vector (columnsOf f)) (upperOf f) y
 
 -- row i becomes a pivot row at column c, where its remainder w has the value w c
 unfoldable pub withPivot : ℕ → ℕ → Found → ℕ → ℕ → List ℕ → Vector → Found
@@ -81,7 +81,7 @@ pub data Turn : Type 0 where
 unfoldable pub turn : (p m : ℕ) (A : Matrix) → Found → Turn → Found
 turn p m A f (pair q) = withPivot p m f (q .row) (q .column) (zeros (rankOf f)) (A (q .row))
 turn p m A f (other i) =
-    placedRow p m f i (coefficients p f (A i)) (reducedBy p f (rankOf f) (A i)) (first m (λ j. eqb (reducedBy p f (rankOf f) (A i) j) 0))
+    placedRow p m f i (multiplesBy p f (A i)) (reducedBy p f (rankOf f) (A i)) (first m (λ j. eqb (reducedBy p f (rankOf f) (A i) j) 0))
 
 unfoldable pub turns : (p m : ℕ) (A : Matrix) → Found → List Turn → Found
 turns p m A f [] = f

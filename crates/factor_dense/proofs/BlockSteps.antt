@@ -8,10 +8,10 @@ use lib.ListN.{length, getD, take, set, length-set}
 use lib.Seq.{getD-set-same, getD-set-other, getD-take, length-take-le}
 use Rattle.lists.proofs.Tabulate.{tabulated}
 use Rattle.algebra.specs.Matrix.{vector}
-use Rattle.algebra.specs.Reduction.{reduced}
+use Rattle.algebra.specs.Reduction.{reduced, multiples}
 use Rattle.residue.specs.Arithmetic.{Residue}
 use Rattle.sparse.specs.WorkingRow.{Subtracted}
-use Rattle.factor_reduce.specs.InPlace.{RemainderRow, multiples}
+use Rattle.factor_reduce.specs.InPlace.{RemainderRow}
 use Rattle.factor_reduce.proofs.Multiples.{reduced-next}
 use Rattle.factor_dense.specs.Block.{cellsOf}
 use Rattle.factor_dense.specs.Taking.{residuesOf, BlockReduced}

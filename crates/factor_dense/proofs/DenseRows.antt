@@ -16,14 +16,13 @@ use Rattle.lists.proofs.Filled.{length-zeros}
 use Rattle.lists.proofs.Tabulate.{length-tabulate, tabulate-at, tabulate-ext, tabulated}
 use Rattle.lists.proofs.Tests.{first-here}
 use Rattle.algebra.specs.Matrix.{Vector, Matrix, vector}
-use Rattle.algebra.specs.Reduction.{reduced}
+use Rattle.algebra.specs.Reduction.{reduced, multiples}
 use Rattle.residue.specs.Inverse.{invMod}
 use Rattle.sparse.specs.Matrix.{Compressed, matrix}
 use Rattle.sparse.specs.Dense.{columnsFrom, nonzeros}
 use Rattle.sparse.specs.Storing.{DenseStored}
 use Rattle.sparse.proofs.Nonzeros.{count-append, nonzeros-one, stored-then, stored-columns, stored-values}
 use Rattle.sparse.proofs.Rows.{form-below}
-use Rattle.factor_reduce.specs.InPlace.{multiples}
 use Rattle.factor_row.specs.Gathering.{Reduction, reductionBy, cut}
 use Rattle.factor_row.specs.Entries.{entryListsOf}
 use Rattle.factor_row.specs.Taking.{nextUpperRow}

@@ -14,12 +14,12 @@ use Rattle.lists.specs.Tests.{first}
 use Rattle.lists.proofs.Tests.{first-all, first-fails, first-before, first-here, first-ext}
 use Rattle.lists.proofs.Tabulate.{tabulate-ext, length-tabulate}
 use Rattle.algebra.specs.Matrix.{Vector, Matrix, vector}
-use Rattle.algebra.specs.Reduction.{reduced}
+use Rattle.algebra.specs.Reduction.{reduced, multiples}
 use Rattle.algebra.proofs.Reduction.{reduced-pivot}
 use Rattle.sparse.specs.Dense.{columnsFrom, nonzeros}
 use Rattle.sparse.specs.Storing.{DenseStored}
 use Rattle.sparse.proofs.Nonzeros.{count-append, stored-then}
-use Rattle.factor_reduce.specs.InPlace.{multiples, RemainderRow}
+use Rattle.factor_reduce.specs.InPlace.{RemainderRow}
 use Rattle.factor_dense.specs.Block.{LeftColumns, BlockHolds, Upper, whereNonzero}
 use Rattle.factor_dense.specs.Taking.{residuesOf, LeftCells, BlockReduced}
 use Rattle.factor_dense.specs.Storing.{RowScaled}

@@ -7,8 +7,7 @@ use native.Mathlib.Omega.{arith}
 use Rattle.lists.specs.Tabulate.{tabulate}
 use Rattle.lists.proofs.Tabulate.{tabulate-ext}
 use Rattle.algebra.specs.Matrix.{Vector, Matrix}
-use Rattle.algebra.specs.Reduction.{reduced}
-use Rattle.factor_reduce.specs.InPlace.{multiples}
+use Rattle.algebra.specs.Reduction.{reduced, multiples}
 use Rattle.factor_dense.specs.Block.{cellsOf, BlockHolds}
 
 suc-add : (a b : ℕ) → suc a + b ≡ suc (a + b)

@@ -6,8 +6,9 @@ use Prim.Native.Nat.{ℕ, _%_, _≤_, _<_}
 use mathlib.Core.Path.{_≡_}
 use mathlib.Core.List.{List}
 use lib.ListN.{length, getD, take}
+use Rattle.algebra.specs.Reduction.{multiples}
 use Rattle.algebra.specs.Matrix.{Vector, vector}
-use Rattle.factor_reduce.specs.InPlace.{RemainderRow, multiples}
+use Rattle.factor_reduce.specs.InPlace.{RemainderRow}
 use Rattle.factor_dense.specs.Block.{cellsOf}
 
 abbrev pub residuesOf : ℕ → List ℕ → Vector

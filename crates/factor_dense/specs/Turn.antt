@@ -13,13 +13,14 @@ use mathlib.Core.Bool.{false, not, _&&_}
 use mathlib.Core.List.{List, [], _∷_}
 use lib.Dec.{leb}
 use lib.ListN.{length, getD, take}
+use Rattle.algebra.specs.Reduction.{multiples}
 use Rattle.lists.specs.Filled.{zeros}
 use Rattle.algebra.specs.Matrix.{Vector, vector}
 use Rattle.residue.specs.Inverse.{invMod}
 use Rattle.sparse.specs.Row.{Below}
 use Rattle.sparse.specs.Dense.{nonzeros}
 use Rattle.sparse.specs.Storing.{DenseStored}
-use Rattle.factor_reduce.specs.InPlace.{RemainderRow, multiples}
+use Rattle.factor_reduce.specs.InPlace.{RemainderRow}
 use Rattle.factor_row.specs.Gathering.{Reduction}
 use Rattle.factor_row.specs.Entries.{EntryLists}
 use Rattle.factor_row.specs.Taking.{nextUpperRow, RowFound}

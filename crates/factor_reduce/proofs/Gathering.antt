@@ -11,12 +11,12 @@ use borrow.Author.Tests.{leb-true, leb-false, le-leb, lt-leb}
 use Rattle.lists.specs.Tabulate.{tabulate}
 use Rattle.lists.proofs.Tabulate.{length-tabulate}
 use Rattle.algebra.specs.Matrix.{Vector, Matrix, vector}
-use Rattle.algebra.specs.Reduction.{reduced}
+use Rattle.algebra.specs.Reduction.{reduced, multiples}
 use Rattle.sparse.specs.Matrix.{Compressed, matrix}
 use Rattle.sparse.specs.Dense.{nonzeros}
 use Rattle.sparse.specs.Storing.{DenseStored}
 use Rattle.sparse.proofs.Nonzeros.{count-append, nonzeros-zero, nonzeros-one, stored-none, stored-zero, stored-one, stored-then, stored-columns, stored-values}
-use Rattle.factor_reduce.specs.InPlace.{multiples, RemainderRow, MultipleTaken}
+use Rattle.factor_reduce.specs.InPlace.{RemainderRow, MultipleTaken}
 use Rattle.factor_reduce.specs.Gathering.{EntryGathered, MultiplesGathered}
 use Rattle.factor_reduce.specs.Needs.{EntryReady, GatherReady}
 use Rattle.factor_reduce.proofs.Multiples.{nothing-taken, reduced-next}

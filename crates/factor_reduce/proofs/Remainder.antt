@@ -7,9 +7,8 @@ use native.Mathlib.Omega.{arith}
 use lib.ListN.{length}
 use Rattle.lists.proofs.Tabulate.{tabulate-ext}
 use Rattle.algebra.specs.Matrix.{Vector, Matrix, vector}
-use Rattle.algebra.specs.Reduction.{reduced}
+use Rattle.algebra.specs.Reduction.{reduced, multiples}
 use Rattle.sparse.specs.Matrix.{Compressed, matrix}
-use Rattle.factor_reduce.specs.InPlace.{multiples}
 use Rattle.factor_reduce.specs.Gathering.{MultiplesGathered}
 
 reduced-ext : (p r m : ℕ) (C : Vector) (U : Matrix) (y z : Vector) → ((k : ℕ) → k < r → C k < m) → ((j : ℕ) → j < m → y j ≡ z j)

@@ -7,11 +7,12 @@ use mathlib.Core.Bool.{Bool, false, not}
 use mathlib.Core.List.{List, [], _∷_}
 use lib.Dec.{leb}
 use lib.ListN.{length}
+use Rattle.algebra.specs.Reduction.{multiples}
 use Rattle.algebra.specs.Matrix.{Vector, vector}
 use Rattle.sparse.specs.Matrix.{Compressed, matrix}
 use Rattle.sparse.specs.Dense.{nonzeros}
 use Rattle.sparse.specs.Storing.{DenseStored}
-use Rattle.factor_reduce.specs.InPlace.{multiples, RemainderRow, MultipleTaken}
+use Rattle.factor_reduce.specs.InPlace.{RemainderRow, MultipleTaken}
 
 pub record EntryGathered (p k c : ℕ) (u : Vector) (x at limit : ℕ) (w₀ lc₀ lv₀ w lc lv : List ℕ) (over : Bool) (next : ℕ) : Type 0 where
   pub taken : MultipleTaken p c u w₀ w x

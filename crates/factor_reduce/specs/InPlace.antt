@@ -1,6 +1,5 @@
 -- A vector y reduced in the working row by the rows of U, in order: the value that stands at pivot column C[k] when row k comes is the
 -- multiple of row k that is taken away.
---   multiples p r C U y          the multiples of the first r rows that are taken away from y, in order: the row of L
 --   RemainderRow p m k C U y w   the m cells of the working row stand for what remains of y after the first k rows
 --   MultipleTaken p c u w₀ w x   x is the residue at column c, and x times the row u is taken away from every cell, modulo p
 use Prim.Native.Nat.{ℕ, _+_, _*_, _%_, _<_}
@@ -13,9 +12,6 @@ use Rattle.algebra.specs.Matrix.{Vector, Matrix}
 use Rattle.algebra.specs.Reduction.{reduced}
 use Rattle.residue.specs.Arithmetic.{Residue}
 use Rattle.sparse.specs.Row.{Below}
-
-unfoldable pub multiples : ℕ → ℕ → Vector → Matrix → Vector → List ℕ
-multiples p r C U y = tabulate r (λ k. reduced p C U k y (C k))
 
 pub record RemainderRow (p m k : ℕ) (C : Vector) (U : Matrix) (y : Vector) (w : List ℕ) : Type 0 where
   pub long : length w ≡ m

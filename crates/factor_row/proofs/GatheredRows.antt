@@ -8,6 +8,7 @@ use lib.Dec.{leb}
 use lib.ListN.{length, getD, take}
 use lib.Seq.{slice, length-take-le}
 use borrow.Author.Tests.{leb-true, leb-false, le-leb, lt-leb}
+use Rattle.algebra.specs.Reduction.{multiples}
 use Rattle.lists.specs.Tabulate.{tabulate}
 use Rattle.algebra.specs.Matrix.{vector}
 use Rattle.sparse.specs.Matrix.{Compressed, compressed, matrix}
@@ -16,7 +17,6 @@ use Rattle.factor_reduce.specs.Gathering.{MultiplesGathered}
 use Rattle.factor_reduce.specs.Needs.{GatherReady}
 use Rattle.factor_reduce.proofs.Remainder.{gathered-ext}
 use Rattle.factor_reduce.specs.declared.gather.Gathered.{Gathered}
-use Rattle.factor_reduce.specs.InPlace.{multiples}
 use Rattle.factor_row.specs.Gathering.{reductionBy, cut, RowGathered}
 use Rattle.factor_row.specs.Needs.{GatherRowReady, GatherReadyFrom}
 use Rattle.factor_row.proofs.LoadedRows.{loaded-long, loaded-cell, upper-loaded}

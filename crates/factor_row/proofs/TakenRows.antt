@@ -9,6 +9,7 @@ use native.Mathlib.Omega.{arith}
 use lib.Dec.{leb, eqb}
 use borrow.Author.Tests.{leb-true, leb-false, lt-leb, eqb-false}
 use lib.ListN.{length, getD, take}
+use Rattle.algebra.specs.Reduction.{multiples}
 use Rattle.lists.specs.Filled.{zeros}
 use Rattle.lists.specs.Tabulate.{tabulate}
 use Rattle.lists.specs.Tests.{first}
@@ -22,7 +23,6 @@ use Rattle.sparse.specs.Dense.{nonzeros, scaled}
 use Rattle.sparse.specs.Storing.{DenseStored}
 use Rattle.sparse.proofs.Nonzeros.{count-append, nonzeros-one, stored-then, stored-one, stored-columns, stored-values, scaled-tabulate, count-scaled}
 use Rattle.factor_reduce.specs.declared.gather.Gathered.{Gathered}
-use Rattle.factor_reduce.specs.InPlace.{multiples}
 use Rattle.factor_row.specs.declared.pivot_row.Step.{Step}
 use Rattle.factor_row.specs.Gathering.{Reduction, reductionOf, reductionBy, cut, StandsFor, RowGathered}
 use Rattle.factor_row.specs.Entries.{entryListsOf}

@@ -16,13 +16,12 @@ use lib.ListN.{length, getD, take}
 use Rattle.lists.specs.Filled.{zeros}
 use Rattle.lists.specs.Tests.{first}
 use Rattle.algebra.specs.Matrix.{Vector, vector}
-use Rattle.algebra.specs.Reduction.{reduced}
+use Rattle.algebra.specs.Reduction.{reduced, multiples}
 use Rattle.sparse.specs.Row.{Below}
 use Rattle.sparse.specs.Matrix.{Compressed, compressed, matrix}
 use Rattle.sparse.specs.Dense.{nonzeros}
 use Rattle.sparse.specs.Storing.{DenseStored}
 use Rattle.factor_reduce.specs.declared.gather.Gathered.{Gathered}
-use Rattle.factor_reduce.specs.InPlace.{multiples}
 
 pub record Reduction : Type 0 where
   pub width : ℕ

@@ -17,7 +17,7 @@ use Rattle.sparse.specs.Storing.{DenseStored}
 use Rattle.sparse.proofs.Rows.{form-below}
 use Rattle.sparse.proofs.DenseLaws.{compress-lengths}
 use Rattle.sparse.proofs.Nonzeros.{stored-columns, stored-values}
-use Rattle.elimination.specs.Pivots.{Found, uppersOf, coefficients}
+use Rattle.elimination.specs.Pivots.{Found, uppersOf, multiplesBy}
 use Rattle.elimination.specs.Factoring.{lowersOf, entries}
 use Rattle.elimination.specs.Invariant.{Lower}
 use Rattle.elimination.proofs.Invariant.{uppers-many}
@@ -118,7 +118,7 @@ module _ (p : ℕ) (A : Compressed) (R C : List ℕ) (L U : Compressed) (w : Lis
       abbrev taken : List ℕ
       taken = reductionBy p (length w) r (take r C) (cut r at (U .starts) (U .cols) (U .vals)) (matrix A (getD R k 0)) .multiples
 
-      taken-is : taken ≡ coefficients p f (matrix A (getD R k 0))
+      taken-is : taken ≡ multiplesBy p f (matrix A (getD R k 0))
       taken-is = multiples-found p (length w) (matrix A) (getD R k 0) false f R C L U r at l total (g .state) (λ e. absurd (true≢false (sym e)))
 
       same-columns : columnsFrom 0 taken ≡ columnsFrom 0 row

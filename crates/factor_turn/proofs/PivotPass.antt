@@ -16,7 +16,7 @@ use Rattle.algebra.specs.Matrix.{Matrix, Distinct, vector}
 use Rattle.sparse.specs.Matrix.{Compressed, matrix}
 use Rattle.sparse.specs.Set.{storageOf}
 use Rattle.elimination.specs.Pairs.{pairRows, pairColumns}
-use Rattle.elimination.specs.Pivots.{Found, Turn, columnsOf, uppersOf, rankOf, withDependent, pair, other, turn, reducedBy, coefficients}
+use Rattle.elimination.specs.Pivots.{Found, Turn, columnsOf, uppersOf, rankOf, withDependent, pair, other, turn, reducedBy, multiplesBy}
 use Rattle.elimination.specs.Factoring.{schedule, nothing, rowOfTurn, entries, lowersOf, fits, firstOver}
 use Rattle.elimination.proofs.Completion.{completed}
 use Rattle.elimination.specs.Invariant.{Invariant}
@@ -55,7 +55,7 @@ pub rank-turn : (p m : ℕ) (A : Matrix) (f : Found) (paired : Bool) (i c : ℕ)
 unfolding turn withDependent
 rank-turn p m A f true i c = omega (arith, rank-more p m f i c (zeros (rankOf f)) (A i))
 rank-turn p m A f false i c =
-    other-either p m A f i (λ g. rankOf g ≤ suc (rankOf f)) (omega arith) (λ c. omega (arith, rank-more p m f i c (coefficients p f (A i)) (reducedBy p f (rankOf f) (A i))))
+    other-either p m A f i (λ g. rankOf g ≤ suc (rankOf f)) (omega arith) (λ c. omega (arith, rank-more p m f i c (multiplesBy p f (A i)) (reducedBy p f (rankOf f) (A i))))
 
 rank-pair : (p m : ℕ) (A : Matrix) (f : Found) (paired : Bool) (i c : ℕ) → paired ≡ true → rankOf (turn p m A f (turnOf paired i c)) ≡ suc (rankOf f)
 unfolding turn

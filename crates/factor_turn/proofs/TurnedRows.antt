@@ -12,13 +12,12 @@ use Rattle.lists.specs.Filled.{zeros}
 use Rattle.lists.specs.Tabulate.{tabulate}
 use Rattle.lists.specs.Tests.{first}
 use Rattle.algebra.specs.Matrix.{Vector, Matrix, vector}
-use Rattle.algebra.specs.Reduction.{reduced}
+use Rattle.algebra.specs.Reduction.{reduced, multiples}
 use Rattle.sparse.specs.Matrix.{Compressed, compressed, matrix}
 use Rattle.sparse.specs.Set.{storageOf}
 use Rattle.sparse.proofs.DenseLaws.{compress-matrix}
-use Rattle.elimination.specs.Pivots.{Found, uppersOf, upperOf, rankOf, reducedBy, coefficients, withPivot, withDependent, placedRow, turn}
+use Rattle.elimination.specs.Pivots.{Found, uppersOf, upperOf, rankOf, reducedBy, multiplesBy, withPivot, withDependent, placedRow, turn}
 use Rattle.elimination.specs.Factoring.{entries, fits}
-use Rattle.factor_reduce.specs.InPlace.{multiples}
 use Rattle.factor_row.specs.declared.pivot_row.Step.{Step}
 use Rattle.factor_row.specs.Gathering.{Reduction, reductionBy, cut}
 use Rattle.factor_row.specs.Entries.{entryListsOf}
@@ -45,8 +44,8 @@ module _ (p m : ℕ) (A : Matrix) (i : ℕ) (paired : Bool) (f : Found) (R C : L
   reduced-found : (k : ℕ) → reduced p (vector (take r C)) (matrix cutU) k (A i) ≡ reducedBy p f k (A i)
   reduced-found k t = reduced p (vector (s .columns t)) (matrices t) k (A i)
 
-  pub multiples-found : reductionBy p m r (take r C) cutU (A i) .multiples ≡ coefficients p f (A i)
-  unfolding multiples coefficients
+  pub multiples-found : reductionBy p m r (take r C) cutU (A i) .multiples ≡ multiplesBy p f (A i)
+  unfolding multiples multiplesBy
   multiples-found t = tabulate (s .rank t) (λ k. reduced p (vector (s .columns t)) (matrices t) k (A i) (vector (s .columns t) k))
 
   remainder-found : reductionBy p m r (take r C) cutU (A i) .remainder ≡ reducedBy p f (rankOf f) (A i)

@@ -16,7 +16,7 @@ use Rattle.lists.specs.Tabulate.{tabulate}
 use Rattle.lists.specs.Tests.{first}
 use Rattle.algebra.specs.Sum.{δ}
 use Rattle.algebra.specs.Matrix.{Vector, vector}
-use Rattle.algebra.specs.Reduction.{reduced}
+use Rattle.algebra.specs.Reduction.{reduced, multiple}
 use Rattle.sparse.specs.Matrix.{matrix}
 use Rattle.sparse.specs.Set.{Set}
 use Rattle.row_space.specs.Substitution.{throughL, throughU}
@@ -27,7 +27,7 @@ abbrev pub remainder : ℕ → Set → Vector → Vector
 remainder p s y = reduced p (vector (s .C)) (matrix (s .U)) (s .r) y
 
 abbrev pub multiplesOf : ℕ → Set → Vector → Vector
-multiplesOf p s y = λ k. reduced p (vector (s .C)) (matrix (s .U)) k y (vector (s .C) k)
+multiplesOf p s y = multiple p (vector (s .C)) (matrix (s .U)) y
 
 unfoldable pub lowestOf : ℕ → Vector → ℕ
 lowestOf m v = first m (λ j. eqb (v j) 0)
