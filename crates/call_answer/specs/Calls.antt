@@ -1,6 +1,5 @@
 -- The calls that answer a question, in document 01's order of refusals: 9, 1, 2, 8, 10, 11 to 14, then 15.
 --   answerNumber, answerDetail    document 01's number of an answer, 0 where it is open or closed, and its detail
---   NotRefused r                  the answer is no refusal
 --   answerOf v                    the answer with the verdict v
 --   questionLengths n m y a b     a question y of m values, with a = n cells for x and b = m cells for z
 --   questionAfter check ..        the outcome of a call with a question: 9 for its lists, the check of the set, then 15
@@ -42,9 +41,6 @@ abbrev pub answerDetail : Answer → ℕ
 answerDetail (Answer.Refused number detail) = detail
 answerDetail Answer.Open = 0
 answerDetail Answer.Closed = 0
-
-abbrev pub NotRefused : Answer → Type 0
-NotRefused r = (number detail : ℕ) → ¬ (r ≡ Answer.Refused number detail)
 
 abbrev pub answerOf : Verdict → Answer
 answerOf Verdict.Open = Answer.Open
