@@ -6,13 +6,13 @@
 use Prim.Native.Nat.{ℕ}
 use mathlib.Core.Bool.{cond}
 use mathlib.Core.List.{List, []}
-use lib.Dec.{eqb, ltb}
+use lib.Dec.{ltb}
 use Rattle.limits.specs.Limits.{printRoom}
-use Rattle.refusals.specs.Refusals.{_▷_, unless}
+use Rattle.refusals.specs.Refusals.{_▷_}
 use Rattle.refusals.specs.declared.Outcome.{Outcome}
 use Rattle.refusals.specs.declared.Outcome.the-variants.{Passed, Refused}
 use Rattle.stages.specs.declared.Stages.{Stages}
-use Rattle.stages.specs.Stages.{reading, readOutcome, factoredOf, factorOutcome}
+use Rattle.stages.specs.Stages.{reading, factoredOf}
 use Rattle.report_lib.specs.Reporting.{reportOf}
 
 -- ---- reading and factoring
@@ -22,15 +22,13 @@ ifPassed Passed k = k
 ifPassed (Refused number detail) k = 0
 
 unfoldable pub heldRank : Stages → ℕ
-heldRank s =
-    let f = s .factored in
-    ifPassed (readOutcome (s .reading) ▷ unless (eqb (f .number) 0) (f .number) (f .detail)) (f .rank)
+heldRank s = ifPassed (s .reading .outcome ▷ s .factored .outcome) (s .factored .rank)
 
 unfoldable pub timedRank : List ℕ → ℕ
 timedRank text =
     let x = reading text in
     let f = factoredOf x in
-    ifPassed (readOutcome (x .result) ▷ factorOutcome f) (f .rank)
+    ifPassed (x .result .outcome ▷ f .outcome) (f .rank)
 
 -- ---- the report
 

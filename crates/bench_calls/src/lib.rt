@@ -11,6 +11,7 @@ use limits::SIZE_CELLS;
 use limits::START_CELLS;
 use limits::WORK_CELLS;
 use lists::clear_bytes;
+use refusals::Outcome;
 use report_lib::report;
 use stages::Stages;
 use stages::factor_text;
@@ -21,12 +22,14 @@ fn rank_staged(s: Stages) -> u64
 {
     let r = s.reading;
     let f = s.factored;
-    if r.number != 0 {
+    let reading = r.outcome;
+    let Outcome::Passed = reading else {
         return 0;
-    }
-    if f.number != 0 {
+    };
+    let factoring = f.outcome;
+    let Outcome::Passed = factoring else {
         return 0;
-    }
+    };
     f.rank as u64
 }
 

@@ -4,15 +4,17 @@ use case_print::list;
 use case_print::nonzero;
 use case_print::nonzero_row;
 use case_print::number;
+use case_print::outcome;
 use factor_all::factor::Factored;
+use refusals::Outcome;
 use std::num::wrapping_add_u32;
 
 // A case's name and what factoring returned.
 fn line(name: &[u8], f: Factored) {
     io::write_all(1, name);
     io::write_all(1, b":");
-    number(f.number as u64);
-    number(f.detail as u64);
+    let o = f.outcome;
+    outcome(o);
     io::write_all(1, b" rank");
     number(f.rank as u64);
     io::write_all(1, b" structural");
@@ -84,7 +86,8 @@ pub fn result(
 ) {
     line(name, f);
     cells(ro, co, ls, lc, lv, us, uc, uv, work);
-    if f.number == 0 {
+    let o = f.outcome;
+    if let Outcome::Passed = o {
         orders(ro, co);
         factor(b"  L", n, ls, lc, lv);
         factor(b"  U", f.rank, us, uc, uv);

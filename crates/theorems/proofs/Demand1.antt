@@ -29,15 +29,15 @@ use native.Mathlib.Omega.{arith}
 use lib.ListN.{length, take}
 use Rattle.lists.specs.Filled.{zeros}
 use Rattle.refusals.specs.Table.{textFaults, planFaults, setFaults, storageTooShort, wrongLength, questionTooLarge}
-use Rattle.refusals.specs.Refusals.{numberOf, NumberFrom}
+use Rattle.refusals.specs.Refusals.{numberOf, detailOf, NumberFrom}
 use Rattle.refusals.specs.declared.Outcome.{Outcome}
 use Rattle.refusals.specs.declared.Outcome.the-variants.{Passed}
 use Rattle.algebra.specs.Prime.{Prime}
 use Rattle.residue.specs.Range.{isModulus, largestModulus}
 use Rattle.residue.specs.Signed.{residueOf}
 use Rattle.residue.proofs.Primes.{modulus-prime, modulus-range, prime-modulus}
-use Rattle.sparse.specs.Matrix.{Compressed, matrix}
-use Rattle.sparse.specs.Set.{Set}
+use Rattle.sparse.specs.Matrix.{Compressed, compressed, matrix}
+use Rattle.sparse.specs.Set.{Set, Storage}
 use Rattle.sparse.specs.Row.{Below}
 use Rattle.lists.specs.Members.{Member}
 use Rattle.elimination.specs.Selection.{structural}
@@ -64,7 +64,8 @@ use Rattle.call_write.specs.Call.{writeOutcome, WritesCertificate}
 use Rattle.call_write.specs.Accepted.{CanWrite}
 use Rattle.call_write.specs.declared.Written.{Written}
 use Rattle.call_write.proofs.Theorems as writes
-use Rattle.factor_all.specs.Outcome.{Leaves}
+use Rattle.factor_all.specs.Factorization.{Leaves}
+use Rattle.factor_all.specs.declared.factor.Factored.{Factored}
 use Rattle.call_factor.specs.Calls.{factorCallOf}
 use Rattle.call_factor.specs.Accepted.{LentRight, FactorsFit, Factorable, FactorCleared}
 use Rattle.call_factor.specs.declared.Lent.{Lent}
@@ -91,19 +92,19 @@ use Rattle.ask_lib.proofs.Theorems as asks
 -- ---- reading: a, b and c are the lengths of the lent starts, columns and values; r is the result
 
 module _ (text : List ℕ) (a b c : ℕ) (r : Reading) (starts columns values : List ℕ) (call : Gives (callOf text a b c) r starts columns values) where
-  pub read-exactly : (r .number ≡ 0) ↔ ((a ≡ startsLength) × (b ≡ c) × StatesPlan b text)
+  pub read-exactly : (numberOf (r .outcome) ≡ 0) ↔ ((a ≡ startsLength) × (b ≡ c) × StatesPlan b text)
   read-exactly = reads.done-exactly text a b c r starts columns values call
 
   pub stored-as-stated : a ≡ startsLength → b ≡ c → (h : StatesPlan b text) → HoldsPlan (h .sizes) (h .triples) r starts columns values
   stored-as-stated = reads.holds-stated text a b c r starts columns values call
 
-  pub read-accepted : r .number ≡ 0 → GoodPlan (r .p) (r .n) (r .m) (heldPlan r starts columns values)
+  pub read-accepted : numberOf (r .outcome) ≡ 0 → GoodPlan (r .p) (r .n) (r .m) (heldPlan r (compressed starts columns values))
   read-accepted = reads.read-good text a b c r starts columns values call
 
-  pub read-by : NumberFrom textFaults (r .number)
+  pub read-by : NumberFrom textFaults (numberOf (r .outcome))
   read-by = reads.read-by text a b c r starts columns values call
 
-  pub read-cleared : ¬ (r .number ≡ 0) → ReadCleared a b c r starts columns values
+  pub read-cleared : ¬ (numberOf (r .outcome) ≡ 0) → ReadCleared a b c r starts columns values
   read-cleared = reads.read-cleared text a b c r starts columns values call
 
   -- `readRisingOf` and `answerRisingOf` are the reading and the answer as they were while triples had to rise, by row and then by column
@@ -120,27 +121,26 @@ order-does-not-matter = reads.read-any-order
 -- t is any of the triples that are stated: xs stand before it, ys after it
 pub read-each-triple : (s : Sizes) (room : ℕ) (xs : List StatedEntry) (t : StatedEntry) (ys : List StatedEntry) → Plan room s (xs ++ (t ∷ ys))
     → (r : Reading) (starts columns values : List ℕ) → Gives (callOf (planText s (xs ++ (t ∷ ys))) startsLength room room) r starts columns values
-    → matrix (heldPlan r starts columns values) (t .row - 1) (t .column - 1) ≡ residueOf (s .modulus .p) (integerOf (t .value))
+    → matrix (heldPlan r (compressed starts columns values)) (t .row - 1) (t .column - 1) ≡ residueOf (s .modulus .p) (integerOf (t .value))
 read-each-triple = reads.each-stated
 
--- ---- factoring: l has the lengths of the lent lists; R, C, L, U and w are the lists as left
+-- ---- factoring: l has the lengths of the lent lists; o is the result, h are the lists as left
 
-module _ (p n m : ℕ) (A : Compressed) (l : Lent) (number detail rank pivots : ℕ) (R C : List ℕ) (L U : Compressed) (w : List ℕ)
-    (call : Leaves (factorCallOf p n m A l) number detail rank pivots R C L U w) where
-  pub factor-exactly : (number ≡ 0) ↔ Factorable p n m A l
-  factor-exactly = factors.factored-exactly p n m A l number detail rank pivots R C L U w call
+module _ (p n m : ℕ) (A : Compressed) (l : Lent) (o : Factored) (h : Storage) (call : Leaves (factorCallOf p n m A l) o h) where
+  pub factor-exactly : (numberOf (o .outcome) ≡ 0) ↔ Factorable p n m A l
+  factor-exactly = factors.factored-exactly p n m A l o h call
 
-  pub factor-seven : GoodPlan p n m A → LentRight n m l → (number ≡ storageTooShort) ↔ (¬ FactorsFit p n m A l)
-  factor-seven = factors.factored-seven p n m A l number detail rank pivots R C L U w call
+  pub factor-seven : GoodPlan p n m A → LentRight n m l → (numberOf (o .outcome) ≡ storageTooShort) ↔ (¬ FactorsFit p n m A l)
+  factor-seven = factors.factored-seven p n m A l o h call
 
-  pub factor-row : number ≡ storageTooShort → Overflows p m (matrix A) (l .lc) (l .uc) nothing (schedule n (structural A n m)) detail
-  factor-row = factors.factored-row p n m A l number detail rank pivots R C L U w call
+  pub factor-row : numberOf (o .outcome) ≡ storageTooShort → Overflows p m (matrix A) (l .lc) (l .uc) nothing (schedule n (structural A n m)) (detailOf (o .outcome))
+  factor-row = factors.factored-row p n m A l o h call
 
-  pub factor-by : NumberFrom (planFaults ++ (storageTooShort ∷ [])) number
-  factor-by = factors.factored-by p n m A l number detail rank pivots R C L U w call
+  pub factor-by : NumberFrom (planFaults ++ (storageTooShort ∷ [])) (numberOf (o .outcome))
+  factor-by = factors.factored-by p n m A l o h call
 
-  pub factor-cleared : ¬ (number ≡ 0) → FactorCleared rank pivots R C L U
-  factor-cleared = factors.factored-cleared p n m A l number detail rank pivots R C L U w call
+  pub factor-cleared : ¬ (numberOf (o .outcome) ≡ 0) → FactorCleared o h
+  factor-cleared = factors.factored-cleared p n m A l o h call
 
 -- ---- checking: w₀ and w are the working row before and after, which `Checks` says is all zero in any case
 

@@ -32,7 +32,7 @@ use Rattle.algebra.specs.RowSpace.{InRowSpace}
 use Rattle.algebra.specs.Factors.{Factors}
 use Rattle.sparse.specs.Row.{Below}
 use Rattle.sparse.specs.Matrix.{Compressed, matrix, rowOf}
-use Rattle.sparse.specs.Set.{Set}
+use Rattle.sparse.specs.Set.{Set, Storage}
 use Rattle.elimination.specs.Selection.{structural}
 use Rattle.elimination.specs.Rules.{FollowsRules}
 use Rattle.elimination.specs.Factoring.{factor}
@@ -41,7 +41,8 @@ use Rattle.text_plan.specs.Held.{StatesPlan}
 use Rattle.limits.specs.Limits.{largestEntries, workLength}
 use Rattle.call_plan.specs.Accepted.{GoodPlan}
 use Rattle.call_check.specs.Passing.{StoredPasses}
-use Rattle.factor_all.specs.Outcome.{Leaves}
+use Rattle.factor_all.specs.Factorization.{Leaves}
+use Rattle.factor_all.specs.declared.factor.Factored.{Factored}
 use Rattle.factor_all.specs.OwnSet.{ownSet}
 use Rattle.call_factor.specs.Calls.{factorCallOf}
 use Rattle.call_factor.specs.declared.Lent.{Lent}
@@ -68,29 +69,28 @@ use Rattle.ask_lib.proofs.Theorems as asks
 
 -- ---- factoring
 
-module _ (p n m : ℕ) (A : Compressed) (l : Lent) (number detail rank pivots : ℕ) (R C : List ℕ) (L U : Compressed) (w : List ℕ)
-    (call : Leaves (factorCallOf p n m A l) number detail rank pivots R C L U w) (done : number ≡ 0) where
+module _ (p n m : ℕ) (A : Compressed) (l : Lent) (o : Factored) (h : Storage) (call : Leaves (factorCallOf p n m A l) o h) (done : numberOf (o .outcome) ≡ 0) where
   -- the set that was left
   abbrev own : Set
-  own = ownSet n m rank R C L U
+  own = ownSet n m (o .rank) h
 
   pub factor-set : own ≡ factor p n m A
-  factor-set = factors.factored-set p n m A l number detail rank pivots R C L U w call done
+  factor-set = factors.factored-set p n m A l o h call done
 
-  pub factor-product : Factors p n m rank (matrix A) (vector (own .R)) (vector (own .C)) (matrix (own .L)) (matrix (own .U))
-  factor-product = factors.factored-passes p n m A l number detail rank pivots R C L U w call done .factors
+  pub factor-product : Factors p n m (o .rank) (matrix A) (vector (own .R)) (vector (own .C)) (matrix (own .L)) (matrix (own .U))
+  factor-product = factors.factored-passes p n m A l o h call done .factors
 
-  pub factor-rank : Rank p n m (matrix A) rank
-  factor-rank = factors.factored-rank p n m A l number detail rank pivots R C L U w call done
+  pub factor-rank : Rank p n m (matrix A) (o .rank)
+  factor-rank = factors.factored-rank p n m A l o h call done
 
-  pub factor-structural : pivots ≡ length (structural A n m)
-  factor-structural = factors.factored-structural p n m A l number detail rank pivots R C L U w call done
+  pub factor-structural : o .structural ≡ length (structural A n m)
+  factor-structural = factors.factored-structural p n m A l o h call done
 
   pub factor-rules : FollowsRules p n m A
-  factor-rules = factors.factored-rules p n m A l number detail rank pivots R C L U w call done
+  factor-rules = factors.factored-rules p n m A l o h call done
 
-  pub factor-diagonal : (k : ℕ) → k < pivots → rowOf (own .L .starts) k (own .L .cols) ≡ k ∷ []
-  factor-diagonal = factors.factored-diagonal p n m A l number detail rank pivots R C L U w call done
+  pub factor-diagonal : (k : ℕ) → k < o .structural → rowOf (own .L .starts) k (own .L .cols) ≡ k ∷ []
+  factor-diagonal = factors.factored-diagonal p n m A l o h call done
 
 pub make-set : (text : List ℕ) (z : ℕ) (b₀ b : List ℕ) → Makes text z b₀ b → z ≡ 0 → b ≡ filled (length b₀) (ownCertificate (reading text))
 make-set = texts.made-buffer

@@ -30,7 +30,7 @@ use Rattle.algebra.specs.Rank.{Rank}
 use Rattle.algebra.specs.Factors.{Factors}
 use Rattle.algebra.specs.Settings.{Determined, Undetermined}
 use Rattle.sparse.specs.Matrix.{Compressed, matrix}
-use Rattle.sparse.specs.Set.{Set}
+use Rattle.sparse.specs.Set.{Set, Storage}
 use Rattle.pluq.specs.Judge.{Passes}
 use Rattle.certificate.specs.Layout.{certificateOf, Sized}
 use Rattle.certificate.specs.Reading.{headerOk, setOfCertificate}
@@ -42,7 +42,8 @@ use Rattle.call_check.proofs.Theorems as checks
 use Rattle.call_write.specs.Call.{writeOutcome, WritesCertificate}
 use Rattle.call_write.specs.declared.Written.{Written}
 use Rattle.call_write.proofs.Theorems as writes
-use Rattle.factor_all.specs.Outcome.{Leaves}
+use Rattle.factor_all.specs.Factorization.{Leaves}
+use Rattle.factor_all.specs.declared.factor.Factored.{Factored}
 use Rattle.factor_all.specs.OwnSet.{ownSet}
 use Rattle.call_factor.specs.Calls.{factorCallOf}
 use Rattle.call_factor.specs.declared.Lent.{Lent}
@@ -102,20 +103,19 @@ module _ (text cert : List ℕ) (z : ℕ) (call : z ≡ packed (checkTextOf text
 
 -- ---- the engine's own
 
-module _ (p n m : ℕ) (A : Compressed) (l : Lent) (number detail rank pivots : ℕ) (R C : List ℕ) (L U : Compressed) (w : List ℕ)
-    (call : Leaves (factorCallOf p n m A l) number detail rank pivots R C L U w) (done : number ≡ 0) where
+module _ (p n m : ℕ) (A : Compressed) (l : Lent) (o : Factored) (h : Storage) (call : Leaves (factorCallOf p n m A l) o h) (done : numberOf (o .outcome) ≡ 0) where
   abbrev own : Set
-  own = ownSet n m rank R C L U
+  own = ownSet n m (o .rank) h
 
   pub own-passes : (r : Outcome) (w₀ w₁ : List ℕ) → Checks (checkFactorsOf p n m A own (length w₀)) r w₀ w₁ → length w₀ ≡ workLength → numberOf r ≡ 0
-  own-passes = owns.own-checked p n m A l number detail rank pivots R C L U w call done
+  own-passes = owns.own-checked p n m A l o h call done
 
   pub own-written : (z : Written) (b₀ b w₀ w₁ : List ℕ) → WritesCertificate (writeOutcome p n m A own (length w₀) (length b₀)) (certificateOf p n m own) z b₀ b w₀ w₁
       → length w₀ ≡ workLength → (numberOf (z .outcome) ≡ 0) ↔ (length (certificateOf p n m own) ≤ length b₀)
-  own-written = owns.own-written p n m A l number detail rank pivots R C L U w call done
+  own-written = owns.own-written p n m A l o h call done
 
   pub own-certificate : (r : Outcome) (w₀ w₁ : List ℕ) → Checks (checkCertificateOf p n m A (certificateOf p n m own) (length w₀)) r w₀ w₁ → length w₀ ≡ workLength → numberOf r ≡ 0
-  own-certificate = owns.own-certificate p n m A l number detail rank pivots R C L U w call done
+  own-certificate = owns.own-certificate p n m A l o h call done
 
 module _ (p n m : ℕ) (A : Compressed) (s : Set) (z : Written) (b₀ b w₀ w : List ℕ)
     (call : WritesCertificate (writeOutcome p n m A s (length w₀) (length b₀)) (certificateOf p n m s) z b₀ b w₀ w) where

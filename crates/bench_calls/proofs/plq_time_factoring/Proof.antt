@@ -1,6 +1,7 @@
 -- `plq_time_factoring` meets its contract. Assumes nothing.
 use mathlib.Core.Path.{_∙_}
 use Rattle.sparse.specs.Matrix.{compressed}
+use Rattle.sparse.specs.Set.{storageOf}
 use Rattle.bench_calls.proofs.Ranked.{rank-is}
 use borrow.Author.Needs.{needs}
 use Rattle.bench_calls.proofs.plq_time_factoring.Statement.{statement}
@@ -49,7 +50,7 @@ rank-staged-requires : tie.Need-rank-staged-requires
 rank-staged-requires c κs = search needs
 
 returns : tie.Need-returns
-returns c = c .rank-staged .ensures ∙ rank-is _ _ (compressed _ _ _) _ _ (compressed _ _ _) (compressed _ _ _) _ _ (c .before .before .before .before .before .before .before .before .before .before .before .before .before .factor-text .ensures)
+returns c = c .rank-staged .ensures ∙ rank-is _ _ (compressed _ _ _) _ (storageOf _ _ (compressed _ _ _) (compressed _ _ _) _) (c .before .before .before .before .before .before .before .before .before .before .before .before .before .factor-text .ensures)
 
 pub plq-time-factoring-spec : {M : Type 1} → statement M
 plq-time-factoring-spec =
