@@ -29,16 +29,16 @@ use Rattle.factor_row.specs.Taking.{nextUpperRow}
 use Rattle.factor_row.proofs.GatheredRows.{same-room}
 use Rattle.factor_row.proofs.TakenRows.{first-most}
 use Rattle.factor_dense.specs.declared.taking.LeftRow.{LeftRow}
-use Rattle.factor_dense.specs.declared.taking.UpperRow.{UpperRow}
+use Rattle.factor_dense.specs.declared.taking.DenseStep.{DenseStep}
 use Rattle.factor_dense.specs.Block.{cellsOf, Upper, whereNonzero}
 use Rattle.factor_dense.specs.Taking.{residuesOf, BlockReduced}
-use Rattle.factor_dense.specs.Turn.{LeftRowFound, LowerFound, UpperFound, NextRow, DenseTaken}
+use Rattle.factor_dense.specs.Turn.{denseStepOf, LeftRowFound, LowerFound, UpperFound, NextRow, DenseTaken}
 use Rattle.factor_dense.specs.Needs.{LeftRowReady, DenseLowerReady, DenseUpperReady, DenseReady}
 use Rattle.factor_dense.proofs.Reduction.{tabulate-add}
 use Rattle.factor_dense.proofs.InBlock.{Begun, block-cell, lower-stored, lower-count, found-within, block-pivot, block-dependent, scaled-cell, scaled-past, upper-columns, upper-values}
 
 -- a number below 32 that fails a test
-pub found-inside : (k : ℕ) (t : ℕ → Bool) → k ≡ first 32 t → (k ≡ 32 → ⊥) → k < 32
+found-inside : (k : ℕ) (t : ℕ → Bool) → k ≡ first 32 t → (k ≡ 32 → ⊥) → k < 32
 found-inside k t e some = go (ℕ-discrete k 32)
   where
     go : Dec (k ≡ 32) → k < 32
@@ -131,29 +131,30 @@ module _ (p i s front r at l total : ℕ) (A : Compressed) (columns us js : List
   left-ready = record { row = h .row; narrow = h .narrow; inside = h .left .inside }
 
   -- its row of L does not fit
-  too-many : length lc < total + length (nonzeros cs) → (lc′ lv′ uc′ uv′ work′ : List ℕ) (found at′ l′ total′ place : ℕ) (row′ : List ℕ)
-      → DenseTaken p at l total reduction width js (entryListsOf lc lv uc uv) (entryListsOf lc′ lv′ uc′ uv′) work′ (record { step = record { over = true; column = found; at = at′; l = l′; total = total′ }; place = place; row = row′ })
-  too-many few lc′ lv′ uc′ uv′ work′ found at′ l′ total′ place row′ =
+  too-many : length lc < total + length (nonzeros cs) → (lc′ lv′ uc′ uv′ work′ : List ℕ) (o : DenseStep) → o .step .over ≡ true
+      → DenseTaken p at l total reduction width js (entryListsOf lc lv uc uv) (entryListsOf lc′ lv′ uc′ uv′) work′ o
+  too-many few lc′ lv′ uc′ uv′ work′ o eo =
       record {
         taken = record {
           pivot = λ g. record {
             fit = ap (λ (x : Bool). x && leb (at + length (nonzeros (nextUpperRow p m c rest))) (length uc))
-                (lt-leb (total + length (nonzeros (cs ++ (rest c ∷ [])))) (length lc) (omega (arith, count-append cs (rest c ∷ []))));
-            lower = λ z. absurd (true≢false z);
-            upper = λ z. absurd (true≢false z);
-            count = λ z. absurd (true≢false z);
+                (lt-leb (total + length (nonzeros (cs ++ (rest c ∷ [])))) (length lc) (omega (arith, count-append cs (rest c ∷ []))))
+                ∙ ap not (sym eo);
+            lower = λ z. absurd (true≢false (sym eo ∙ z));
+            upper = λ z. absurd (true≢false (sym eo ∙ z));
+            count = λ z. absurd (true≢false (sym eo ∙ z));
           };
           dependent = λ g. record {
-            fit = lt-leb (total + length (nonzeros cs)) (length lc) few;
-            lower = λ z. absurd (true≢false z);
-            upper = λ z. absurd (true≢false z);
-            place = λ z. absurd (true≢false z);
-            count = λ z. absurd (true≢false z);
+            fit = lt-leb (total + length (nonzeros cs)) (length lc) few ∙ ap not (sym eo);
+            lower = λ z. absurd (true≢false (sym eo ∙ z));
+            upper = λ z. absurd (true≢false (sym eo ∙ z));
+            place = λ z. absurd (true≢false (sym eo ∙ z));
+            count = λ z. absurd (true≢false (sym eo ∙ z));
           };
-          column = λ z. absurd (true≢false z);
-          clear = λ z. absurd (true≢false z);
+          column = λ z. absurd (true≢false (sym eo ∙ z));
+          clear = λ z. absurd (true≢false (sym eo ∙ z));
         };
-        next = λ z g. absurd (true≢false z);
+        next = λ z g. absurd (true≢false (sym eo ∙ z));
       }
 
   -- ---- reduced by the first s rows
@@ -166,8 +167,8 @@ module _ (p i s front r at l total : ℕ) (A : Compressed) (columns us js : List
     row₀ = left .row
 
     -- its first multiples do not fit
-    pub first-over : left .over ≡ true → (lc′ lv′ uc′ uv′ work′ : List ℕ) (found at′ l′ total′ place : ℕ) (row′ : List ℕ)
-        → DenseTaken p at l total reduction width js (entryListsOf lc lv uc uv) (entryListsOf lc′ lv′ uc′ uv′) work′ (record { step = record { over = true; column = found; at = at′; l = l′; total = total′ }; place = place; row = row′ })
+    pub first-over : left .over ≡ true → (lc′ lv′ uc′ uv′ work′ : List ℕ) (o : DenseStep) → o .step .over ≡ true
+        → DenseTaken p at l total reduction width js (entryListsOf lc lv uc uv) (entryListsOf lc′ lv′ uc′ uv′) work′ o
     first-over e =
         let few : length lc < total + length (nonzeros cs₀) = leb-false (total + length (nonzeros cs₀)) (length lc) (g .fit ∙ ap not e) in
         too-many (omega (arith, ap (λ (z : List ℕ). length (nonzeros z)) begins, fewer-rows))
@@ -246,8 +247,8 @@ module _ (p i s front r at l total : ℕ) (A : Compressed) (columns us js : List
               ∙ (λ t. length (nonzeros (sym begins t)) + length (nonzeros (done .taken t)))
 
           -- the multiples of the block's rows do not fit
-          pub block-over : lower .over ≡ true → (lc′ lv′ uc′ uv′ work′ : List ℕ) (found at′ l′ total′ place : ℕ) (row′ : List ℕ)
-              → DenseTaken p at l total reduction width js (entryListsOf lc lv uc uv) (entryListsOf lc′ lv′ uc′ uv′) work′ (record { step = record { over = true; column = found; at = at′; l = l′; total = total′ }; place = place; row = row′ })
+          pub block-over : lower .over ≡ true → (lc′ lv′ uc′ uv′ work′ : List ℕ) (o : DenseStep) → o .step .over ≡ true
+              → DenseTaken p at l total reduction width js (entryListsOf lc lv uc uv) (entryListsOf lc′ lv′ uc′ uv′) work′ o
           block-over e₂ =
               let few : limit < next₁ + length (nonzeros ms) = leb-false (next₁ + length (nonzeros ms)) limit (d .taken .fit ∙ ap not e₂) in
               too-many (omega (arith, count, stored₁ .place, enough₁, long-columns))
@@ -271,10 +272,10 @@ module _ (p i s front r at l total : ℕ) (A : Compressed) (columns us js : List
 
             module _ (k : ℕ) (ek : k ≡ first 32 (λ t. eqb (getD row₁ t 0 % p) 0)) where
               -- nothing remains
-              pub block-nothing : k ≡ 32 → (found total′ : ℕ) → found ≡ length work₁ → total′ ≡ total + (next₂ - l) → (place : ℕ) (row′ : List ℕ)
-                  → DenseTaken p at l total reduction width js (entryListsOf lc lv uc uv) (entryListsOf lc₂ lv₂ uc uv) work₁ (record { step = record { over = false; column = found; at = at; l = l; total = total′ }; place = place; row = row′ })
-              block-nothing e₃ found total′ ef et place row′ =
-                  record {
+              pub block-nothing : k ≡ 32 → (found total′ : ℕ) → found ≡ length work₁ → total′ ≡ total + (next₂ - l) → (place : ℕ) (row′ : List ℕ) (o : DenseStep)
+                  → o ≡ denseStepOf false found at l total′ place row′ → DenseTaken p at l total reduction width js (entryListsOf lc lv uc uv) (entryListsOf lc₂ lv₂ uc uv) work₁ o
+              block-nothing e₃ found total′ ef et place row′ o eo =
+                  rw eo (record {
                     taken = record {
                       pivot = λ z. absurd (omega (arith, none));
                       dependent = λ z. record {
@@ -288,7 +289,7 @@ module _ (p i s front r at l total : ℕ) (A : Compressed) (columns us js : List
                       clear = λ z. g .clear;
                     };
                     next = λ z a. absurd (omega (arith, all));
-                  }
+                  })
                 where
                   all : found ≡ m
                   all = ef ∙ ap length (g .clear) ∙ length-zeros m
@@ -299,7 +300,7 @@ module _ (p i s front r at l total : ℕ) (A : Compressed) (columns us js : List
                       (block-dependent p m s (r - s) width (vector js) C ks U block y row₀ row₁ ms all-rows small (h .left) (h .narrow) (h .holds) begun done (sym ek ∙ e₃))
 
               -- something remains
-              module _ (some : k ≡ 32 → ⊥) where
+              module _ (some : k ≡ 32 → ⊥) (sum : ℕ) (es : sum ≡ total + (next₂ - l)) where
                 inside : k < 32
                 inside = found-inside k (λ t. eqb (getD row₁ t 0 % p) 0) ek some
 
@@ -308,7 +309,7 @@ module _ (p i s front r at l total : ℕ) (A : Compressed) (columns us js : List
                     rw ek
                     (found-within p m s (r - s) width (vector js) C ks U block y row₀ row₁ ms all-rows small (h .left) (h .narrow) (h .holds) begun done (rw ek at inside))
 
-                pub upper-ready : DenseUpperReady p r k at next₂ limit width js row₁ (entryListsOf lc₂ lv₂ uc uv)
+                pub upper-ready : DenseUpperReady p r k at next₂ limit sum width js row₁ (entryListsOf lc₂ lv₂ uc uv)
                 upper-ready =
                     record {
                       prime = h .prime;
@@ -317,6 +318,7 @@ module _ (p i s front r at l total : ℕ) (A : Compressed) (columns us js : List
                       here = rw ek (eqb-false (getD row₁ (first 32 (λ t. eqb (getD row₁ t 0 % p) 0)) 0 % p) 0 (first-here 32 (λ t. eqb (getD row₁ t 0 % p) 0) (rw ek at inside)));
                       columns = λ t a. omega (arith, h .left .inside t a, h .lists .narrow);
                       rank = h .lists .rank;
+                      few = omega (arith, next-place, enough, long₂);
                       lower = record {
                         place = omega (arith, next-place, enough, long-columns);
                         room = omega (arith, h .lists .L-place, h .lists .L-room, long-columns, long₂);
@@ -325,7 +327,7 @@ module _ (p i s front r at l total : ℕ) (A : Compressed) (columns us js : List
                       upper = record { place = h .lists .U-room; room = omega arith; paired = h .lists .U-paired };
                     }
 
-                pub column-inside : getD js k 0 < m
+                column-inside : getD js k 0 < m
                 column-inside = h .left .inside k within
 
                 column-is : c ≡ getD js k 0
@@ -343,8 +345,8 @@ module _ (p i s front r at l total : ℕ) (A : Compressed) (columns us js : List
                 unfolding nonzeros
                 one-more = count-append cs (rest c ∷ []) ∙ ap (λ (n : ℕ). length (nonzeros cs) + n) (nonzeros-one (rest c) [] (λ z. upper-ready .here (value ∙ z)))
 
-                module _ (lc₃ lv₃ uc₃ uv₃ : List ℕ) (upper : UpperRow)
-                    (u : UpperFound p r k at next₂ limit width js row₁ (entryListsOf lc₂ lv₂ uc uv) (entryListsOf lc₃ lv₃ uc₃ uv₃) upper) where
+                module _ (lc₃ lv₃ uc₃ uv₃ : List ℕ) (upper : DenseStep)
+                    (u : UpperFound p r k at next₂ limit sum width js row₁ (entryListsOf lc₂ lv₂ uc uv) (entryListsOf lc₃ lv₃ uc₃ uv₃) upper) where
                   abbrev new : List ℕ
                   new = upper .row
 
@@ -393,26 +395,25 @@ module _ (p i s front r at l total : ℕ) (A : Compressed) (columns us js : List
                           rw whole at
                           (scaled-cell p m s (r - s) width (vector js) C ks U block y row₀ row₁ ms all-rows small (h .left) (h .narrow) (h .holds) begun done v new (u .scaled) t a)
 
-                  pub block-pivot-row : length js ≡ 32 → (found total′ : ℕ) → found ≡ getD js k 0 → total′ ≡ total + (next₂ - l) + 1
-                      → DenseTaken p at l total reduction width js (entryListsOf lc lv uc uv) (entryListsOf lc₃ lv₃ uc₃ uv₃) work₁ (record { step = record { over = upper .over; column = found; at = upper .at; l = upper .l; total = total′ }; place = k; row = new })
-                  block-pivot-row long found total′ ef et =
+                  pub block-pivot-row : length js ≡ 32 → DenseTaken p at l total reduction width js (entryListsOf lc lv uc uv) (entryListsOf lc₃ lv₃ uc₃ uv₃) work₁ upper
+                  block-pivot-row long =
                       record {
                         taken = record {
                           pivot = λ z. record {
                             fit = ap₂ (λ (a b : Bool). a && b) room-of-L (ap (λ (z : List ℕ). leb (at + length z) (length uc)) values-of-U) ∙ u .fit;
-                            lower = λ z. stored-then 0 l cs (rest c ∷ []) lc lv lc₂ lv₂ lc₃ lv₃ next₂ (upper .l) stored₂ (last (u .lower z));
+                            lower = λ z. stored-then 0 l cs (rest c ∷ []) lc lv lc₂ lv₂ lc₃ lv₃ next₂ (upper .step .l) stored₂ (last (u .lower z));
                             upper = λ z. record {
                               place = u .upper z .place ∙ ap (λ (z : List ℕ). at + length z) (sym values-of-U);
                               columns = rw (columns-of-U long) (u .upper z .columns);
                               values = rw values-of-U (u .upper z .values);
                             };
-                            count = λ z. omega (arith, next-place, one-more);
+                            count = λ z. omega (arith, u .count, next-place, one-more);
                           };
                           dependent = λ z. absurd (omega (arith, column-is, column-inside));
-                          column = λ z. ef ∙ sym column-is;
+                          column = λ z. u .column ∙ sym column-is;
                           clear = λ z. g .clear;
                         };
-                        next = λ z a. rw ef next-row;
+                        next = λ z a. rw (u .column, u .place) next-row;
                       }
                     where
                       places : next₂ + 1 ≡ l + length (nonzeros (cs ++ (rest c ∷ [])))
@@ -423,5 +424,5 @@ module _ (p i s front r at l total : ℕ) (A : Compressed) (columns us js : List
                           sym (same-room l total (length (nonzeros (cs ++ (rest c ∷ [])))) (length lc) (h .lists .L-room))
                           ∙ ap₂ leb (sym places) (ap (λ (n : ℕ). l + (n - total)) (sym long-columns) ∙ sym el)
 
-                      last : DenseStored r next₂ (getD row₁ k 0 % p ∷ []) lc₂ lv₂ lc₃ lv₃ (upper .l) → DenseStored (0 + length cs) next₂ (rest c ∷ []) lc₂ lv₂ lc₃ lv₃ (upper .l)
+                      last : DenseStored r next₂ (getD row₁ k 0 % p ∷ []) lc₂ lv₂ lc₃ lv₃ (upper .step .l) → DenseStored (0 + length cs) next₂ (rest c ∷ []) lc₂ lv₂ lc₃ lv₃ (upper .step .l)
                       last z = rw (zero-add, multiples-long p r C U y, sym value) z

@@ -11,11 +11,12 @@ use Rattle.residue.specs.Inverse.{invMod, Invertible}
 use Rattle.sparse.specs.Dense.{nonzeros}
 use Rattle.sparse.proofs.Nonzeros.{nonzeros-one}
 use Rattle.factor_row.specs.Entries.{entryListsOf}
+use Rattle.factor_dense.specs.declared.taking.DenseStep.{DenseStep}
 use Rattle.factor_dense.specs.Storing.{EntryStored, LeftStored, RowScaled}
-use Rattle.factor_dense.specs.Turn.{UpperFound}
+use Rattle.factor_dense.specs.Turn.{denseStepOf, UpperFound}
 use Rattle.factor_dense.specs.Needs.{PlaceReady, LeftReady, DenseUpperReady}
 
-module _ (p r k at next limit width : ℕ) (js row lc₀ lv₀ uc₀ uv₀ : List ℕ) (h : DenseUpperReady p r k at next limit width js row (entryListsOf lc₀ lv₀ uc₀ uv₀)) where
+module _ (p r k at next limit sum width : ℕ) (js row lc₀ lv₀ uc₀ uv₀ : List ℕ) (h : DenseUpperReady p r k at next limit sum width js row (entryListsOf lc₀ lv₀ uc₀ uv₀)) where
   pub entry-ready : PlaceReady r next limit lc₀ lv₀
   entry-ready = record { narrow = h .rank; lists = h .lower }
 
@@ -41,21 +42,31 @@ module _ (p r k at next limit width : ℕ) (js row lc₀ lv₀ uc₀ uv₀ : Lis
       first : leb (next + 1) limit ≡ not full
       first = ap (λ (n : ℕ). leb (next + n) limit) (sym one) ∙ e .fit
 
-      pub upper-full : full ≡ true → (lc′ lv′ uc uv : List ℕ) (at′ l′ : ℕ) → UpperFound p r k at next limit width js row (entryListsOf lc₀ lv₀ uc₀ uv₀) (entryListsOf lc′ lv′ uc uv) (record { over = true; at = at′; l = l′; row = new })
-      upper-full o lc′ lv′ uc uv at′ l′ =
-          record {
-            scaled = scaled;
-            fit = ap (λ (t : Bool). t && leb (at + length (nonzeros (take width new))) (length uc₀)) (first ∙ ap not o);
-            lower = λ q. absurd (true≢false q);
-            upper = λ q. absurd (true≢false q);
-          }
+      -- what is given besides: the column, the number of entries and the place
+      module _ (c all place : ℕ) (ec : c ≡ getD js k 0) (ea : all ≡ sum + 1) (ep : place ≡ k) (o : DenseStep) where
+        pub upper-full : full ≡ true → o ≡ denseStepOf true c at l all place new → (lc′ lv′ uc uv : List ℕ)
+            → UpperFound p r k at next limit sum width js row (entryListsOf lc₀ lv₀ uc₀ uv₀) (entryListsOf lc′ lv′ uc uv) o
+        upper-full q eo lc′ lv′ uc uv =
+            rw eo (record {
+              scaled = scaled;
+              fit = ap (λ (t : Bool). t && leb (at + length (nonzeros (take width new))) (length uc₀)) (first ∙ ap not q);
+              lower = λ z. absurd (true≢false z);
+              upper = λ z. absurd (true≢false z);
+              column = ec;
+              count = ea;
+              place = ep;
+            })
 
-      pub upper-stored : full ≡ false → (uc uv : List ℕ) (over : Bool) (at′ : ℕ) → LeftStored at (length uc₀) (take width js) (take width new) uc₀ uv₀ uc uv over at′
-          → UpperFound p r k at next limit width js row (entryListsOf lc₀ lv₀ uc₀ uv₀) (entryListsOf lc lv uc uv) (record { over = over; at = at′; l = l; row = new })
-      upper-stored o uc uv over at′ u =
-          record {
-            scaled = scaled;
-            fit = ap (λ (t : Bool). t && leb (at + length (nonzeros (take width new))) (length uc₀)) (first ∙ ap not o) ∙ u .fit;
-            lower = λ q. rw (← rv .value) (e .stored o);
-            upper = u .stored;
-          }
+        pub upper-stored : full ≡ false → (over : Bool) (at′ : ℕ) → o ≡ denseStepOf over c at′ l all place new → (uc uv : List ℕ)
+            → LeftStored at (length uc₀) (take width js) (take width new) uc₀ uv₀ uc uv over at′
+            → UpperFound p r k at next limit sum width js row (entryListsOf lc₀ lv₀ uc₀ uv₀) (entryListsOf lc lv uc uv) o
+        upper-stored q over at′ eo uc uv u =
+            rw eo (record {
+              scaled = scaled;
+              fit = ap (λ (t : Bool). t && leb (at + length (nonzeros (take width new))) (length uc₀)) (first ∙ ap not q) ∙ u .fit;
+              lower = λ z. rw (← rv .value) (e .stored q);
+              upper = u .stored;
+              column = ec;
+              count = ea;
+              place = ep;
+            })

@@ -4,7 +4,7 @@
 --   BlockHolds s b width ..     for t < b row t of the block is row s + t of U at the columns js, and 0 past them; its pivot
 --                               column C (s + t) is js (ks t)
 --   Upper p m r C U             r rows of U with their pivot columns C: residues, 1 at the own column, 0 at those before
---   whereNonzero cs vs                those of cs whose number in vs is not 0
+--   whereNonzero cs vs          those of cs whose number in vs is not 0
 use Prim.Native.Nat.{ℕ, zero, suc, _+_, _≤_, _<_}
 use mathlib.Core.Path.{_≡_}
 use mathlib.Core.Logic.{_⊎_}

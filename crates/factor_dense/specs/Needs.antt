@@ -69,13 +69,14 @@ pub record DenseLowerReady (p s b next limit : ℕ) (ks : List ℕ) (block : Lis
   pub reduce : BlockReduceReady p b ks block row
   pub store : StoreMultiplesReady s b next limit lc lv
 
-pub record DenseUpperReady (p r k at next limit width : ℕ) (js row : List ℕ) (e : EntryLists) : Type 0 where
+pub record DenseUpperReady (p r k at next limit sum width : ℕ) (js row : List ℕ) (e : EntryLists) : Type 0 where
   pub prime : Prime p
   pub place : k < width
   pub narrow : width ≤ 32
   pub here : ¬ (getD row k 0 % p ≡ 0)
   pub columns : (t : ℕ) → t < width → getD js t 0 < 2 ^ 32
   pub rank : r < 2 ^ 32
+  pub few : sum ≤ length (e .lc)
   pub lower : RoomTo next limit (e .lc) (e .lv)
   pub upper : RoomTo at (length (e .uc)) (e .uc) (e .uv)
 

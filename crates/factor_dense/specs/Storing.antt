@@ -1,6 +1,6 @@
 -- The multiples of the rows of a block stored as the end of a row of L, and the row of U under its own columns.
---   EntryStored k x at limit ..       it is, unless it is 0 or there is no room
---   MultiplesStored s l limit xs ..   they are, zeros left out, unless they do not fit
+--   EntryStored k x at limit ..       x is stored at column k and place `at`, unless it is 0 or there is no room
+--   MultiplesStored s l limit xs ..   the multiples xs are stored from place l on, that of block row t at column s + t, zeros left out, unless they do not fit
 --   ChosenStored at cs vs ..          the numbers of vs that are not 0 stand at place `at`, each under its column in cs; `next` is the place after them
 --   LeftStored l limit cs vs ..       they do, unless they do not fit
 --   RowScaled p c row r               r is the residues that the cells of `row` stand for, each times c

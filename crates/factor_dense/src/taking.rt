@@ -1,10 +1,11 @@
 // One row that has no structural pivot, taken in the block: what is done in the working row is its reduction by the rows of U
 // that the block does not hold.
+ghost use mathlib.Core.Path.{_≡_};
 ghost use lib.ListN.{length};
 ghost use Rattle.sparse.specs.Views.{before, after, storedAt};
 ghost use Rattle.factor_row.specs.Gathering.{reductionBy};
 ghost use Rattle.factor_row.specs.Entries.{entriesAt, entriesBefore, entriesAfter, rowBefore, frontBefore, cutBefore};
-ghost use Rattle.factor_dense.specs.Turn.{LeftRowFound, LowerFound, UpperFound, DenseTaken};
+ghost use Rattle.factor_dense.specs.Turn.{denseStepOf, LeftRowFound, LowerFound, UpperFound, DenseTaken};
 ghost use Rattle.factor_dense.specs.Needs.{LeftRowReady, DenseLowerReady, DenseUpperReady, DenseReady};
 use crate::block::left_cells;
 use crate::block::reduce_in_block;
@@ -16,6 +17,7 @@ use crate::storing::store_multiples;
 use factor_row::gathering::gather_row;
 use factor_row::pivot_row::Step;
 use lists::clear_row;
+use lists::index;
 use residue::Modulus;
 
 // Whether the multiples did not fit, the place after them, and the cells that are left of the row.
@@ -23,14 +25,6 @@ pub struct LeftRow {
     pub over: bool,
     pub next: usize,
     pub row: [u64; 32],
-}
-
-// A row stored as a row of U: whether it did not fit, where U and L end, and the row divided by its pivot.
-pub struct UpperRow {
-    pub over: bool,
-    pub at: usize,
-    pub l: usize,
-    pub row: [u32; 32],
 }
 
 // What a turn came to, and where it found a pivot: the place of its column, and the row that the block gets.
@@ -119,7 +113,33 @@ fn lower_left(
     }
 }
 
-// Stores the cells, divided by their value at place k, as row r of U, and that value as an entry of L, if they fit.
+// What a turn came to, from its parts.
+fn dense_step(
+    over: bool,
+    column: usize,
+    at: usize,
+    l: usize,
+    total: usize,
+    place: u32,
+    row: [u32; 32],
+) -> DenseStep
+    ensures { λ d. ⌜ d ≡ denseStepOf over column at l total place row ⌝ }
+{
+    DenseStep {
+        step: Step {
+            over: over,
+            column: column,
+            at: at,
+            l: l,
+            total: total,
+        },
+        place: place,
+        row: row,
+    }
+}
+
+// Stores the cells, divided by their value at place k, as row r of U, and that value as an entry of L, if they fit; L has `sum`
+// entries so far.
 fn upper_left(
     q: Modulus,
     r: usize,
@@ -127,6 +147,7 @@ fn upper_left(
     at: usize,
     next: usize,
     limit: usize,
+    sum: usize,
     js: [u32; 32],
     width: usize,
     row: [u64; 32],
@@ -134,29 +155,22 @@ fn upper_left(
     lv: &mut [u32],
     uc: &mut [u32],
     uv: &mut [u32],
-) -> UpperRow
-    requires { ⌜ DenseUpperReady (q .p) r k at next limit width js row (entriesAt lc lv uc uv) ⌝ }
-    ensures { λ d. ⌜ UpperFound (q .p) r k at next limit width js row (entriesBefore lc lv uc uv) (entriesAfter lc lv uc uv) d ⌝ }
+) -> DenseStep
+    requires { ⌜ DenseUpperReady (q .p) r k at next limit sum width js row (entriesAt lc lv uc uv) ⌝ }
+    ensures { λ d. ⌜ UpperFound (q .p) r k at next limit sum width js row (entriesBefore lc lv uc uv) (entriesAfter lc lv uc uv) d ⌝ }
 {
     let v = q.reduce_cell(row[k]);
     let new = scale_row(q, q.invert(v), row);
+    let c = index(js[k]);
+    let all = sum + 1;
+    let place = k as u32;
     let e = store_entry(r, v, next, limit, lc, lv);
     let l = e.next;
     if e.over {
-        return UpperRow {
-            over: true,
-            at: at,
-            l: l,
-            row: new,
-        };
+        return dense_step(true, c, at, l, all, place, new);
     }
     let u = store_left(js, new, width, at, uc.len(), uc, uv);
-    UpperRow {
-        over: u.over,
-        at: u.next,
-        l: l,
-        row: new,
-    }
+    dense_step(u.over, c, u.next, l, all, place, new)
 }
 
 // Row i is reduced by r rows of U, of which the block holds those after the first s; what remains gives a pivot row, or the row is
@@ -211,62 +225,20 @@ pub fn take_dense(
     let none = [0u32; 32];
     let start = left.row;
     if left.over {
-        return DenseStep {
-            step: Step {
-                over: true,
-                column: 0,
-                at: at,
-                l: l,
-                total: total,
-            },
-            place: 0,
-            row: none,
-        };
+        return dense_step(true, 0, at, l, total, 0, none);
     }
     // `total` counts the entries of dependent rows too, which are stored later: their places are not free.
-    let limit = l + (lc.len() - total);
-    let d = lower_left(q, block, ks, s, r - s, start, left.next, limit, lc, lv);
+    let end = l + (lc.len() - total);
+    let d = lower_left(q, block, ks, s, r - s, start, left.next, end, lc, lv);
     let rest = d.row;
     let next = d.next;
     if d.over {
-        return DenseStep {
-            step: Step {
-                over: true,
-                column: 0,
-                at: at,
-                l: l,
-                total: total,
-            },
-            place: 0,
-            row: none,
-        };
+        return dense_step(true, 0, at, l, total, 0, none);
     }
     let sum = total + (next - l);
     let k = first_left(q, rest);
     if k == 32 {
-        return DenseStep {
-            step: Step {
-                over: false,
-                column: work.len(),
-                at: at,
-                l: l,
-                total: sum,
-            },
-            place: 0,
-            row: none,
-        };
+        return dense_step(false, work.len(), at, l, sum, 0, none);
     }
-    let u = upper_left(q, r, k, at, next, limit, js, width, rest, lc, lv, uc, uv);
-    let divided = u.row;
-    DenseStep {
-        step: Step {
-            over: u.over,
-            column: js[k] as usize,
-            at: u.at,
-            l: u.l,
-            total: sum + 1,
-        },
-        place: k as u32,
-        row: divided,
-    }
+    upper_left(q, r, k, at, next, end, sum, js, width, rest, lc, lv, uc, uv)
 }

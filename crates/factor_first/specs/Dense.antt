@@ -1,11 +1,11 @@
 -- The rows that have no structural pivot, taken in the block. The first s rows of U, with `first` entries, are those of the structural pivots.
---   sparseEnd n m s               the rows up to this one are taken one by one: all n, or the first s where at most 32 rows and 32 columns are left
---   TailCopied s list r           r begins with the numbers of the list from place s on
---   DenseState s first width ..   what the block holds of the pivots found: those after the first s, at the columns js that are no structural pivots
---   DenseTurned p i s first ..    row i was taken in the block, as the definition's turn says, and the block holds what is found with it
---   DenseFrom p A h from f        the lists hold what is found, f, where the factoring is as far as `from`
---   TurnsLeave p m A .. f ts h to the lists hold what the turns ts find after f, unless the entries of a row did not fit: then that row is the first such
---   RowsTaken p s A h₀ h from to  so it is of the turns of the rows of h₀ after the first s, for every f that its lists may hold; and the working row is all zero
+--   sparseEnd n m s                    the rows up to this one are taken one by one: all n, or the first s where at most 32 rows and 32 columns are left
+--   TailCopied s list r                r begins with the numbers of the list from place s on
+--   DenseState s first width ..        what the block holds of the pivots found: those after the first s, at the columns js that are no structural pivots
+--   DenseTurned p i s first ..         row i was taken in the block, as the definition's turn says, and the block holds what is found with it
+--   DenseFrom p A h from f             the lists h hold what is found, f, where the factoring is as far as `from`
+--   TurnsLeave p m A .. f ts h to      the lists h hold what the turns ts find after f, unless the entries of a row did not fit: then that row is the first such
+--   RowsTaken p s A h₀ h from to       so it is of the turns of the rows of h₀ after the first s, for every f that its lists may hold; and the working row is all zero
 use Prim.Native.Nat.{ℕ, _-_, _≤_}
 use mathlib.Core.Path.{_≡_}
 use mathlib.Core.Bool.{true, false, cond, _&&_}

@@ -94,7 +94,7 @@ fn take_dense_row(
     }
 }
 
-// Takes the rows after the first s of `rows` in the block. The columns after the first s of `columns` are those that are no
+// Takes the rows after the first s of `ro` in the block. The columns after the first s of `co` are those that are no
 // structural pivots, rising; they are overwritten by the pivots found.
 pub fn find_dense(
     q: Modulus,

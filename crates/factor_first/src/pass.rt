@@ -25,7 +25,7 @@ fn sparse_end(n: usize, m: usize, s: usize) -> usize
     n
 }
 
-// Takes the rows in the order of `rows`: the first s as they stand, with their columns in `columns`, then the others. The pivot
+// Takes the rows in the order of `ro`: the first s as they stand, with their columns in `co`, then the others. The pivot
 // rows and columns are entered in place: row r of them is written when row k is taken, and r is at most k. Where at most 32 rows
 // and 32 columns are left after the first s, those rows are taken in the block.
 pub fn find_pivots(

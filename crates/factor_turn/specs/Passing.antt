@@ -2,8 +2,8 @@
 --   pairsIn is cs               the pairs of the rows `is` and the columns `cs`, place by place
 --   pairsOf s R C               the pairs that the first s places of R and C hold
 --   Cleared h                   the lists of h are all zero
---   PassLeaves p s m A h₀ h to  the lists h hold what the schedule finds that h₀ has, and the working row is all zero, unless the entries of a row did not fit:
---                               then that row is the first such
+--   PassLeaves p s m A h₀ h to  the lists h hold what the schedule of the orders of h₀ finds, and the working row is all zero, unless the entries of a row did
+--                               not fit: then that row is the first such
 use Prim.Native.Nat.{ℕ}
 use mathlib.Core.Path.{_≡_}
 use mathlib.Core.Bool.{true, false}

@@ -11,11 +11,11 @@ use Rattle.factor_first.proofs.dense.find_dense.Statement.{statement}
 use Rattle.factor_first.proofs.dense.find_dense.Tie as tie
 
 abbrev Inv-loop : tie.InvT-loop
-Inv-loop q ss cols vals s rows₀ columns₀ ls₀ lc₀ lv₀ us₀ uc₀ uv₀ work₀ js width first from block₀ ks₀ k₀ rows columns ls lc lv us uc uv work progress block ks k =
-    Going (q .p) s (compressed ss cols vals) rows₀ columns₀ (compressed ls₀ lc₀ lv₀) (compressed us₀ uc₀ uv₀) work₀ from js ks block rows columns (compressed ls lc lv) (compressed us uc uv) work k progress
+Inv-loop q starts cols vals s ro₀ co₀ ls₀ lc₀ lv₀ us₀ uc₀ uv₀ work₀ js width first from block₀ ks₀ k₀ ro co ls lc lv us uc uv work progress block ks k =
+    Going (q .p) s (compressed starts cols vals) ro₀ co₀ (compressed ls₀ lc₀ lv₀) (compressed us₀ uc₀ uv₀) work₀ from js ks block ro co (compressed ls lc lv) (compressed us uc uv) work k progress
 
 abbrev μ-loop : tie.MeasureT-loop
-μ-loop q ss cols vals s rows₀ columns₀ ls₀ lc₀ lv₀ us₀ uc₀ uv₀ work₀ js width first from block₀ ks₀ k₀ rows columns ls lc lv us uc uv work progress block ks k = length rows₀ - k
+μ-loop q starts cols vals s ro₀ co₀ ls₀ lc₀ lv₀ us₀ uc₀ uv₀ work₀ js width first from block₀ ks₀ k₀ ro co ls lc lv us uc uv work progress block ks k = length ro₀ - k
 
 -- the entry, from inside the loop
 abbrev start : tie.In-loop Inv-loop μ-loop → tie.Start Inv-loop μ-loop

@@ -12,13 +12,13 @@ use Rattle.factor_first.proofs.pass.find_pivots.Statement.{statement}
 use Rattle.factor_first.proofs.pass.find_pivots.Tie as tie
 
 abbrev Inv-loop : tie.InvT-loop
-Inv-loop q ss cols vals s rows₀ columns₀ ls₀ lc₀ lv₀ us₀ uc₀ uv₀ work₀ progress₀ end k₀ rows columns ls lc lv us uc uv work progress k =
-    Passing (q .p) s (compressed ss cols vals) rows₀ columns₀ (compressed ls₀ lc₀ lv₀) (compressed us₀ uc₀ uv₀) work₀ rows columns (compressed ls lc lv) (compressed us uc uv) work k progress
+Inv-loop q starts cols vals s ro₀ co₀ ls₀ lc₀ lv₀ us₀ uc₀ uv₀ work₀ progress₀ end k₀ ro co ls lc lv us uc uv work progress k =
+    Passing (q .p) s (compressed starts cols vals) ro₀ co₀ (compressed ls₀ lc₀ lv₀) (compressed us₀ uc₀ uv₀) work₀ ro co (compressed ls lc lv) (compressed us uc uv) work k progress
     × (progress .over ≡ false)
     × (k ≤ end)
 
 abbrev μ-loop : tie.MeasureT-loop
-μ-loop q ss cols vals s rows₀ columns₀ ls₀ lc₀ lv₀ us₀ uc₀ uv₀ work₀ progress₀ end k₀ rows columns ls lc lv us uc uv work progress k = length rows₀ - k
+μ-loop q starts cols vals s ro₀ co₀ ls₀ lc₀ lv₀ us₀ uc₀ uv₀ work₀ progress₀ end k₀ ro co ls lc lv us uc uv work progress k = length ro₀ - k
 
 -- the entry, from the loop
 abbrev start : tie.At-loop Inv-loop μ-loop → tie.Start Inv-loop μ-loop

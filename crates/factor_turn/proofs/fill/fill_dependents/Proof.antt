@@ -11,11 +11,11 @@ use Rattle.factor_turn.proofs.fill.fill_dependents.Statement.{statement
 use Rattle.factor_turn.proofs.fill.fill_dependents.Tie as tie
 
 abbrev Inv-loop : tie.InvT-loop
-Inv-loop q ss cols vals r at l rows columns us uc uv ls₀ lc₀ lv₀ work₀ next₀ k₀ ls lc lv work next k =
-    Filling (q .p) (compressed ss cols vals) rows columns (compressed ls₀ lc₀ lv₀) (compressed us uc uv) work₀ r at l (compressed ls lc lv) work k next
+Inv-loop q starts cols vals r at l ro co us uc uv ls₀ lc₀ lv₀ work₀ next₀ k₀ ls lc lv work next k =
+    Filling (q .p) (compressed starts cols vals) ro co (compressed ls₀ lc₀ lv₀) (compressed us uc uv) work₀ r at l (compressed ls lc lv) work k next
 
 abbrev μ-loop : tie.MeasureT-loop
-μ-loop q ss cols vals r at l rows columns us uc uv ls₀ lc₀ lv₀ work₀ next₀ k₀ ls lc lv work next k = length rows - k
+μ-loop q starts cols vals r at l ro co us uc uv ls₀ lc₀ lv₀ work₀ next₀ k₀ ls lc lv work next k = length ro - k
 
 -- the entry, from inside the loop
 abbrev start : tie.In-loop Inv-loop μ-loop → tie.Start Inv-loop μ-loop
