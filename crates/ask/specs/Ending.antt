@@ -1,7 +1,7 @@
 -- Where a plan's text ends that a question may follow.
---   isLastLine l             a line is `0 0 0`
---   endIn t              the place after the first line `0 0 0` of the lines t; the text's end where there is none
---   PlanEnds text r      the contract: r is that place of a text, and within it
+--   isLastLine l       a line is `0 0 0`
+--   endIn t            the place after the first line `0 0 0` of the lines t; the text's end where there is none
+--   PlanEnds text r    the contract: r is that place of a text, and within it
 use Prim.Native.Nat.{ℕ, _+_, _≤_}
 use mathlib.Core.Path.{_≡_}
 use mathlib.Core.Bool.{Bool, cond, _&&_}

@@ -1,6 +1,6 @@
 -- A question as text.
 --   noResidue            stands for what is no 32-bit number; no modulus has it as a residue
---   valueRead n            the value that is read
+--   valueRead n          the value that is read
 --   isSeparator b        a space or a line feed
 --   valuesFrom f l       the values of a text l, of whose first field f was read already
 --   endedAt l s i        the value of the field from place s on where a separator at place i ends it; none where there is no separator

@@ -1,7 +1,7 @@
 -- One law for each way out of asking: the refusal that the stages ended with, or the answer.
 use mathlib.Core.Path.{_≡_, refl, sym, ap, _∙_, subst}
 use mathlib.Core.List.{List}
-use Prim.Native.Nat.{ℕ, _≤_, _<_}
+use Prim.Native.Nat.{ℕ}
 use native.Mathlib.Omega.{arith}
 use lib.ListN.{length, take}
 use Rattle.lists.specs.Filled.{zeros}
@@ -21,7 +21,6 @@ use Rattle.call_answer.specs.declared.Answer.{Answer}
 use Rattle.call_answer.specs.Calls.{answerFactorsOf}
 use Rattle.print_text.specs.Report.{refusalText}
 use Rattle.print_text.specs.Printed.{detailFromOne, countedFromOne, printed, Prints}
-use Rattle.print_text.proofs.Room.{refusal-room}
 use Rattle.stages.specs.Stages.{reading, factoredOf}
 use Rattle.stages.specs.Staged.{FactorsHeld, Staged}
 use Rattle.stages.specs.declared.Stages.{Stages}

@@ -1,10 +1,10 @@
 -- A stored plan passes the tests that every call begins with exactly if it is a good plan and the call's other lists have their lengths.
---   plan-exactly      exactly if
---   good-plan         one way
---   good-passes       the other
---   plan-numbers      a plan is refused by 9, 1, 2 or 8
+--   plan-exactly                 exactly if
+--   good-plan                    one way
+--   good-passes                  the other
+--   plan-numbers                 a plan is refused by 9, 1, 2 or 8
 --   good-prime, good-positive    the modulus of a good plan
---   small-product     the number of cells of a matrix within the limits
+--   small-product                the number of cells of a matrix within the limits
 use mathlib.Core.Path.{_≡_, refl, ap}
 use mathlib.Core.Logic.{_↔_}
 use mathlib.Core.Bool.{Bool, true, _&&_}

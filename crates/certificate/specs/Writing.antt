@@ -1,9 +1,9 @@
 -- Writing a certificate into a lent buffer.
---   roomFor n cert            the test that a buffer of n bytes holds the certificate (else refusal 9)
---   written n cert            what a buffer of n bytes is given: the certificate, or nothing where it is refused
---   Writes cert b₀ b size     the contract of writing: the length returned, and every byte of the buffer
---   Writable n m s            a set that can be written: its lists have their lengths, and the entry counts are 32-bit numbers
---   CertificateRoom p n m s b            such a set, and a buffer that holds its certificate
+--   roomFor n cert               the test that a buffer of n bytes holds the certificate (else refusal 9)
+--   written n cert               what a buffer of n bytes is given: the certificate, or nothing where it is refused
+--   Writes cert b₀ b size        the contract of writing: the length returned, and every byte of the buffer
+--   Writable n m s               a set that can be written: its lists have their lengths, and the entry counts are 32-bit numbers
+--   CertificateRoom p n m s b    such a set, and a buffer that holds its certificate
 use Prim.Native.Nat.{ℕ, _≤_, _<_, _^_}
 use mathlib.Core.Bool.{cond}
 use mathlib.Core.List.{List, []}

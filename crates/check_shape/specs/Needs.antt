@@ -1,8 +1,8 @@
 -- What the tests of shape need and find.
---   clean w cols            the cells of these columns are all 0: none of them is marked
---   Rows p width r h        a matrix of width columns and at least r rows
---   AtRow p k h w           row k of a matrix with as many columns as the working row has cells
---   ColumnsTestable p r h C w       rows of such a matrix, their pivot columns, and a working row that is all zero
+--   clean w cols                 the cells of these columns are all 0: none of them is marked
+--   Rows p width r h             a matrix of width columns and at least r rows
+--   AtRow p k h w                row k of a matrix with as many columns as the working row has cells
+--   ColumnsTestable p r h C w    rows of such a matrix, their pivot columns, and a working row that is all zero
 use Prim.Native.Nat.{ℕ, _+_, _≤_, _<_}
 use mathlib.Core.Path.{_≡_}
 use mathlib.Core.Bool.{Bool, true, _&&_}

@@ -1,12 +1,12 @@
 -- Slip 9's structural pivots of a well-formed matrix.
---   structural-ordering     they are the pairs selected, each once, in an order that obeys the rule (so none is lost)
---   structural-only         in the only such order
---   pairs-columns           pairs that can be pivots have different columns
---   pairs-short             so there are at most as many as rows, and as columns
+--   structural-ordering    they are the pairs selected, each once, in an order that obeys the rule (so none is lost)
+--   structural-only        in the only such order
+--   pairs-columns          pairs that can be pivots have different columns
+--   pairs-short            so there are at most as many as rows, and as columns
 --   structural-pairs       they can be pivots of the matrix as it stands
---   structural-leading      document 01's structural pivots are among them
---   structural-acyclic      no chain through the others comes back
---   structural-most         an entry of another row in an unused column closes a cycle
+--   structural-leading     document 01's structural pivots are among them
+--   structural-acyclic     no chain through the others comes back
+--   structural-most        an entry of another row in an unused column closes a cycle
 use Prim.Native.Nat.{ℕ, _+_, _≤_, _<_}
 use native.Mathlib.Decide.{decLt}
 use mathlib.Core.Path.{_≡_, refl, sym, ap, _∙_}

@@ -1,16 +1,16 @@
 -- Pivot rule 2: one row of a matrix after another becomes a pivot row or is found dependent, modulo p.
---   Pivot              a pivot: its row and column, its row of L up to the diagonal, and its row of U
---   Dependent          a row that is a combination of the pivot rows before it, and its row of L
---   Found              what is found so far, in order
---   columnsOf, upperOf   the pivot columns, and the rows of U as a matrix
---   uppersOf, rankOf   the rows of U as dense rows, and how many there are
---   reducedBy p f k y  y less multiples of the first k rows of U
---   multiplesBy       the multiples that were taken away, one for each pivot
---   withPivot, withDependent   what is found, and one pivot row or one dependent row more
---   placedRow             a row by its remainder: dependent where that is zero, else a pivot row
---   Turn               what is done next: a structural pivot, or another row
---   turn p m A f t     what is found after that
---   turns              the same of a list of turns, in order
+--   Pivot                       a pivot: its row and column, its row of L up to the diagonal, and its row of U
+--   Dependent                   a row that is a combination of the pivot rows before it, and its row of L
+--   Found                       what is found so far, in order
+--   columnsOf, upperOf          the pivot columns, and the rows of U as a matrix
+--   uppersOf, rankOf            the rows of U as dense rows, and how many there are
+--   reducedBy p f k y           y less multiples of the first k rows of U
+--   multiplesBy                 the multiples that were taken away, one for each pivot
+--   withPivot, withDependent    what is found, and one pivot row or one dependent row more
+--   placedRow                   a row by its remainder: dependent where that is zero, else a pivot row
+--   Turn                        what is done next: a structural pivot, or another row
+--   turn p m A f t              what is found after that
+--   turns                       the same of a list of turns, in order
 use Prim.Native.Nat.{ℕ, _*_, _%_}
 use mathlib.Core.Bool.{cond}
 use mathlib.Core.List.{List, [], _∷_, _++_, map}

@@ -1,25 +1,25 @@
 -- The structural pivots (document 01's rule 1, and document 02's slip 9): their choice and their order.
---   nonzero A i j           row i of the matrix A has an entry in column j
---   pairAt i c              the pair of row i and column c
---   unfit has ps i j        row i has no entry in column j, or the column is used, or the pair (i, j) closes a cycle
---   extended has m ps i     ps and row i with its lowest-numbered column that is fit; ps alone where row i is chosen or has no such column
---   extendedTo has m ps n   the same for the rows below n, by number
---   selected A n m          the pairs of document 01's rule, and those added
---   free has waiting q      no other waiting row has an entry in q's column
---   lowerPair a o               of the pair a and the choice o the one with the lower row
---   lowest has waiting qs   of the pairs qs that are free the one with the lowest row
---   without i ps            ps without the pair of row i
---   ordered has k waiting   k times the lowest-numbered free row, which then waits no more
---   leadsTo has i q         1 where row i is another than q's and has an entry in q's column, else 0
---   degree has waiting q    how many of the waiting rows lead to q: none where q is free
---   structural A n m        the selected pairs in that order
---   Takes has ps i c        c is row i's lowest-numbered entry in an unused column whose choice closes no cycle
---   NoneLeft has m ps i     every entry of row i in an unused column closes a cycle
---   Free has waiting q      no other waiting row leads to q
---   Next has waiting q      q is the lowest-numbered such row of those waiting
---   Obeys has qs            each pair of the list is the next of those from it on
---   Apart ps                no two of the pairs have the same row
---   Ordering has ps qs      qs lists each of the pairs ps once, in an order that obeys the rule
+--   nonzero A i j            row i of the matrix A has an entry in column j
+--   pairAt i c               the pair of row i and column c
+--   unfit has ps i j         row i has no entry in column j, or the column is used, or the pair (i, j) closes a cycle
+--   extended has m ps i      ps and row i with its lowest-numbered column that is fit; ps alone where row i is chosen or has no such column
+--   extendedTo has m ps n    the same for the rows below n, by number
+--   selected A n m           the pairs of document 01's rule, and those added
+--   free has waiting q       no other waiting row has an entry in q's column
+--   lowerPair a o            of the pair a and the choice o the one with the lower row
+--   lowest has waiting qs    of the pairs qs that are free the one with the lowest row
+--   without i ps             ps without the pair of row i
+--   ordered has k waiting    k times the lowest-numbered free row, which then waits no more
+--   leadsTo has i q          1 where row i is another than q's and has an entry in q's column, else 0
+--   degree has waiting q     how many of the waiting rows lead to q: none where q is free
+--   structural A n m         the selected pairs in that order
+--   Takes has ps i c         c is row i's lowest-numbered entry in an unused column whose choice closes no cycle
+--   NoneLeft has m ps i      every entry of row i in an unused column closes a cycle
+--   Free has waiting q       no other waiting row leads to q
+--   Next has waiting q       q is the lowest-numbered such row of those waiting
+--   Obeys has qs             each pair of the list is the next of those from it on
+--   Apart ps                 no two of the pairs have the same row
+--   Ordering has ps qs       qs lists each of the pairs ps once, in an order that obeys the rule
 use Prim.Native.Nat.{ℕ, zero, suc, _+_, _≤_, _<_}
 use mathlib.Core.Path.{_≡_}
 use mathlib.Core.Bool.{Bool, true, false, cond, not, _&&_, _||_}

@@ -1,16 +1,16 @@
 -- What the order of the selected pivots starts from and comes to.
---   ArrangeReady p n A w v R C    w and v name the selected pairs; the orders are all zero
---   Arranged n m A s R C          the s structural pivots are in the orders R and C, which are 0 past them
---   DegreesReady p n A w v degrees  what counting the degrees starts from
+--   ArrangeReady p n A w v R C          w and v name the selected pairs; the orders are all zero
+--   Arranged n m A s R C                the s structural pivots are in the orders R and C, which are 0 past them
+--   DegreesReady p n A w v degrees      what counting the degrees starts from
 --   DegreeRowReady p n k A ..           the rows below k are counted, and row k waits
---   MarkReady v degrees ready     what marking the ready rows starts from
---   Stage p n A w v₀ v ..         where the order stands: v names what waits of the selected pairs v₀, with their degrees and the ready rows
+--   MarkReady v degrees ready           what marking the ready rows starts from
+--   Stage p n A w v₀ v ..               where the order stands: v names what waits of the selected pairs v₀, with their degrees and the ready rows
 --   DegreeFallsReady q degrees ready    some row leads to row q
---   Lowered q low ..              one row less leads to row q, which becomes ready where none does; r is at most `low`, and at most q where it does
---   ReleaseReady p n k A ..       row k is ready
---   Released p n k A ..           it waits no more; r is at most k, and of the rows below r none became ready
---   ListReady p n A ..            what listing the pairs starts from: all wait
---   OrderReady p n A ..           what putting them in order starts from: w and v name them, and there is a cell for each row
+--   Lowered q low ..                    one row less leads to row q, which becomes ready where none does; r is at most `low`, and at most q where it does
+--   ReleaseReady p n k A ..             row k is ready
+--   Released p n k A ..                 it waits no more; r is at most k, and of the rows below r none became ready
+--   ListReady p n A ..                  what listing the pairs starts from: all wait
+--   OrderReady p n A ..                 what putting them in order starts from: w and v name them, and there is a cell for each row
 use Prim.Native.Nat.{ℕ, suc, _-_, _≤_, _<_}
 use mathlib.Core.Path.{_≡_}
 use mathlib.Core.List.{List}

@@ -1,9 +1,9 @@
 -- The order of the selected pivots, as the code finds it. A cell for each row, one more than its column while it waits, 0 once it waits no more.
---   pairNamed i x            the pair of row i that its cell x names, if it names one
---   waitingTo v k            the pairs that the first k cells of v name, by rising row
---   waiting v                all of them
---   DegreesCounted A w ws degrees   the degrees of all selected pairs, which w names, where the pairs ws wait
---   Ready v degrees ready    the cells that are not 0 are those of the waiting rows to which none leads
+--   pairNamed i x                    the pair of row i that its cell x names, if it names one
+--   waitingTo v k                    the pairs that the first k cells of v name, by rising row
+--   waiting v                        all of them
+--   DegreesCounted A w ws degrees    the degrees of all selected pairs, which w names, where the pairs ws wait
+--   Ready v degrees ready            the cells that are not 0 are those of the waiting rows to which none leads
 use Prim.Native.Nat.{ℕ, zero, suc}
 use mathlib.Core.Path.{_≡_}
 use mathlib.Core.List.{List, [], _∷_, _++_}

@@ -1,6 +1,6 @@
 -- A stored matrix as the search for pivots takes it.
 --   RowWithin ss cols i    row i starts and ends within the stored columns
---   SmallMatrix p n m A          the matrix is in its form, with n rows and m columns, at most 2,048 of each: local lists have that length
+--   SmallMatrix p n m A    the matrix is in its form, with n rows and m columns, at most 2,048 of each: local lists have that length
 use Prim.Native.Nat.{ℕ, _+_, _≤_, _<_}
 use mathlib.Core.Path.{_≡_}
 use mathlib.Core.Bool.{true}

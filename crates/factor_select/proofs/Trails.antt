@@ -1,9 +1,9 @@
 -- The search's lists: what touching one column does to them, and how visits join.
---   trail-few, trail-room   the queue has room for each column that has no stamp
---   Got                     a column of a row that has the stamp
---   touch-known ..          one column, by the ways out of `touch`
---   visited-none, visited-turn, visited-all   the columns of a row, one after the other
---   visited-still, visited-kept   a stamp stays, and no other cell changes
+--   trail-few, trail-room                      the queue has room for each column that has no stamp
+--   Got                                        a column of a row that has the stamp
+--   touch-known ..                             one column, by the ways out of `touch`
+--   visited-none, visited-turn, visited-all    the columns of a row, one after the other
+--   visited-still, visited-kept                a stamp stays, and no other cell changes
 use Prim.Native.Nat.{ℕ, zero, suc, _+_, _≤_, _<_}
 use mathlib.Core.Path.{_≡_, refl, sym, ap, _∙_, subst}
 use mathlib.Core.Bool.{Bool, true, false, true≢false}

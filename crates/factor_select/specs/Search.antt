@@ -1,13 +1,13 @@
 -- The search for what a row reaches through pivots. A column is stamped with the search's mark when it is reached, and queued once if it is used.
---   Used w j                column j is used: its cell names a row
---   Wanted own w j          column j is to be stamped: of the searching row's own columns the used ones alone
---   Trail w stamps queue k t   the first t cells of the queue are the used columns with the stamp k, each once
---   TouchReady ..           what one column needs
---   VisitReady ..           what visiting the columns of a row needs
---   Visited own row ..      the wanted columns of the row have the stamp, and no other column got it; the queue only grew
---   Passed w stamps k j     column j is used or stamped: no candidate, or one no more
---   NextFit row w stamps k f t   t is the first place of the row from f on whose column is neither used nor stamped, past the row's end where there is none
---   Survivor A n m i ..     r is the column that row i takes, the width where it takes none; no column got another stamp
+--   Used w j                      column j is used: its cell names a row
+--   Wanted own w j                column j is to be stamped: of the searching row's own columns the used ones alone
+--   Trail w stamps queue k t      the first t cells of the queue are the used columns with the stamp k, each once
+--   TouchReady ..                 what one column needs
+--   VisitReady ..                 what visiting the columns of a row needs
+--   Visited own row ..            the wanted columns of the row have the stamp, and no other column got it; the queue only grew
+--   Passed w stamps k j           column j is used or stamped: no candidate, or one no more
+--   NextFit row w stamps k f t    t is the first place of the row from f on whose column is neither used nor stamped, past the row's end where there is none
+--   Survivor A n m i ..           r is the column that row i takes, the width where it takes none; no column got another stamp
 use Prim.Native.Nat.{ℕ, _≤_, _<_}
 use mathlib.Core.Path.{_≡_}
 use mathlib.Core.Bool.{Bool, false}

@@ -1,12 +1,11 @@
 // Checking a certificate against a plan's text.
 ghost use mathlib.Core.Path.{_≡_};
-ghost use lib.ListN.{length};
-ghost use Rattle.call_check.specs.Calls.{checkCertificateOf, Checks};
+ghost use Rattle.call_check.specs.Calls.{checkCertificateOf, ChecksIn};
 ghost use Rattle.text_plan.specs.Held.{heldPlan};
 ghost use Rattle.stages.specs.Lists.{Held};
 ghost use Rattle.plq.specs.Calls.{checkTextOf};
 ghost use Rattle.plq.specs.Needs.{CheckLists};
-ghost use Rattle.sparse.specs.Views.{before, after, storedAt, storedBefore};
+ghost use Rattle.sparse.specs.Views.{before, storedAt, storedBefore};
 use call_check::check_certificate;
 use refusals::Outcome;
 use text_plan::Reading;
@@ -21,7 +20,7 @@ fn check_held(
     work: &mut [u64],
 ) -> Outcome
     requires { ⌜ Held r (storedAt starts cols vals) ⌝ }
-    ensures { λ o. ⌜ Checks (checkCertificateOf (r .p) (r .n) (r .m) (heldPlan r (storedBefore starts cols vals)) (before certificate) (length (before work))) o (before work) (after work) ⌝ }
+    ensures { λ o. ⌜ ChecksIn (checkCertificateOf (r .p) (r .n) (r .m) (heldPlan r (storedBefore starts cols vals)) (before certificate)) o work ⌝ }
 {
     let ro = r.n as usize + 1;
     let count = r.count as usize;

@@ -2,7 +2,7 @@
 --   modulusLabel, slotsLabel, wordsLabel, entriesLabel, rankLabel, structuralLabel, lowerLabel, upperLabel, openLabel, refusedLabel, atLabel
 --                       what stands before each number, with its spaces
 --   openWord, closedWord    the two verdicts
---   space, lineFeed     what stands before each value, and at the end of each line
+--   space, lineFeed         what stands before each value, and at the end of each line
 use Prim.Native.Nat.{ℕ}
 use mathlib.Core.List.{List, [], _∷_}
 

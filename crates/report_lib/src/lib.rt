@@ -1,7 +1,6 @@
 // The report of a plan's text.
 ghost use mathlib.Core.Path.{_≡_};
-ghost use lib.ListN.{length};
-ghost use Rattle.call_open.specs.Calls.{Lists};
+ghost use Rattle.call_open.specs.Calls.{ListsIn};
 ghost use Rattle.stages.specs.Staged.{Fits};
 ghost use Rattle.print_text.specs.Printed.{Prints};
 ghost use Rattle.report_lib.specs.Held.{heldSummary, heldList, heldText, stagedText};
@@ -57,7 +56,7 @@ fn list_held(
     work: &mut [u64],
 ) -> Outcome
     requires { ⌜ Fits s (storedAt starts cols vals) (storageAt ro co ls lc lv us uc uv work) ⌝ }
-    ensures { λ o. ⌜ Lists (heldList s (storedBefore starts cols vals) (storageBefore ro co ls lc lv us uc uv work) (length (before marks)) (length (before work))) o (before marks) (after marks) (before work) (after work) ⌝ }
+    ensures { λ o. ⌜ ListsIn (heldList s (storedBefore starts cols vals) (storageBefore ro co ls lc lv us uc uv work)) o marks work ⌝ }
 {
     let r = s.reading;
     let f = s.factored;

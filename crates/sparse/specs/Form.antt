@@ -1,9 +1,9 @@
 -- The form of a matrix that is stored by rows: row starts, columns and values (document 01's stored form).
 --   startsFrom count from ss       row starts after one that is `from`: they never fall, and the last is `count`
---   startsOk count ss                all row starts: the first is 0
+--   startsOk count ss              all row starts: the first is 0
 --   risesFrom width low cs         columns of a row rise strictly, each at least `low` and below `width`
 --   rowsFrom width cols from ss    the columns of each row rise; the row that begins at `from` ends where the next begins
---   valuesOk p vs                    values from 1 to p - 1
+--   valuesOk p vs                  values from 1 to p - 1
 --   wellFormed p width ss cs vs    a matrix of that width modulo p is stored: all of the above, and as many values as columns
 use Prim.Native.Nat.{ℕ, _+_}
 use mathlib.Core.Bool.{Bool, true, false, _&&_}

@@ -2,7 +2,7 @@
 --   LoadReady p cols vals w          what loading a sparse row needs: the working row is all zero
 --   DotReady p cols vals z           what the product of a sparse row and a vector z needs
 --   Room at row cols vals            the lists have room for the entries of a dense row from place `at` on
---   DenseStored j at row ..               the entries of a dense row, its columns counted from j, stand at place `at`; `next` is the place after them
+--   DenseStored j at row ..          the entries of a dense row, its columns counted from j, stand at place `at`; `next` is the place after them
 --   StoreReady p c at w cols vals    what storing the working row times c needs
 --   RowStored p c at w₀ ..           the working row times c is stored, and is cleared
 use Prim.Native.Nat.{ℕ, _+_, _^_, _≤_, _<_}

@@ -1,13 +1,13 @@
 -- Lent lists in contracts: what a list, a stored matrix or a set is when a call begins and when it ends.
---   ListRef, LentList               a list of numbers that is handed over, as a `requires` knows it; and one at entry and at exit, as an `ensures` does
---   before x, after x               what is behind the reference x when the call begins, and when it ends
---   storedAt s c v                  the stored matrix (document 01's plan, L or U) in three lists as they are handed
---   storedBefore, storedAfter       the same when the call begins, and when it ends
---   viewAt, viewBefore              the list meant by a pair of a list and bytes
---   viewedAt, viewedBefore          the stored matrix in three such pairs
---   setAt, setBefore                the set of factors in eight lists, with its rank
---   viewedSetAt, viewedSetBefore    the set in eight such pairs
---   vectorBefore, matrixBefore      a pair as a vector, and three pairs as a matrix
+--   ListRef, LentList                         a list of numbers that is handed over, as a `requires` knows it; and one at entry and at exit, as an `ensures` does
+--   before x, after x                         what is behind the reference x when the call begins, and when it ends
+--   storedAt s c v                            the stored matrix (document 01's plan, L or U) in three lists as they are handed
+--   storedBefore, storedAfter                 the same when the call begins, and when it ends
+--   viewAt, viewBefore                        the list meant by a pair of a list and bytes
+--   viewedAt, viewedBefore                    the stored matrix in three such pairs
+--   setAt, setBefore                          the set of factors in eight lists, with its rank
+--   viewedSetAt, viewedSetBefore              the set in eight such pairs
+--   vectorBefore, matrixBefore                a pair as a vector, and three pairs as a matrix
 --   storageAt, storageBefore, storageAfter    the lists that factoring fills
 use Prim.Native.Nat.{ℕ}
 use mathlib.Core.List.{List}

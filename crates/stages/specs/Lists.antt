@@ -3,7 +3,7 @@
 --   SetLists h        lists for a set, of the largest lengths
 --   StageLists A h    lists for a plan and a set, of the largest lengths, and a working row
 --   Held r A          the lists have the plan that a reading says they have
-use Prim.Native.Nat.{ℕ, _+_, _≤_}
+use Prim.Native.Nat.{_+_, _≤_}
 use mathlib.Core.Path.{_≡_}
 use lib.ListN.{length}
 use Rattle.sparse.specs.Matrix.{Compressed}

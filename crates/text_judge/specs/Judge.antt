@@ -1,14 +1,14 @@
 -- What a line is judged to be.
---   inRange v             v lies from -2,147,483,648 to 2,147,483,647
---   residueAt p v         v modulo p
---   isLast i j v          the line is `0 0 0`
---   isZero v              v is `0`
---   entryIf u i j v       the entry, or 7 where u says that the storage is used up and v is to be stored
---   within i n            i lies from 1 to n
---   precedes a b i j        a and b stand before i and j: by row, then by column
---   mayStand free l       the line l may stand where it says, as `free` tells of a place
---   judgeLine f u s l         the verdict on the line l of a plan with the sizes s, where f says whether it may stand here and u
---                         whether the entry storage is used up: 3, then 4, 5, 6, 7
+--   inRange v            v lies from -2,147,483,648 to 2,147,483,647
+--   residueAt p v        v modulo p
+--   isLast i j v         the line is `0 0 0`
+--   isZero v             v is `0`
+--   entryIf u i j v      the entry, or 7 where u says that the storage is used up and v is to be stored
+--   within i n           i lies from 1 to n
+--   precedes a b i j     a and b stand before i and j: by row, then by column
+--   mayStand free l      the line l may stand where it says, as `free` tells of a place
+--   judgeLine f u s l    the verdict on the line l of a plan with the sizes s, where f says whether it may stand here and u
+--                        whether the entry storage is used up: 3, then 4, 5, 6, 7
 use Prim.Native.Nat.{ℕ}
 use mathlib.Core.Bool.{Bool, false, cond, _&&_, _||_, not}
 use lib.Dec.{eqb, ltb, leb}

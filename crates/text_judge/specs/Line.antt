@@ -1,13 +1,13 @@
 -- What a line says. Bytes: 32 is the space, 77 is the letter M.
---   Fields           the fields of a line: three, or another number of them
---   fieldsOf t       the fields that the pieces t of a line make
---   lineOf l         the line `i j v`
---   headerOf l       the second line, `n m M`
---   withSigned, lineWith, lineIn   the line `i j v` from the numbers that its fields are
---   isM, headerWith, headerIn      the line `n m M` from the numbers and the letter that its fields are
---   fieldsAt l r     the fields of l where r says that its spaces stand
---   Inside l r       these places are in the line, one after the other
---   Cut l r          r says where the two spaces of the line l stand, and that cuts it into its fields
+--   Fields                          the fields of a line: three, or another number of them
+--   fieldsOf t                      the fields that the pieces t of a line make
+--   lineOf l                        the line `i j v`
+--   headerOf l                      the second line, `n m M`
+--   withSigned, lineWith, lineIn    the line `i j v` from the numbers that its fields are
+--   isM, headerWith, headerIn       the line `n m M` from the numbers and the letter that its fields are
+--   fieldsAt l r                    the fields of l where r says that its spaces stand
+--   Inside l r                      these places are in the line, one after the other
+--   Cut l r                         r says where the two spaces of the line l stand, and that cuts it into its fields
 use Prim.Native.Nat.{ℕ, _+_, _-_, _<_}
 use mathlib.Core.Path.{_≡_}
 use mathlib.Core.List.{List, [], _∷_}

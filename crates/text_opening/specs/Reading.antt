@@ -1,16 +1,16 @@
 -- The reading of a whole plan text. 10 is the byte of the line feed.
---   Entry              a triple of the text: row and column count from 1, the value is a residue
---   kept seen          what is stored of the triples seen, in the text's order: those whose value is not 0
---   fresh seen i j     no triple seen stands at i and j, zeros included
---   placed s seen      what is stored of the triples seen, sorted: by row, then by column
---   ReadResult         a refusal with its detail, or the sizes and the triples of an accepted text
---   readOf room text   a text read into lists with room for so many entries: each place may be taken once, in any order
+--   Entry                                            a triple of the text: row and column count from 1, the value is a residue
+--   kept seen                                        what is stored of the triples seen, in the text's order: those whose value is not 0
+--   fresh seen i j                                   no triple seen stands at i and j, zeros included
+--   placed s seen                                    what is stored of the triples seen, sorted: by row, then by column
+--   ReadResult                                       a refusal with its detail, or the sizes and the triples of an accepted text
+--   readOf room text                                 a text read into lists with room for so many entries: each place may be taken once, in any order
 -- Lists of triples seen have the latest first. The steps take a `rule`, which says of the triples seen and of a place whether a triple may stand there:
---   verdictOn          the verdict on a line after the triples seen
---   triples            the lines from the third one on
---   ending, onward     what follows the last line, and what the verdict on a line leads to
---   fromFirst, withModulus, fromSecond, withSizes   the first line, its modulus, the second line, its sizes
---   readBy             the whole text
+--   verdictOn                                        the verdict on a line after the triples seen
+--   triples                                          the lines from the third one on
+--   ending, onward                                   what follows the last line, and what the verdict on a line leads to
+--   fromFirst, withModulus, fromSecond, withSizes    the first line, its modulus, the second line, its sizes
+--   readBy                                           the whole text
 use Prim.Native.Nat.{ℕ, _+_}
 use mathlib.Core.List.{List, [], _∷_, _++_}
 use mathlib.Core.Bool.{Bool, true, cond, _&&_, not}

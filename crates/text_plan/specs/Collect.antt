@@ -1,13 +1,13 @@
 -- Reading without 5: the lines are collected, and repetitions looked for afterwards.
---   Collected          the triples collected, the latest first, and the result where no place is repeated
---   collect            the lines from number k on; what 6 or 7 refuses is collected too and ends it
---   beforeRepeated es        how many of the triples, from the first on, repeat no place: the index of the first repetition, or how many there are
---   settled k c        5 at the line of the first repetition, where the first line has the number k, else the result
---   outcomeOf o        what a result returns: passed, or a refusal
---   upTo n          0 to n - 1, in their order
---   sorted R C s n     the numbers of n lines by row, then by column, where R and C give their rows and columns
---   tripleIn ..        the triple of a number, in three lists
---   ByNumber E ts          E gives the triples ts by their numbers, the latest first
+--   Collected            the triples collected, the latest first, and the result where no place is repeated
+--   collect              the lines from number k on; what 6 or 7 refuses is collected too and ends it
+--   beforeRepeated es    how many of the triples, from the first on, repeat no place: the index of the first repetition, or how many there are
+--   settled k c          5 at the line of the first repetition, where the first line has the number k, else the result
+--   outcomeOf o          what a result returns: passed, or a refusal
+--   upTo n               0 to n - 1, in their order
+--   sorted R C s n       the numbers of n lines by row, then by column, where R and C give their rows and columns
+--   tripleIn ..          the triple of a number, in three lists
+--   ByNumber E ts        E gives the triples ts by their numbers, the latest first
 use Prim.Native.Nat.{ℕ, zero, suc, _+_}
 use mathlib.Core.Path.{_≡_}
 use mathlib.Core.List.{List, [], _∷_, _++_}

@@ -1,18 +1,18 @@
 -- The text that states a plan: what `readOf` accepts, exactly.
---   StatedEntry          a triple as it is stated: row and column from 1, the value with its sign
---   integerOf v          the integer that v is
---   tripleText t         the line `i j v`
---   tripleLines ts       the lines of the triples, then the last line
---   lastLine             `0 0 0`
---   sizesText s          the line `n m M`
---   planText s ts        the text of the plan with the sizes s and the triples ts
---   entryOf p t          the triple with its value modulo p
---   entriesOf p ts       the triples with their values modulo p, the latest first
---   Stands s seen t      t stands in the plan, at a place where none of the triples seen stands, and its value is in range
+--   StatedEntry               a triple as it is stated: row and column from 1, the value with its sign
+--   integerOf v               the integer that v is
+--   tripleText t              the line `i j v`
+--   tripleLines ts            the lines of the triples, then the last line
+--   lastLine                  `0 0 0`
+--   sizesText s               the line `n m M`
+--   planText s ts             the text of the plan with the sizes s and the triples ts
+--   entryOf p t               the triple with its value modulo p
+--   entriesOf p ts            the triples with their values modulo p, the latest first
+--   Stands s seen t           t stands in the plan, at a place where none of the triples seen stands, and its value is in range
 --   StandApart s seen ts      each of the triples ts stands apart from those before it and from those seen
---   Plan room s ts       a plan within the limits that lists with room for so many entries can hold
---   statedAt p ts i j    the residue stated at row i + 1 and column j + 1, 0 where none is
---   States room s text out   the text states a plan with the sizes s whose entries are `out`
+--   Plan room s ts            a plan within the limits that lists with room for so many entries can hold
+--   statedAt p ts i j         the residue stated at row i + 1 and column j + 1, 0 where none is
+--   States room s text out    the text states a plan with the sizes s whose entries are `out`
 use Prim.Native.Nat.{ℕ, _+_, _≤_}
 use mathlib.Core.Path.{_≡_}
 use mathlib.Core.List.{List, [], _∷_, map, reverse}

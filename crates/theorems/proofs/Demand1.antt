@@ -1,25 +1,25 @@
 -- Demand 1: bad input is refused by a number from one table with all lent output cleared to zero, all else is accepted, and each text is stored as exactly the
 -- plan it states. Every statement speaks of what a call returned and left in the lent lists, through the record that is its contract; everything is shown in the
 -- crate that it is about. For each call: `-exactly`, 0 is returned exactly if ..; `-by`, the numbers by which it refuses; `-cleared`, what a refusal leaves.
---   read                                  a text read into lent lists; `stored-as-stated`, `read-each-triple`: it is stored as exactly the plan it states;
---                                         `read-accepted`: which every later call takes; `order-does-not-matter`: texts that state the same triples, in any
---                                         order, leave the same; `rising-as-before`: what was accepted while triples had to rise is read and stored as it was
---   factor                                a stored plan factored; `factor-seven`, `factor-row`: storage that is outgrown
---   check-stored, check-bytes             stored factors, and a certificate, checked against a stored plan
---   write                                 a certificate written
---   answer-stored, answer-bytes           a question answered from stored factors, and from a certificate
---   list-stored, list-bytes               the open columns (document 01's open words) listed
---   make                                  the call for C that makes a certificate; `make-seven`, `make-row`, `make-nine`, `make-numbers`: after a text that is accepted
---   check-text                            the call for C that checks one; `check-text-judged`: after a text that is accepted
+--   read                           a text read into lent lists; `stored-as-stated`, `read-each-triple`: it is stored as exactly the plan it states;
+--                                  `read-accepted`: which every later call takes; `order-does-not-matter`: texts that state the same triples, in any
+--                                  order, leave the same; `rising-as-before`: what was accepted while triples had to rise is read and stored as it was
+--   factor                         a stored plan factored; `factor-seven`, `factor-row`: storage that is outgrown
+--   check-stored, check-bytes      stored factors, and a certificate, checked against a stored plan
+--   write                          a certificate written
+--   answer-stored, answer-bytes    a question answered from stored factors, and from a certificate
+--   list-stored, list-bytes        the open columns (document 01's open words) listed
+--   make                           the call for C that makes a certificate; `make-seven`, `make-row`, `make-nine`, `make-numbers`: after a text that is accepted
+--   check-text                     the call for C that checks one; `check-text-judged`: after a text that is accepted
 -- What the two programs print where there is no plan to report and no question to answer: the line of the first refusal, its row or index counted from 1.
---   report, ask                           `-refused`: the text states no plan; `-storage`: its factors overflow; `ask-length`, `ask-value`: the question is no
---                                         list of m residues
+--   report, ask                    `-refused`: the text states no plan; `-storage`: its factors overflow; `ask-length`, `ask-value`: the question is no
+--                                  list of m residues
 -- What the words mean:
---   moduli               a modulus is accepted exactly if it is a prime that is not above the largest
---   accepted-exactly     a text is accepted, as these sizes and entries, exactly if it states that plan: it is the canonical text of a modulus that is
---                        accepted, sizes within the limits, and triples in any order, no two at one place, whose values modulo p are the entries
---   entry-limit          a text within its length cannot pass the entry limit
---   plans                a stored plan passes the tests that every call begins with exactly if it is a good plan and the other lists have their lengths
+--   moduli                         a modulus is accepted exactly if it is a prime that is not above the largest
+--   accepted-exactly               a text is accepted, as these sizes and entries, exactly if it states that plan: it is the canonical text of a modulus that is
+--                                  accepted, sizes within the limits, and triples in any order, no two at one place, whose values modulo p are the entries
+--   entry-limit                    a text within its length cannot pass the entry limit
+--   plans                          a stored plan passes the tests that every call begins with exactly if it is a good plan and the other lists have their lengths
 use Prim.Native.Nat.{ℕ, _+_, _-_, _*_, _≤_, _<_}
 use mathlib.Core.Path.{_≡_}
 use mathlib.Core.Logic.{_↔_, _⊎_}
