@@ -93,7 +93,7 @@ unfolding isPrime dividedBelow
 two = true-prime 2 refl
 
 pub table : Table
-unfolding zeros tabulate all first sum dot δ place reduced invMod inverseBelow startsFrom startsOk risesFrom rowsFrom valuesOk wellFormed weigh columnsFrom nonzeros startsAfter allColumns allValues compress among below distinct permutation lowerRow lower upperRow upper agrees productOutcome judgeFactors judge backL backU lowest solve leads prefer chosen leading chain closes lowerOf without unfit extended extendedTo free lowestOf ordered selected structural columnsOf uppersOf multiplesBy multiples withPivot withDependent placedRow turn turns among rest schedule rowsOf lowersOf factored factorFrom factor words bytes mark version factorNumbers numbersOf certificateOf placesOf field setIn setOfCertificate begins lengthOk sizesOk headerOk isPrime dividedBelow isModulus planLengths setLengths limitsOk planOutcome certificateOutcome checkCertificateOf
+unfolding zeros tabulate all first sum dot δ place reduced invMod inverseBelow startsFrom startsOk risesFrom rowsFrom valuesOk wellFormed weigh columnsFrom nonzeros startsAfter allColumns allValues compress among below distinct permutation lowerRow lower upperRow upper agrees productOutcome judgeFactors judge backL backU lowest solve leads prefer chosen leading chain closes lowerOf without unfit extended extendedTo free lowestOf ordered selected structural columnsOf uppersOf multiplesBy multiples withPivot withDependent placedRow turn turns rest schedule rowsOf lowersOf factored factorFrom factor words bytes mark version factorNumbers numbersOf certificateOf placesOf field setIn setOfCertificate begins lengthOk sizesOk headerOk isPrime dividedBelow isModulus planLengths setLengths limitsOk planOutcome certificateOutcome checkCertificateOf
 table =
     record {
       empty-rank = factor-rank 7 0 0 silent seven refl refl;
