@@ -21,7 +21,7 @@ from model.storage import Plan, Rows, plan_refusal
 from sweeps import AMPLE
 from worked import EIGHT_LEFT, PLAN_D
 
-PROGRAM = Path(__file__).resolve().parents[2] / "crates" / "factoring_cases"
+PROGRAM = Path(__file__).resolve().parents[2] / "crates" / "case_factoring"
 ARGUMENT = r'b"[^"]*"|[\w:]+'
 CALL = re.compile(rf'\b(show|room|changed)\(\s*(b"[^"]*"(?:,\s*(?:{ARGUMENT}))*),?\s*\);')
 

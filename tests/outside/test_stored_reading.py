@@ -14,7 +14,7 @@ from generate.texts import stated
 from model.plan_text import read_plan
 from model.refusals import LENGTH, Refusal
 
-PROGRAM = Path(__file__).resolve().parents[2] / "crates" / "reading_cases"
+PROGRAM = Path(__file__).resolve().parents[2] / "crates" / "case_reading"
 CALL = re.compile(r'\b([a-z]+)_case\(\s*(b"[^"]*")((?:,\s*\d+)*),?\s*\);')
 
 STARTS = 2_049

@@ -3,6 +3,7 @@
 // the plan on standard input. One line is printed: `open` and x, `closed` and z, or `refused`, a number and its detail.
 ghost use Prim.Native.Nat.{_≤_};
 ghost use lib.ListN.{length};
+ghost use Rattle.limits.specs.Limits.{startsLength};
 use limits::PRINT_ROOM;
 use limits::START_CELLS;
 use limits::WORK_CELLS;
@@ -12,7 +13,7 @@ mod question;
 mod text;
 
 fn print_answer(plan: &[u8], y: &[u32])
-    requires { ⌜ length (now y) ≤ 2049 ⌝ }
+    requires { ⌜ length (now y) ≤ startsLength ⌝ }
 {
     let mut out = [0u8; PRINT_ROOM];
     let mut work = [0u64; WORK_CELLS];
