@@ -1,4 +1,4 @@
--- `number_of` meets its contract: each test picks a case of `numberOf`. Assumes nothing.
+-- `number_of` meets its contract: each test picks a case of `numberIn`. Assumes nothing.
 use mathlib.Core.Path.{sym, _∙_}
 use borrow.Author.Needs.{needs}
 use Rattle.text_fields.proofs.Values.{number-empty, number-long, number-zero, number-lead, number-else}
