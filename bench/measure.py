@@ -2,6 +2,7 @@
 
     output        what a command prints
     stage_times   factoring and the whole report within one process
+    call_times    the C calls within one process
 """
 
 import subprocess
@@ -23,3 +24,10 @@ def stage_times(program, runs, file):
         "factoring": (int(found), float(factoring)),
         "in process": (int(reported), float(whole)),
     }
+
+
+def call_times(program, runs, file):
+    """The rank and the seconds of each, by `calls` on a plan text."""
+    rank, *seconds = output([program, runs, file]).split()
+    tools = ("make", "check", "reading")
+    return {tool: (int(rank), float(time)) for tool, time in zip(tools, seconds)}

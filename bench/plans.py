@@ -7,6 +7,7 @@ so that every plan has a report.
 
     BenchPlan    a name, a modulus, the sizes and the rows
     all_plans    the plans of the table
+    desk_plans   plan D of document 01 modulo 7, 251 and 65,521, too small for the table
     text         a plan as plan text, its triples by row and column or in another order
     ORDERS       the other orders, by name
     peer_form    a plan as the peers read it
@@ -161,3 +162,12 @@ def all_plans():
     return [
         _fitted(name, builder, p, size) for name, builder, moduli, size in TABLE for p in moduli
     ]
+
+
+PLAN_D = ({0: 2, 2: 1}, {1: 3, 3: 1}, {0: 4, 1: 3, 2: 2, 3: 1}, {1: 1, 2: 5}, {4: 3})
+
+
+def desk_plans():
+    """A call on such a plan takes microseconds, and the test of its modulus is a
+    part of that."""
+    return [BenchPlan(f"plan D p={p}", p, 5, 5, PLAN_D) for p in (7, 251, 65_521)]

@@ -3,7 +3,7 @@
     Measured     one plan with the times of every tool in seconds
     in_order     what tools gave for a text whose triples stand in another order
     markdown     rows of cells under a header
-    milliseconds, ratio   numbers as the tables write them
+    milliseconds, microseconds, ratio   numbers as the tables write them
     table        times and ratios as Markdown
 """
 
@@ -47,6 +47,10 @@ def milliseconds(seconds):
     """Three digits that matter."""
     value = 1e3 * seconds
     return f"{value:.3f}" if value < 1 else f"{value:.2f}" if value < 100 else f"{value:.0f}"
+
+
+def microseconds(seconds):
+    return f"{1e6 * seconds:.2f}"
 
 
 def ratio(value):

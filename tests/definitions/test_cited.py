@@ -40,6 +40,9 @@ class Named(unittest.TestCase):
     def test_an_edit_that_is_not_there(self):
         self.assertEqual(self.missing("`base/all_twos`"), ["base/all_twos"])
 
+    def test_a_file_that_is_not_there(self):
+        self.assertEqual(self.missing("`base/specs/Words`, `base/proofs/Words`"), ["base/proofs/Words"])
+
 
 if __name__ == "__main__":
     unittest.main()

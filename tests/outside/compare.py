@@ -27,12 +27,13 @@ from model.factors import factor
 from model.limits import GREATEST_ENTRIES
 from model.plan_text import read_plan
 from model.refusals import Refusal
-from sweeps import buffer_cases
+from sweeps import buffer_cases, modulus_cases
 from worked import EARLIER_D, EDITED, FACTORED, PLAN_D, QUESTIONS, REFUSALS, REPORTS
 
 SMALL = 1_500  # cells of a plan up to which its sets are varied at length
 SAMPLE = 24  # bytes or numbers changed in one certificate
 FEW = 6  # bytes changed where there are many entries to multiply
+MODULI = 66_101  # every number below it is put as a modulus
 ANY_CERTIFICATE = 300_000  # bytes, enough for the largest that can be made
 
 
@@ -160,6 +161,7 @@ def fixed_cases(seed):
     for p, n, m in ((7, 0, 0), (2, 3, 0), (65_521, 4, 5), (251, 9, 6)):
         text = plain_text(build(rng, dense, p, n, m))
         yield from buffer_cases(text, f"buffers {p} {n} {m}")
+    yield from modulus_cases(range(MODULI))
 
 
 def in_groups(cases, size):

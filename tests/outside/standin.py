@@ -12,7 +12,17 @@ import sys
 from typing import NamedTuple
 
 from generate.left import BLOCK, Side, side
-from model import ask, calls, certificate, check, questions, report, structure
+from model import (
+    ask,
+    calls,
+    certificate,
+    check,
+    plan_text,
+    questions,
+    report,
+    storage,
+    structure,
+)
 from model.factors import Factored, Factors, factor, reduce, schedule
 from model.plan_text import read_plan
 from model.questions import Answer
@@ -256,6 +266,12 @@ def refuses_all():
     _spoil_reading(lambda text, room: Refusal(3, 1))
 
 
+def no_division_by_251():
+    """The square of 251 is held to be a prime."""
+    true_test = plan_text.is_modulus
+    plan_text.is_modulus = storage.is_modulus = lambda p: p == 251**2 or true_test(p)
+
+
 def reads_another_plan():
     """A negative value is read without its sign."""
     _spoil_reading(lambda text, room: read_plan(text.replace(b" -", b" "), room))
@@ -341,6 +357,7 @@ DEFECTS = {
         blank_factors,
         rank_made_up,
         refuses_all,
+        no_division_by_251,
         reads_another_plan,
         wants_rising_triples,
         names_the_earlier_line,

@@ -1,4 +1,4 @@
-"""Every room and every buffer length around its edge.
+"""Every room and every buffer length around its edge, and every modulus.
 
 A sweep takes the call under test as a function, so that it serves the model
 and anything else that takes rooms.
@@ -6,6 +6,8 @@ and anything else that takes rooms.
     room_differences      factoring with every room of L and of U
     reading_differences   reading with every room for entries
     buffer_cases          the C calls with buffers around a certificate's length
+    modulus_cases         the C check of the empty plan by each modulus
+    sieve                 the primes below a bound, found without a division
 """
 
 from cases import Case
@@ -15,6 +17,7 @@ from model.plan_text import read_plan
 from model.refusals import ROOM, Refusal
 
 AMPLE = 10**6
+EMPTY = b"%d\n0 0 M\n0 0 0\n"
 
 
 def room_differences(call, plan):
@@ -70,3 +73,23 @@ def buffer_cases(text, origin):
         yield Case("make", text, buffer_length=size, origin=origin)
         resized = certificate[:size].ljust(size, b"\0")
         yield Case("check", text, certificate=resized, origin=origin)
+
+
+def modulus_cases(moduli):
+    """Checking the certificate of the plan without rows and columns, by each
+    of these moduli: it passes exactly if the modulus is accepted."""
+    empty = read_plan(EMPTY % 2, AMPLE)
+    factors = factor(empty, AMPLE, AMPLE).factors
+    for p in moduli:
+        certificate = write(empty._replace(p=p), factors)
+        yield Case("check", EMPTY % p, certificate=certificate, origin=f"modulus {p}")
+
+
+def sieve(bound):
+    """The primes below the bound, rising."""
+    prime = [False, False] + [True] * max(0, bound - 2)
+    for number in range(bound):
+        if prime[number]:
+            for multiple in range(number * number, bound, number):
+                prime[multiple] = False
+    return [number for number in range(bound) if prime[number]]

@@ -25,6 +25,7 @@ from model.refusals import REPEATED
 from programs import FILLER, Ask, Calls, Crash, Report, compile_driver
 from samples import PLAN
 from standin import DEFECTS
+from sweeps import modulus_cases
 from worked import FACTORED, PLAN_D, QUESTIONS, REFUSALS
 
 HERE = Path(__file__).parent
@@ -76,6 +77,7 @@ SHOWN_BY = {
     "blank_factors": ("calls",),
     "rank_made_up": ("report",),
     "refuses_all": ("calls", "report", "ask"),
+    "no_division_by_251": ("calls",),
     "reads_another_plan": ("calls", "report", "ask"),
     "wants_rising_triples": ("calls", "report", "ask"),
     "names_the_earlier_line": ("calls", "report"),
@@ -95,7 +97,7 @@ def block_cases():
 def given_cases():
     """Plan D and the other plans whose factors are worked, plan D in other words,
     plans at the edge of the block, repeated places, plans at the edge of the
-    rooms, and random plans."""
+    rooms, some moduli, and random plans."""
     texts = [text for text, _, _ in FACTORED]
     texts += [varied_text(Random(f"varied {index}"), PLAN) for index in range(3)]
     for text in texts:
@@ -111,6 +113,7 @@ def given_cases():
     for text in islice(edge_texts(), 4):
         yield Case("report", text)
         yield Case("make", text, buffer_length=ANY_CERTIFICATE)
+    yield from modulus_cases(range(62_980, 63_020))
     yield from chain.from_iterable(plan_cases("noticed", index) for index in range(25))
 
 

@@ -3,17 +3,19 @@
 import unittest
 from pathlib import Path
 
+from cases import expected
+from compare import MODULI
 from model.ask import ask
 from model.certificate import write
 from model.check import check_certificate
 from model.factors import factor
-from model.limits import GREATEST_MODULUS, is_modulus
+from model.limits import GREATEST_MODULUS
 from model.plan_text import read_plan
 from model.questions import answer
-from model.refusals import Refusal
+from model.refusals import DONE, NOT_PRIME, Refusal
 from model.report import refused, report
 from samples import FACTORS, PLAN, factors_of
-from sweeps import AMPLE
+from sweeps import AMPLE, modulus_cases, sieve
 from worked import (
     EARLIER_D,
     EDITED,
@@ -75,9 +77,11 @@ class WorkedCases(unittest.TestCase):
             self.assertEqual(factor(PLAN, lower, upper), refusal or (FACTORS, 4))
 
     def test_moduli(self):
-        primes = [p for p in range(GREATEST_MODULUS + 100) if is_modulus(p)]
-        self.assertEqual(len(primes), 6_542)
-        self.assertEqual(primes[-1], GREATEST_MODULUS)
+        accepted = [p for p in sieve(MODULI) if p <= GREATEST_MODULUS]
+        self.assertEqual((len(accepted), accepted[-1]), (6_542, GREATEST_MODULUS))
+        results = [expected(case)[0] for case in modulus_cases(range(MODULI))]
+        self.assertEqual([p for p, result in enumerate(results) if result == DONE], accepted)
+        self.assertEqual(set(results), {DONE, NOT_PRIME})
 
 
 if __name__ == "__main__":

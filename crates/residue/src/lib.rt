@@ -3,9 +3,12 @@ ghost use mathlib.Core.Path.{_≡_};
 ghost use Prim.Native.Nat.{_<_, _%_};
 ghost use Rattle.residue.specs.Arithmetic.{addMod, mulMod, negMod, Residue, Residues};
 ghost use Rattle.residue.specs.Inverse.{invMod, Invertible};
-ghost use Rattle.residue.specs.Primality.{isPrime};
 ghost use Rattle.residue.specs.Range.{isModulus};
 ghost use Rattle.residue.specs.Signed.{signedResidue};
+
+mod prime_test;
+
+use crate::prime_test::is_prime;
 
 // The largest modulus that is accepted.
 const LARGEST_MODULUS: u32 = 65521;
@@ -90,24 +93,6 @@ impl Modulus {
         }
         t
     }
-}
-
-// Whether p is prime: no number from 2 up to the square root of p divides it.
-pub fn is_prime(p: u32) -> bool
-    ensures { λ r. ⌜ r ≡ isPrime p ⌝ }
-{
-    if p < 2 {
-        return false;
-    }
-    let n = p as u64;
-    let mut d: u64 = 2;
-    while d * d <= n {
-        if n % d == 0 {
-            return false;
-        }
-        d += 1;
-    }
-    true
 }
 
 // Whether p is a modulus that is accepted: a prime, and none above the largest.
