@@ -7,7 +7,7 @@ so that every plan has a report.
 
     BenchPlan    a name, a modulus, the sizes and the rows
     all_plans    the plans of the table
-    desk_plans   plan D of document 01 modulo 7, 251 and 65,521, too small for the table
+    desk_plans   plan D of document 01 by four moduli, too small for the table
     text         a plan as plan text, its triples by row and column or in another order
     ORDERS       the other orders, by name
     peer_form    a plan as the peers read it
@@ -17,6 +17,8 @@ from random import Random
 from typing import NamedTuple
 
 GREATEST_TEXT = 65_536
+GREATEST_VALUE = 2_147_483_647
+LARGEST = 4_294_967_291  # the largest modulus
 
 
 class BenchPlan(NamedTuple):
@@ -51,9 +53,19 @@ def _shuffled(triples):
 ORDERS = {"by column": _by_column, "shuffled": _shuffled}
 
 
+def _stated(plan, v):
+    """A value that a text can have: a residue above its range as the negative
+    number that has it."""
+    return v if v <= GREATEST_VALUE else v - plan.p
+
+
 def text(plan, order=sorted):
     """The plan text."""
-    triples = [(i + 1, j + 1, v) for i, cells in enumerate(plan.rows) for j, v in cells.items()]
+    triples = [
+        (i + 1, j + 1, _stated(plan, v))
+        for i, cells in enumerate(plan.rows)
+        for j, v in cells.items()
+    ]
     lines = [f"{i} {j} {v}" for i, j, v in order(triples)]
     opening = [f"{plan.p}", f"{plan.n} {plan.m} M"]
     return "".join(line + "\n" for line in [*opening, *lines, "0 0 0"]).encode()
@@ -133,7 +145,7 @@ def small_dense(rng, p, size):
 
 # Name, builder, moduli, size.
 TABLE = (
-    ("random sparse", random_sparse, (2, 251, 65_521), 2_048),
+    ("random sparse", random_sparse, (2, 251, 65_521, LARGEST), 2_048),
     ("band", band, (7, 65_521), 2_048),
     ("wide band", wide_band, (7, 65_521), 2_048),
     ("filling", filling, (7, 65_521), 280),
@@ -142,7 +154,7 @@ TABLE = (
     ("dense end", dense_end, (7,), 800),
     ("dense end", dense_end, (65_521,), 384),
     ("low rank", low_rank, (7, 65_521), 1_024),
-    ("small dense", small_dense, (2, 7, 251, 65_521), 112),
+    ("small dense", small_dense, (2, 7, 251, 65_521, LARGEST), 112),
 )
 
 
@@ -170,4 +182,4 @@ PLAN_D = ({0: 2, 2: 1}, {1: 3, 3: 1}, {0: 4, 1: 3, 2: 2, 3: 1}, {1: 1, 2: 5}, {4
 def desk_plans():
     """A call on such a plan takes microseconds, and the test of its modulus is a
     part of that."""
-    return [BenchPlan(f"plan D p={p}", p, 5, 5, PLAN_D) for p in (7, 251, 65_521)]
+    return [BenchPlan(f"plan D p={p}", p, 5, 5, PLAN_D) for p in (7, 251, 65_521, LARGEST)]

@@ -6,7 +6,7 @@
  *
  *   number  when                                                  detail
  *        0  done or passed                                        0
- *        1  p not prime, or outside its range (2 to 65,521)       0
+ *        1  p not prime, or not from 2 to 4,294,967,291           0
  *        2  a size, entry or text limit passed                    0
  *        3  text malformed                                        line, from 1
  *        4  i or j outside the plan, other than the last line     line

@@ -1,4 +1,5 @@
-// FFPACK: Rank on the full matrix, in single precision where p allows it.
+// FFPACK: Rank on the full matrix, in single precision where p allows it, else in double precision. Past that it is not asked: its ranks
+// over 64-bit integers are not always right.
 
 #include <cstdint>
 #include <fflas-ffpack/fflas-ffpack-config.h>
@@ -24,7 +25,10 @@ static double rank_over(const struct matrix *a, long *rank) {
 }
 
 static double once(const struct matrix *a, long *rank) {
-    return a->modulus < 2048 ? rank_over<float>(a, rank) : rank_over<double>(a, rank);
+    if (a->modulus < 2048) return rank_over<float>(a, rank);
+    if (a->modulus <= Givaro::Modular<double>::maxCardinality()) return rank_over<double>(a, rank);
+    *rank = NOT_TAKEN;
+    return 0;
 }
 
 int main(int argc, char **argv) { return run_peer(argc, argv, once); }

@@ -1,4 +1,4 @@
-// LinBox: rank by sparse elimination, with its own reordering.
+// LinBox: rank by sparse elimination, with its own reordering; in double precision where p allows it, else in 64-bit integers.
 
 #include <linbox/linbox-config.h>
 #include <givaro/modular.h>
@@ -7,16 +7,13 @@
 
 #include "matrix.h"
 
-typedef Givaro::Modular<double> Field;
-typedef LinBox::SparseMatrix<Field, LinBox::SparseMatrixFormat::SparseSeq> Matrix;
-
-static double once(const struct matrix *a, long *rank) {
-    *rank = 0;
-    if (a->rows == 0 || a->columns == 0) return 0;  // LinBox ends by a signal here
+template <class Field>
+static double rank_over(const struct matrix *a, long *rank) {
     Field field(a->modulus);
-    Matrix sparse(field, a->rows, a->columns);
+    LinBox::SparseMatrix<Field, LinBox::SparseMatrixFormat::SparseSeq> sparse(
+        field, a->rows, a->columns);
     for (long k = 0; k < a->count; k++) {
-        Field::Element value;
+        typename Field::Element value;
         field.init(value, (int64_t)a->entries[k].value);
         sparse.setEntry(a->entries[k].row, a->entries[k].column, value);
     }
@@ -26,6 +23,14 @@ static double once(const struct matrix *a, long *rank) {
     double seconds = now() - start;
     *rank = found;
     return seconds;
+}
+
+static double once(const struct matrix *a, long *rank) {
+    typedef Givaro::Modular<double> Doubles;
+    *rank = 0;
+    if (a->rows == 0 || a->columns == 0) return 0;  // LinBox ends by a signal here
+    return a->modulus <= Doubles::maxCardinality() ? rank_over<Doubles>(a, rank)
+                                                   : rank_over<Givaro::Modular<int64_t>>(a, rank);
 }
 
 int main(int argc, char **argv) { return run_peer(argc, argv, once); }

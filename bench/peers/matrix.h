@@ -2,9 +2,10 @@
 
    Standard input holds any number of matrices: a line `p n m e`, then e lines
    `i j v`, rows and columns counted from 0 and v from 1 to p - 1. For each a
-   peer prints `rank seconds`, the median of its runs. The argument is the most
-   runs a matrix; there are fewer where they take longer than a second in all,
-   but at least one. Only the rank itself is timed. */
+   peer prints `rank seconds`, the median of its runs, or `- 0` where it does not
+   take the modulus. The argument is the most runs a matrix; there are fewer where
+   they take longer than a second in all, but at least one. Only the rank itself
+   is timed. */
 
 #ifndef MATRIX_H
 #define MATRIX_H
@@ -33,6 +34,8 @@ static inline int read_matrix(struct matrix *a) {
     return 1;
 }
 
+enum { NOT_TAKEN = -1 }; /* in the place of a rank: the modulus is past the peer's range */
+
 /* `once` leaves the rank and returns the seconds that it took. */
 typedef double rank_once(const struct matrix *, long *rank);
 
@@ -52,9 +55,12 @@ static inline int run_peer(int argc, char **argv, rank_once *once) {
     struct matrix a;
     if (most == 0) return 2;
     while (read_matrix(&a)) {
-        struct peer_run run = {once, &a, -1};
+        struct peer_run run = {once, &a, NOT_TAKEN};
         double seconds = median_seconds(run_once, &run, most, 1.0);
-        printf("%ld %.9f\n", run.rank, seconds);
+        if (run.rank == NOT_TAKEN)
+            printf("- 0\n");
+        else
+            printf("%ld %.9f\n", run.rank, seconds);
         fflush(stdout);
         free(a.entries);
     }

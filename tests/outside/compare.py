@@ -21,14 +21,26 @@ from generate.certificates import (
 from generate.edges import edge_texts, lower_edge, upper_edge
 from generate.left import plan_in_turn
 from generate.plans import build, dense, tiny_plan
+from generate.sets import with_value
 from generate.texts import damaged_text, plain_text, question_text, random_question, varied_text
 from model.certificate import write
 from model.factors import factor
 from model.limits import GREATEST_ENTRIES
 from model.plan_text import read_plan
 from model.refusals import Refusal
-from sweeps import buffer_cases, modulus_cases
-from worked import EARLIER_D, EDITED, FACTORED, PLAN_D, QUESTIONS, REFUSALS, REPORTS
+from sweeps import EMPTY, buffer_cases, modulus_cases
+from worked import (
+    EARLIER_D,
+    EDITED,
+    FACTORED,
+    LARGE_PRIMES,
+    LARGEST_VALUES,
+    NO_LARGE_MODULI,
+    PLAN_D,
+    QUESTIONS,
+    REFUSALS,
+    REPORTS,
+)
 
 SMALL = 1_500  # cells of a plan up to which its sets are varied at length
 SAMPLE = 24  # bytes or numbers changed in one certificate
@@ -125,14 +137,34 @@ def _plan_d_cases():
     for certificate in (own, write(plan, EARLIER_D)):
         yield Case("check", PLAN_D, certificate=certificate, origin="plan D")
     for which, place, value, _ in EDITED:
-        stored = getattr(factors, which)
-        values = stored.values[:place] + (value,) + stored.values[place + 1 :]
-        edited = factors._replace(**{which: stored._replace(values=values)})
+        edited = with_value(factors, which, place, value)
         yield Case("check", PLAN_D, certificate=write(plan, edited), origin="plan D edited")
     for place in range(len(own)):
         for change in (1, 2, 4, 8, 16, 32, 64, 128, 255):
             changed = own[:place] + bytes([own[place] ^ change]) + own[place + 1 :]
             yield Case("check", PLAN_D, certificate=changed, origin=f"plan D byte {place}")
+
+
+def _changed_values(factors, p):
+    """The set with each of its values raised by 1 modulo p, one at a time."""
+    for which in ("L", "U"):
+        for place, value in enumerate(getattr(factors, which).values):
+            yield with_value(factors, which, place, (value + 1) % p)
+
+
+def _large_modulus_cases():
+    """Moduli past the table of divisors, and a plan modulo the largest."""
+    yield from modulus_cases(LARGE_PRIMES + NO_LARGE_MODULI)
+    for p in LARGE_PRIMES + NO_LARGE_MODULI:
+        yield Case("report", EMPTY % p, origin=f"modulus {p}")
+    plan = read_plan(LARGEST_VALUES, GREATEST_ENTRIES)
+    factors = factor(plan, GREATEST_ENTRIES, GREATEST_ENTRIES).factors
+    yield Case("report", LARGEST_VALUES, origin="largest modulus")
+    yield Case("make", LARGEST_VALUES, buffer_length=ANY_CERTIFICATE, origin="largest modulus")
+    for held in (factors, *_changed_values(factors, plan.p)):
+        yield Case("check", LARGEST_VALUES, certificate=write(plan, held), origin="largest modulus")
+    for y in product((0, 1, plan.p - 1, plan.p), repeat=plan.m):
+        yield Case("ask", LARGEST_VALUES, question=y, origin="largest modulus")
 
 
 def _large_set_cases():
@@ -156,6 +188,7 @@ def fixed_cases(seed):
         yield Case("make", text, buffer_length=ANY_CERTIFICATE, origin="worked or limit")
         yield Case("check", text, certificate=b"", origin="worked or limit")
     yield from _plan_d_cases()
+    yield from _large_modulus_cases()
     yield from _large_set_cases()
     rng = Random(f"fixed {seed}")
     for p, n, m in ((7, 0, 0), (2, 3, 0), (65_521, 4, 5), (251, 9, 6)):

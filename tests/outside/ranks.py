@@ -14,6 +14,8 @@ from model.factors import factor
 from model.storage import row
 from sweeps import AMPLE
 
+NOT_TAKEN = "-"
+
 
 def _peer_form(plan):
     lines = [f"{plan.p} {plan.n} {plan.m} {len(plan.rows.columns)}"]
@@ -24,7 +26,8 @@ def _peer_form(plan):
 
 def rank_differences(program, seed, count):
     """(index, our rank, the peer's rank) over the same random plans that the
-    programs are compared on; large ones are left out, peers take them full."""
+    programs are compared on; large ones are left out, peers take them full, and
+    so are those whose modulus the peer does not take."""
     plans = []
     for index in range(count):
         plan = plan_in_turn(Random(f"plan {seed} {index}"), index)
@@ -34,6 +37,6 @@ def rank_differences(program, seed, count):
     done = subprocess.run([program, "1"], input=forms.encode(), capture_output=True, check=True)
     lines = done.stdout.decode().splitlines()
     for (index, plan), line in zip(plans, lines, strict=True):
-        ours, theirs = factor(plan, AMPLE, AMPLE).factors.r, int(line.split()[0])
-        if ours != theirs:
+        ours, theirs = factor(plan, AMPLE, AMPLE).factors.r, line.split()[0]
+        if theirs not in (str(ours), NOT_TAKEN):
             yield index, ours, theirs

@@ -266,10 +266,24 @@ def refuses_all():
     _spoil_reading(lambda text, room: Refusal(3, 1))
 
 
+def _spoil_moduli(wrong):
+    """`wrong` has the modulus and the right answer."""
+    right = plan_text.is_modulus
+    plan_text.is_modulus = storage.is_modulus = lambda p: wrong(p, right(p))
+
+
 def no_division_by_251():
     """The square of 251 is held to be a prime."""
-    true_test = plan_text.is_modulus
-    plan_text.is_modulus = storage.is_modulus = lambda p: p == 251**2 or true_test(p)
+    _spoil_moduli(lambda p, right: right or p == 251**2)
+
+
+def no_divisors_past_256():
+    """A number is held to be a prime where no number up to 256 divides it."""
+    _spoil_moduli(lambda p, right: right or 256 < p < 2**32 and all(p % d for d in range(2, 257)))
+
+
+def no_moduli_past_65521():
+    _spoil_moduli(lambda p, right: right and p <= 65_521)
 
 
 def reads_another_plan():
@@ -358,6 +372,8 @@ DEFECTS = {
         rank_made_up,
         refuses_all,
         no_division_by_251,
+        no_divisors_past_256,
+        no_moduli_past_65521,
         reads_another_plan,
         wants_rising_triples,
         names_the_earlier_line,

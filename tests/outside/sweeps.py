@@ -81,7 +81,7 @@ def modulus_cases(moduli):
     empty = read_plan(EMPTY % 2, AMPLE)
     factors = factor(empty, AMPLE, AMPLE).factors
     for p in moduli:
-        certificate = write(empty._replace(p=p), factors)
+        certificate = write(empty._replace(p=p % 2**32), factors)
         yield Case("check", EMPTY % p, certificate=certificate, origin=f"modulus {p}")
 
 

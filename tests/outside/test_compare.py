@@ -25,8 +25,8 @@ from model.refusals import REPEATED
 from programs import FILLER, Ask, Calls, Crash, Report, compile_driver
 from samples import PLAN
 from standin import DEFECTS
-from sweeps import modulus_cases
-from worked import FACTORED, PLAN_D, QUESTIONS, REFUSALS
+from sweeps import EMPTY, modulus_cases
+from worked import FACTORED, LARGE_PRIMES, NO_LARGE_MODULI, PLAN_D, QUESTIONS, REFUSALS
 
 HERE = Path(__file__).parent
 STUB_HEADER = """
@@ -78,6 +78,8 @@ SHOWN_BY = {
     "rank_made_up": ("report",),
     "refuses_all": ("calls", "report", "ask"),
     "no_division_by_251": ("calls",),
+    "no_divisors_past_256": ("calls", "report"),
+    "no_moduli_past_65521": ("calls", "report"),
     "reads_another_plan": ("calls", "report", "ask"),
     "wants_rising_triples": ("calls", "report", "ask"),
     "names_the_earlier_line": ("calls", "report"),
@@ -113,7 +115,9 @@ def given_cases():
     for text in islice(edge_texts(), 4):
         yield Case("report", text)
         yield Case("make", text, buffer_length=ANY_CERTIFICATE)
-    yield from modulus_cases(range(62_980, 63_020))
+    yield from modulus_cases((*range(62_980, 63_020), *LARGE_PRIMES, *NO_LARGE_MODULI))
+    for p in LARGE_PRIMES + NO_LARGE_MODULI:
+        yield Case("report", EMPTY % p)
     yield from chain.from_iterable(plan_cases("noticed", index) for index in range(25))
 
 

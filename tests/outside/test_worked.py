@@ -5,11 +5,11 @@ from pathlib import Path
 
 from cases import expected
 from compare import MODULI
+from generate.sets import with_value
 from model.ask import ask
 from model.certificate import write
 from model.check import check_certificate
 from model.factors import factor
-from model.limits import GREATEST_MODULUS
 from model.plan_text import read_plan
 from model.questions import answer
 from model.refusals import DONE, NOT_PRIME, Refusal
@@ -20,6 +20,8 @@ from worked import (
     EARLIER_D,
     EDITED,
     FACTORED,
+    LARGE_PRIMES,
+    NO_LARGE_MODULI,
     PLAN_D,
     QUESTIONS,
     REFUSALS,
@@ -67,9 +69,7 @@ class WorkedCases(unittest.TestCase):
 
     def test_edited_certificates(self):
         for which, place, value, refusal in EDITED:
-            stored = getattr(FACTORS, which)
-            values = stored.values[:place] + (value,) + stored.values[place + 1 :]
-            edited = FACTORS._replace(**{which: stored._replace(values=values)})
+            edited = with_value(FACTORS, which, place, value)
             self.assertEqual(check_certificate(PLAN, write(PLAN, edited)), refusal)
 
     def test_rooms(self):
@@ -77,11 +77,16 @@ class WorkedCases(unittest.TestCase):
             self.assertEqual(factor(PLAN, lower, upper), refusal or (FACTORS, 4))
 
     def test_moduli(self):
-        accepted = [p for p in sieve(MODULI) if p <= GREATEST_MODULUS]
-        self.assertEqual((len(accepted), accepted[-1]), (6_542, GREATEST_MODULUS))
         results = [expected(case)[0] for case in modulus_cases(range(MODULI))]
-        self.assertEqual([p for p, result in enumerate(results) if result == DONE], accepted)
+        accepted = [p for p, result in enumerate(results) if result == DONE]
+        self.assertEqual(accepted, sieve(MODULI))
+        self.assertEqual(sum(p <= 65_521 for p in accepted), 6_542)
         self.assertEqual(set(results), {DONE, NOT_PRIME})
+
+    def test_large_moduli(self):
+        for moduli, number in ((LARGE_PRIMES, DONE), (NO_LARGE_MODULI, NOT_PRIME)):
+            for case in modulus_cases(moduli):
+                self.assertEqual(expected(case)[0], number, case.text)
 
 
 if __name__ == "__main__":

@@ -7,6 +7,8 @@ Those of the structural pivots are worked by slip 9 of the change requests.
     EARLIER_D     plan D's factors as they were made before slip 9: they pass too
     REPORTS       texts with what the report program prints
     REFUSALS      texts with the refusal that the report program prints
+    LARGEST_VALUES   a plan modulo the largest modulus, with values near it
+    LARGE_PRIMES, NO_LARGE_MODULI   moduli past the table of divisors, accepted and refused
     QUESTIONS     questions on plan D with what the question program prints
     EDITED        plan D's set with one number changed, and the refusal
     ROOMS         rooms for L and U on plan D, and the refusal, or None where they suffice
@@ -200,6 +202,10 @@ REPORTS = (
         b"modulus 65521 slots 1 words 1 entries 1\nrank 1 structural 1 L 1 U 1\nopen 1\n",
     ),
     (
+        b"4294967291\n1 1 M\n1 1 -2147483648\n0 0 0\n",
+        b"modulus 4294967291 slots 1 words 1 entries 1\nrank 1 structural 1 L 1 U 1\nopen 1\n",
+    ),
+    (
         b"2\n1 1 M\n1 1 1\n0 0 0\n",
         b"modulus 2 slots 1 words 1 entries 1\nrank 1 structural 1 L 1 U 1\nopen 1\n",
     ),
@@ -225,13 +231,33 @@ REPORTS = (
     ),
 )
 
+# Of these rows two are structural pivots. By values near the largest modulus the third is
+# reduced, and its second value is filled in; the fourth cancels.
+LARGEST_VALUES = (
+    b"4294967291\n4 4 M\n1 1 -1\n1 2 -2147483648\n2 2 -2\n2 3 2147483647\n2 4 -1\n3 1 -3\n3 3 -1\n"
+    b"4 1 -2\n4 2 -5\n0 0 0\n"
+)
+# Moduli past the table of divisors: primes, and numbers that are none, or too large.
+LARGE_PRIMES = (65_537, 65_539, 2_147_483_647, 4_294_967_279, 4_294_967_291)
+NO_LARGE_MODULI = (
+    65_522,
+    257 * 257,
+    257 * 263,
+    65_521 * 65_521,
+    65_521 * 65_537,
+    *range(4_294_967_292, 4_294_967_297),
+    2**32 + 2,
+    4_294_967_311,  # a prime past the range
+    9_999_999_999,
+)
+
 REFUSALS = (
     # the modulus
     (b"0\n0 0 M\n0 0 0\n", Refusal(1)),
     (b"1\n0 0 M\n0 0 0\n", Refusal(1)),
     (b"65520\n0 0 M\n0 0 0\n", Refusal(1)),
     (b"65522\n0 0 M\n0 0 0\n", Refusal(1)),
-    (b"65537\n0 0 M\n0 0 0\n", Refusal(1)),
+    (b"4294967292\n0 0 M\n0 0 0\n", Refusal(1)),
     (b"9999999999\n0 0 M\n0 0 0\n", Refusal(1)),
     (b"10000000000\n0 0 M\n0 0 0\n", Refusal(3, 1)),
     (b"07\n0 0 M\n0 0 0\n", Refusal(3, 1)),

@@ -3,7 +3,8 @@ ghost use mathlib.Core.Path.{_≡_};
 ghost use Rattle.factor_all.specs.Factorization.{Leaves};
 ghost use Rattle.call_factor.specs.Lengths.{lentLengths, lentOutcome, lentOf};
 ghost use Rattle.call_factor.specs.Calls.{factorCallOf};
-ghost use Rattle.sparse.specs.Views.{storedBefore, storageBefore, storageAfter};
+ghost use Rattle.refusals.specs.declared.Outcome.the-variants.{Passed};
+ghost use Rattle.sparse.specs.Views.{storedAt, storedBefore, storageAt, storageBefore, storageAfter};
 use call_plan::plan_lengths;
 use call_plan::plan_outcome;
 use factor_all::clearing::clear_all;
@@ -74,6 +75,48 @@ fn lent_outcome(
     plan_outcome(p, n, m, starts, cols, vals)
 }
 
+// Factors a plan that passes the tests, into lists that do: for those who know, so that they are not made again.
+pub fn factor_accepted(
+    p: u32,
+    n: u32,
+    m: u32,
+    starts: &[u32],
+    cols: &[u32],
+    vals: &[u32],
+    ro: &mut [u32],
+    co: &mut [u32],
+    ls: &mut [u32],
+    lc: &mut [u32],
+    lv: &mut [u32],
+    us: &mut [u32],
+    uc: &mut [u32],
+    uv: &mut [u32],
+    work: &mut [u64],
+) -> Factored
+    requires { ⌜ lentOutcome p n m (storedAt starts cols vals) (lentOf (storageAt ro co ls lc lv us uc uv work)) ≡ Passed ⌝ }
+    ensures { λ o. ⌜ Leaves (factorCallOf p n m (storedBefore starts cols vals) (lentOf (storageBefore ro co ls lc lv us uc uv work))) o (storageAfter ro co ls lc lv us uc uv work) ⌝ }
+{
+    clear_all(ro, co, ls, lc, lv, us, uc, uv, work);
+    let q = Modulus { p };
+    factor_all::factor::factor(
+        q,
+        starts,
+        cols,
+        vals,
+        n,
+        m,
+        ro,
+        co,
+        ls,
+        lc,
+        lv,
+        us,
+        uc,
+        uv,
+        work,
+    )
+}
+
 // Factors a stored plan.
 //   takes    a stored plan (p, n, m, row starts, columns, values); lent lists for R (n cells), C (m), L and U (n + 1 starts each, columns and values of
 //            one length, whichever), and a working row; anything may stand in them
@@ -99,7 +142,6 @@ pub fn factor(
 ) -> Factored
     ensures { λ o. ⌜ Leaves (factorCallOf p n m (storedBefore starts cols vals) (lentOf (storageBefore ro co ls lc lv us uc uv work))) o (storageAfter ro co ls lc lv us uc uv work) ⌝ }
 {
-    clear_all(ro, co, ls, lc, lv, us, uc, uv, work);
     let lent = Lent {
         rows: ro.len(),
         columns: co.len(),
@@ -113,20 +155,20 @@ pub fn factor(
     };
     let tested = lent_outcome(p, n, m, starts, cols, vals, lent);
     if let Outcome::Refused(number, detail) = tested {
+        clear_all(ro, co, ls, lc, lv, us, uc, uv, work);
         return Factored {
             outcome: Outcome::Refused(number, detail),
             rank: 0,
             structural: 0,
         };
     }
-    let q = Modulus { p };
-    factor_all::factor::factor(
-        q,
+    factor_accepted(
+        p,
+        n,
+        m,
         starts,
         cols,
         vals,
-        n,
-        m,
         ro,
         co,
         ls,

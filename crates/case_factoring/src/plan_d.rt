@@ -75,6 +75,7 @@ pub fn moduli() {
     changed(b"D, p 4", change::P, 4);
     changed(b"D, p 65520", change::P, 65520);
     changed(b"D, p 65522", change::P, 65522);
+    changed(b"D, p 4294967292", change::P, 4294967292);
     changed(b"D, p 5", change::P, 5);
 }
 

@@ -119,4 +119,13 @@ pub fn moduli() {
         b"p 65521, large values",
         b"65521\n2 2 M\n1 1 -1\n1 2 65520\n2 1 2\n2 2 -2147483648\n0 0 0\n",
     );
+    show(
+        b"p 4294967291, a circle",
+        b"4294967291\n3 3 M\n1 1 1\n1 2 1\n2 2 1\n2 3 1\n3 1 1\n3 3 1\n0 0 0\n",
+    );
+    // the third row is reduced, and its second value is filled in; the fourth cancels
+    show(
+        b"p 4294967291, large values",
+        b"4294967291\n4 4 M\n1 1 -1\n1 2 -2147483648\n2 2 -2\n2 3 2147483647\n2 4 -1\n3 1 -3\n3 3 -1\n4 1 -2\n4 2 -5\n0 0 0\n",
+    );
 }

@@ -87,6 +87,29 @@ fn moduli() {
     plain_case(b"p of eleven digits|10000000000\n0 0 M\n0 0 0\n");
 }
 
+// Slip 10: moduli past the table of divisors.
+fn large_moduli() {
+    plain_case(b"p 65537|65537\n0 0 M\n0 0 0\n");
+    plain_case(b"p 65539|65539\n0 0 M\n0 0 0\n");
+    plain_case(b"p 2147483647|2147483647\n0 0 M\n0 0 0\n");
+    plain_case(b"p 4294967279|4294967279\n0 0 M\n0 0 0\n");
+    plain_case(b"p 4294967291|4294967291\n0 0 M\n0 0 0\n");
+}
+
+fn no_large_moduli() {
+    plain_case(b"p 66049, 257 by 257|66049\n0 0 M\n0 0 0\n");
+    plain_case(b"p 67591, 257 by 263|67591\n0 0 M\n0 0 0\n");
+    plain_case(b"p 4293001441, 65521 by 65521|4293001441\n0 0 M\n0 0 0\n");
+    plain_case(b"p 4294049777, 65521 by 65537|4294049777\n0 0 M\n0 0 0\n");
+    plain_case(b"p 4294967292|4294967292\n0 0 M\n0 0 0\n");
+    plain_case(b"p 4294967293|4294967293\n0 0 M\n0 0 0\n");
+    plain_case(b"p 4294967294|4294967294\n0 0 M\n0 0 0\n");
+    plain_case(b"p 4294967295|4294967295\n0 0 M\n0 0 0\n");
+    plain_case(b"p 4294967296|4294967296\n0 0 M\n0 0 0\n");
+    plain_case(b"p 4294967298, 2 in 32 bits|4294967298\n0 0 M\n0 0 0\n");
+    plain_case(b"p 4294967311, a prime|4294967311\n0 0 M\n0 0 0\n");
+}
+
 fn sizes() {
     plain_case(b"words 2048|2\n0 2048 M\n0 0 0\n");
     plain_case(b"words 2049|2\n0 2049 M\n0 0 0\n");
@@ -103,6 +126,12 @@ fn values() {
     plain_case(b"v -2147483649|65521\n1 1 M\n1 1 -2147483649\n0 0 0\n");
     cells_case(b"v 14 of p 7|7\n1 1 M\n1 1 14\n0 0 0\n");
     cells_case(b"v -1 of p 7|7\n1 1 M\n1 1 -1\n0 0 0\n");
+}
+
+fn values_of_large() {
+    cells_case(b"v 2147483647 of p 4294967291|4294967291\n1 1 M\n1 1 2147483647\n0 0 0\n");
+    cells_case(b"v -2147483648 of p 4294967291|4294967291\n1 1 M\n1 1 -2147483648\n0 0 0\n");
+    cells_case(b"v -1 of p 4294967291|4294967291\n1 1 M\n1 1 -1\n0 0 0\n");
 }
 
 // Line 4 of each text is at fault: 3.
@@ -247,8 +276,11 @@ fn long_any_order() {
 
 fn main() {
     moduli();
+    large_moduli();
+    no_large_moduli();
     sizes();
     values();
+    values_of_large();
     malformed();
     judged();
     any_order();

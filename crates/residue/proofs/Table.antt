@@ -1,10 +1,10 @@
--- The table's rule, by computing over the whole table, and the test by it: below 65,536 no larger divisor is needed.
+-- The table's rule, by computing over the whole table, and the test by it.
 --   table-primes     the table is the list of the numbers below 256 that `isPrime` accepts
 --   entry-large      each entry is at least 2
 --   entry-small      and below 256; `square-fits`: so that its square has 32 bits
 --   rises            each entry is above those before it
 --   complete         each prime below 256 is an entry
---   table-decides    from 2 to 65,535 a number is prime exactly if no entry whose square is at most the number divides it
+--   failing-composite   a number that does not pass the table is no prime
 use Prim.Native.Nat.{ℕ, zero, suc, _*_, _%_, _^_, _≤_, _<_}
 use mathlib.Core.Path.{_≡_, refl, sym, ap, _∙_}
 use mathlib.Core.Logic.{_⊎_, inl, inr, ⊎-elim}
@@ -20,7 +20,7 @@ use Rattle.lists.specs.Tests.{all}
 use Rattle.lists.proofs.Tests.{all-at, all-pass, all-fail}
 use Rattle.lists.proofs.Bools.{and-both, and-left, and-right, or-cases}
 use Rattle.residue.specs.Primality.{isPrime, dividedBelow, smallPrimes, smallPrime, primesBelow, passesTable}
-use Rattle.residue.proofs.Primes.{prime-true, prime-by-roots, root-lt, divided-false}
+use Rattle.residue.proofs.Primes.{prime-true, divided-false}
 
 -- ---- the rule
 
@@ -112,13 +112,6 @@ pub divided-fails : (p i : ℕ) → i < 54 → smallPrime i * smallPrime i ≤ p
 unfolding passesTable
 divided-fails p i h le z = all-fail 54 (passes p) i h (ap not (and-both (leb (smallPrime i * smallPrime i) p) _ (le-leb _ _ le) (eq-eqb _ _ z)))
 
-passing-prime : (p : ℕ) → 2 ≤ p → p < 65536 → passesTable p ≡ true → isPrime p ≡ true
-unfolding passesTable
-passing-prime p h lt e = prime-true p (prime-by-roots p h (λ q prime le z. divided q le z (complete q (root-lt p q 256 le lt) prime)))
-  where
-    divided : (q : ℕ) → q * q ≤ p → p % q ≡ 0 → (i : ℕ) × (i < 54) × (smallPrime i ≡ q) → ⊥
-    divided q le z (i, g, s) = true≢false (sym e ∙ divided-fails p i g (rw s le) (rw s z))
-
 prime-passing : (p : ℕ) → isPrime p ≡ true → passesTable p ≡ true
 unfolding passesTable
 prime-passing p e = all-pass 54 (passes p) (λ i g. go i g (leb (smallPrime i * smallPrime i) p && eqb (p % smallPrime i) 0) refl)
@@ -130,10 +123,10 @@ prime-passing p e = all-pass 54 (passes p) (λ i g. go i g (leb (smallPrime i * 
         let z = eqb-true _ _ (and-right (leb (smallPrime i * smallPrime i) p) (eqb (p % smallPrime i) 0) t) in
         absurd (true≢false (sym e ∙ divided-false p (smallPrime i) (entry-large i g) le z))
 
-pub table-decides : (p : ℕ) → 2 ≤ p → p < 65536 → passesTable p ≡ isPrime p
-table-decides p h lt = go (passesTable p) (isPrime p) refl refl
+-- the table decides against
+pub failing-composite : (p : ℕ) → passesTable p ≡ false → isPrime p ≡ false
+failing-composite p e = go (isPrime p) refl
   where
-    go : (a b : Bool) → passesTable p ≡ a → isPrime p ≡ b → a ≡ b
-    go true b e f = sym (passing-prime p h lt e) ∙ f
-    go false true e f = sym e ∙ prime-passing p f
-    go false false e f = refl
+    go : (b : Bool) → isPrime p ≡ b → b ≡ false
+    go true f = sym (prime-passing p f) ∙ e
+    go false f = refl

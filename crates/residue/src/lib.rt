@@ -11,7 +11,7 @@ mod prime_test;
 use crate::prime_test::is_prime;
 
 // The largest modulus that is accepted.
-const LARGEST_MODULUS: u32 = 65521;
+const LARGEST_MODULUS: u32 = 4294967291;
 
 // The modulus p of a call, with the operations on residues modulo p.
 pub struct Modulus {

@@ -1,6 +1,6 @@
-// The test for a prime below 65,536, by a table: a number whose square root is below 256 needs no larger divisor.
+// The test for a prime: a table, which is enough below 65,536, then odd divisors up to the square root.
 ghost use mathlib.Core.Path.{_≡_};
-ghost use Prim.Native.Nat.{_<_};
+ghost use Rattle.residue.specs.Needs.{Tabled};
 ghost use Rattle.residue.specs.Primality.{isPrime, passesTable};
 
 const TABLE_LENGTH: usize = 54;
@@ -83,13 +83,31 @@ fn passes_table(p: u32) -> bool
     true
 }
 
+// Whether no odd number from 257 up to the square root of p divides p. There is none unless p is above 66,048.
+fn passes_odd(p: u32) -> bool
+    requires { ⌜ Tabled p ⌝ }
+    ensures { λ r. ⌜ r ≡ isPrime p ⌝ }
+{
+    let n = p as u64;
+    let mut d: u32 = 257;
+    while d as u64 * d as u64 <= n {
+        if p % d == 0 {
+            return false;
+        }
+        d += 2;
+    }
+    true
+}
+
 // Whether p is prime.
 pub fn is_prime(p: u32) -> bool
-    requires { ⌜ p < 65536 ⌝ }
     ensures { λ r. ⌜ r ≡ isPrime p ⌝ }
 {
     if p < 2 {
         return false;
     }
-    passes_table(p)
+    if !passes_table(p) {
+        return false;
+    }
+    passes_odd(p)
 }

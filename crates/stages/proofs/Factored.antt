@@ -24,6 +24,7 @@ use Rattle.call_factor.specs.declared.Lent.{Lent}
 use Rattle.stages.specs.declared.Stages.{Stages}
 use Rattle.stages.specs.Stages.{reading, lentFor, factoredOf, setFactored}
 use Rattle.text_plan.specs.Held.{heldPlan}
+use Rattle.text_plan.proofs.Done.{read-good}
 use Rattle.stages.specs.Lists.{SetLists, StageLists, Held}
 use Rattle.stages.specs.Needs.{Lendable, cutTo, HeldFactored}
 use Rattle.stages.specs.Staged.{Fits, heldSet, FactorsHeld, Staged}
@@ -172,8 +173,16 @@ module _ (text : List ℕ) (A₀ A : Compressed) (h : Storage) (d : StageLists A
           values-length = values-same ∙ d .plan .values-length;
         })
 
-    pub lendable : Lendable r A h
-    lendable = record { plan = in-lists; rows-small = limits .rows; columns-small = limits .columns; set = d .set; work-length = d .work-length }
+    pub lendable : r .outcome ≡ Passed → Lendable r A h
+    lendable e =
+        record {
+          plan = in-lists;
+          rows-small = limits .rows;
+          columns-small = limits .columns;
+          good = read-good text (length (A₀ .starts)) (length (A₀ .cols)) (length (A₀ .vals)) r (A .starts) (A .cols) (A .vals) read (ap numberOf e);
+          set = d .set;
+          work-length = d .work-length;
+        }
 
     module _ (f : Factored) (h′ : Storage) (same : lentOf h′ ≡ lentOf h) (left : HeldFactored r A f h′) where
       set-lists : SetLists h′

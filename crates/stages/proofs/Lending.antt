@@ -1,5 +1,5 @@
 -- Beginnings of the lists are lent to factoring: they have the lengths that it takes, and what it leaves in them is found there.
-use mathlib.Core.Path.{_≡_, sym, ap, _∙_, subst}
+use mathlib.Core.Path.{_≡_, refl, sym, ap, _∙_, subst}
 use mathlib.Core.List.{List, _++_}
 use Prim.Native.Nat.{ℕ, _+_}
 use native.Mathlib.Omega.{arith}
@@ -10,12 +10,19 @@ use Rattle.sparse.specs.Set.{Storage, storageOf}
 use Rattle.text_plan.specs.declared.Reading.{Reading}
 use Rattle.factor_all.specs.Factorization.{Leaves}
 use Rattle.factor_all.specs.declared.factor.Factored.{Factored}
-use Rattle.call_factor.specs.Lengths.{lentOf}
+use Rattle.refusals.specs.declared.Outcome.the-variants.{Passed}
+use Rattle.call_factor.specs.Lengths.{lentOf, lentOutcome}
+use Rattle.call_factor.specs.Accepted.{LentRight}
 use Rattle.call_factor.specs.Calls.{factorCallOf}
 use Rattle.call_factor.specs.declared.Lent.{Lent}
+use Rattle.call_factor.proofs.Theorems.{lent-passes}
 use Rattle.stages.specs.Stages.{lentFor}
 use Rattle.text_plan.specs.Held.{heldPlan}
 use Rattle.stages.specs.Needs.{Lendable, cutTo, HeldFactored}
+
+-- the largest lists, cut to a plan's sizes, have the lengths that factoring takes
+pub lent-right : (n m : ℕ) → LentRight n m (lentFor n m)
+lent-right n m = record { rows = refl; columns = refl; ls = refl; lower = refl; us = refl; upper = refl; work = refl }
 
 -- a list has its length again when a beginning that was lent comes back
 pub back : (n : ℕ) (l l′ : List ℕ) → length l′ ≡ length (take n l) → length (l′ ++ drop n l) ≡ length l
@@ -54,6 +61,12 @@ module _ (r : Reading) (A : Compressed) (h : Storage) (d : Lendable r A h) where
         uv = d .set .U-lists .values-length t;
         work = d .work-length t;
       }
+
+  -- the tests of factoring would pass
+  pub accepted : lentOutcome (r .p) (r .n) (r .m) (heldPlan r A) lent ≡ Passed
+  accepted =
+      ap (lentOutcome (r .p) (r .n) (r .m) (heldPlan r A)) lent-is
+      ∙ lent-passes (r .p) (r .n) (r .m) (heldPlan r A) (lentFor (r .n) (r .m)) (d .good) (lent-right (r .n) (r .m))
 
   module _ (f : Factored) (h′ : Storage) (R-same : length (h′ .R) ≡ length (take (r .n) (h .R))) (C-same : length (h′ .C) ≡ length (take (r .m) (h .C)))
       (L-same : length (h′ .L .starts) ≡ length (take (r .n + 1) (h .L .starts))) (U-same : length (h′ .U .starts) ≡ length (take (r .n + 1) (h .U .starts))) where

@@ -25,9 +25,9 @@ use Rattle.text_plan.specs.Call.{callOf, Gives}
 use Rattle.text_plan.specs.Held.{planOf, StatesPlan, HoldsPlan}
 use Rattle.text_plan.proofs.Done.{done-exactly, holds-stated, read-good, refused-by}
 use Rattle.factor_all.specs.Factorization.{Factorization, unlessOver}
-use Rattle.call_factor.specs.Accepted.{LentRight}
 use Rattle.call_factor.proofs.Theorems.{over, whole, call-is, lent-passes, fits-exactly}
 use Rattle.stages.specs.Stages.{reading, lentFor, factoredOf}
+use Rattle.stages.proofs.Lending.{lent-right}
 use Rattle.stages.specs.Meaning.{FitsAll, OverflowsAt}
 
 module _ (text : List ℕ) where
@@ -84,12 +84,9 @@ module _ (text : List ℕ) where
   row-overflows i e = some-overflows p n m (matrix A) (structural A n m) largestEntries largestEntries i e
 
   module _ (states : StatesPlan largestEntries text) where
-    lent-right : LentRight n m (lentFor n m)
-    lent-right = record { rows = refl; columns = refl; ls = refl; lower = refl; us = refl; upper = refl; work = refl }
-
     pub factored-is : factoredOf (reading text) ≡ unlessOver firstRow wholeSet
     unfolding factoredOf
-    factored-is = call-is p n m A (lentFor n m) (lent-passes p n m A (lentFor n m) (reading-good states) lent-right)
+    factored-is = call-is p n m A (lentFor n m) (lent-passes p n m A (lentFor n m) (reading-good states) (lent-right n m))
 
     pub factored-whole : FitsAll (reading text) → factoredOf (reading text) ≡ wholeSet
     factored-whole h = factored-is ∙ ap (λ (o : Option ℕ). unlessOver o wholeSet) (fits-all .1 h)

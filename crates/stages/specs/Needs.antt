@@ -1,5 +1,5 @@
 -- What factoring a plan that was read starts from, and what it comes to.
---   Lendable r A h          the lists of A hold the plan, and those of h have the largest lengths
+--   Lendable r A h          the lists of A hold the plan, which is a good one, and those of h have the largest lengths
 --   cutTo n m h             the lists of h as they are lent for an n by m plan: R, C and the starts cut to their lengths
 --   HeldFactored r A f h    the lists so cut are left as factoring the plan says
 use Prim.Native.Nat.{ℕ, _+_, _≤_}
@@ -12,6 +12,7 @@ use Rattle.text_plan.specs.Held.{heldPlan}
 use Rattle.text_plan.specs.declared.Reading.{Reading}
 use Rattle.factor_all.specs.Factorization.{Leaves}
 use Rattle.factor_all.specs.declared.factor.Factored.{Factored}
+use Rattle.call_plan.specs.Accepted.{GoodPlan}
 use Rattle.call_factor.specs.Calls.{factorCallOf}
 use Rattle.stages.specs.Stages.{lentFor}
 use Rattle.stages.specs.Lists.{SetLists, Held}
@@ -20,6 +21,7 @@ pub record Lendable (r : Reading) (A : Compressed) (h : Storage) : Type 0 where
   pub plan : Held r A
   pub rows-small : r .n ≤ largestSize
   pub columns-small : r .m ≤ largestSize
+  pub good : GoodPlan (r .p) (r .n) (r .m) (heldPlan r A)
   pub set : SetLists h
   pub work-length : length (h .work) ≡ workLength
 

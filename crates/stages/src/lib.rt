@@ -3,7 +3,7 @@ ghost use Rattle.sparse.specs.Views.{before, storedAt, storedBefore, storedAfte
 ghost use Rattle.stages.specs.Lists.{StageLists};
 ghost use Rattle.stages.specs.Needs.{Lendable, HeldFactored};
 ghost use Rattle.stages.specs.Staged.{Staged};
-use call_factor::factor;
+use call_factor::factor_accepted;
 use factor_all::factor::Factored;
 use lists::clear_row;
 use refusals::Outcome;
@@ -17,7 +17,7 @@ pub struct Stages {
     pub upper: u32,
 }
 
-// Factors the plan that a reading left in lists.
+// Factors the plan that a reading left in lists: what it read passes the tests of factoring, which are not made again.
 fn factor_held(
     r: Reading,
     starts: &[u32],
@@ -39,7 +39,7 @@ fn factor_held(
     let n = r.n as usize;
     let m = r.m as usize;
     let count = r.count as usize;
-    factor(
+    factor_accepted(
         r.p,
         r.n,
         r.m,

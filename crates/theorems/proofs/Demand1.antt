@@ -16,11 +16,12 @@
 --                                  list of m residues
 -- What the words mean:
 --   moduli                         a modulus is accepted exactly if it is a prime that is not above the largest
+--   word-moduli                    so of the numbers below 2 ^ 32 all primes are accepted, and nothing else
 --   accepted-exactly               a text is accepted, as these sizes and entries, exactly if it states that plan: it is the canonical text of a modulus that is
 --                                  accepted, sizes within the limits, and triples in any order, no two at one place, whose values modulo p are the entries
 --   entry-limit                    a text within its length cannot pass the entry limit
 --   plans                          a stored plan passes the tests that every call begins with exactly if it is a good plan and the other lists have their lengths
-use Prim.Native.Nat.{ℕ, _+_, _-_, _*_, _≤_, _<_}
+use Prim.Native.Nat.{ℕ, _+_, _-_, _*_, _^_, _≤_, _<_}
 use mathlib.Core.Path.{_≡_}
 use mathlib.Core.Logic.{_↔_, _⊎_}
 use mathlib.Core.Bool.{Bool, true}
@@ -35,7 +36,7 @@ use Rattle.refusals.specs.declared.Outcome.the-variants.{Passed}
 use Rattle.algebra.specs.Prime.{Prime}
 use Rattle.residue.specs.Range.{isModulus, largestModulus}
 use Rattle.residue.specs.Signed.{residueOf}
-use Rattle.residue.proofs.Primes.{modulus-prime, modulus-range, prime-modulus}
+use Rattle.residue.proofs.Primes.{modulus-prime, modulus-range, prime-modulus, prime-in-range}
 use Rattle.sparse.specs.Matrix.{Compressed, compressed, matrix}
 use Rattle.sparse.specs.Set.{Set, Storage}
 use Rattle.sparse.specs.Row.{Below}
@@ -280,6 +281,9 @@ module _ (text y : List ℕ) (size : ℕ) (b₀ b w₀ w : List ℕ) (call : Ask
 
 pub moduli : (p : ℕ) → (isModulus p ≡ true) ↔ (Prime p × (p ≤ largestModulus))
 moduli p = ((λ e. (modulus-prime p e, modulus-range p e)), λ h. prime-modulus p (h .0) (h .1))
+
+pub word-moduli : (p : ℕ) → p < 2 ^ 32 → (isModulus p ≡ true) ↔ Prime p
+word-moduli p h = (modulus-prime p, λ prime. prime-modulus p prime (prime-in-range p prime h))
 
 pub accepted-exactly : (room : ℕ) (s : Sizes) (text : List ℕ) (out : List Entry) → (readOf room text ≡ accepted s out) ↔ States room s text out
 accepted-exactly = reads.accepted-exactly

@@ -21,6 +21,7 @@ from model.structure import structural
 
 from .plans import (
     MODULI,
+    SHORT_VALUES,
     build,
     cancelling,
     dense,
@@ -34,6 +35,7 @@ from .plans import (
 
 BLOCK = 32
 MOST_LEFT = 58  # so that the text of a plan past the block stays within its limit
+MOST_LEFT_LONG = 50  # the same where values have up to ten digits
 SHORTEST_CHAIN = 3
 LONGEST_CHAIN = 20
 MOST_PADS = 12
@@ -111,10 +113,11 @@ def plan_in_turn(rng, index):
 def _plan_on(rng, promised):
     """A full plan, which has one structural pivot, or one that leaves any
     content after many."""
-    rows, width = (
-        rng.randint(BLOCK + 1, MOST_LEFT) if past else rng.randint(1, BLOCK) for past in promised
-    )
     p = rng.choice(MODULI)
+    most = MOST_LEFT if p <= SHORT_VALUES else MOST_LEFT_LONG
+    rows, width = (
+        rng.randint(BLOCK + 1, most) if past else rng.randint(1, BLOCK) for past in promised
+    )
     if rng.random() < 0.3:
         return build(rng, full, p, rows + 1, width + 1)
     content = rng.choice(CONTENTS)(rng, p, rows, width)

@@ -11,7 +11,11 @@ dictionaries from column to value.
 
 from model.storage import Plan, store
 
-MODULI = (2, 3, 5, 7, 13, 251, 65_521)
+MODULI = (2, 3, 5, 7, 13, 251, 65_521, 65_537, 2_147_483_647, 4_294_967_291)
+SHORT_VALUES = 65_521  # up to this modulus values have five digits, above it ten
+SHORT_LINE = len("2048 2048 65520\n")
+LONG_LINE = len("2048 2048 -2147483648\n")
+ROOM = 64_000  # bytes for the lines of entries, so that the text stays within its limit
 
 
 def _value(rng, p):
@@ -192,7 +196,8 @@ def random_plan(rng):
         kinds = THIN_KINDS if shape == "large" else {"filling": filling}
     n, m = _sizes(rng, shape)
     plan = build(rng, kinds[rng.choice(sorted(kinds))], rng.choice(MODULI), n, m)
-    return plan if len(plan.rows.columns) <= 4_000 else random_plan(rng)
+    line = SHORT_LINE if plan.p <= SHORT_VALUES else LONG_LINE
+    return plan if line * len(plan.rows.columns) <= ROOM else random_plan(rng)
 
 
 def tiny_plan(rng):

@@ -9,6 +9,7 @@ together again.
     reordered_set    rows or columns renamed: the product stays
     changed_product  the shape stays, one cell of L or U changes
     damaged_set      one number or entry changed
+    with_value       one given value changed
 """
 
 from model.factors import Factors
@@ -140,6 +141,13 @@ def changed_product(rng, plan, factors):
             column = C[rng.randrange(k + 1, len(C))]
             upper[k][column] = _another(rng, plan.p, upper[k].get(column, 0), least=0)
     return Factors(R, C, store(lower), store(upper), r)
+
+
+def with_value(factors, which, place, value):
+    """The set with another number at a place of the values of L or of U."""
+    stored = getattr(factors, which)
+    values = stored.values[:place] + (value,) + stored.values[place + 1 :]
+    return factors._replace(**{which: stored._replace(values=values)})
 
 
 def _another(rng, p, value, least):

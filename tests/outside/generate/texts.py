@@ -1,6 +1,6 @@
 """Plan texts, plain, varied and damaged.
 
-    plain_text   the text with each residue as its own value
+    plain_text   the text with each residue as its own value, or as that less p
     ORDERS       orders in which triples may stand, by name
     varied_text  the same plan, by other values, with lines that store nothing and in any order
     damaged_text a text with something changed
@@ -22,7 +22,8 @@ ODD_FIELDS = (
 )
 ODD_MODULI = (
     b"0", b"1", b"2", b"4", b"6", b"9", b"15", b"49", b"169", b"255", b"65025", b"65519",
-    b"65520", b"65521", b"65522", b"65536", b"65537", b"4294967291", b"4294967298", b"-7", b"07",
+    b"65520", b"65521", b"65522", b"65536", b"65537", b"66049", b"4294049777", b"4294967291",
+    b"4294967295", b"4294967298", b"-7", b"07",
 )
 
 
@@ -33,9 +34,12 @@ def stated(p, n, m, triples):
 
 
 def triples_of(plan):
-    """The stored entries by row, then by column, counted from 1."""
+    """The stored entries by row, then by column, counted from 1. A residue that
+    is above the range of values is stated as the negative number that has it."""
     return [
-        (i + 1, j + 1, v) for i in range(plan.n) for j, v in sorted(row(plan.rows, i).items())
+        (i + 1, j + 1, v if v <= GREATEST_VALUE else v - plan.p)
+        for i in range(plan.n)
+        for j, v in sorted(row(plan.rows, i).items())
     ]
 
 
@@ -90,7 +94,8 @@ def varied_text(rng, plan):
 def _other_value(rng, p, v):
     """A value within the text's range that is v modulo p."""
     lowest, highest = -((v - LEAST_VALUE) // p), (GREATEST_VALUE - v) // p
-    return v + p * rng.choice((0, 0, 0, 1, -1, rng.randint(-9, 9), lowest, highest))
+    multiple = rng.choice((0, 0, 0, 1, -1, rng.randint(-9, 9), lowest, highest))
+    return v + p * max(lowest, min(multiple, highest))
 
 
 def _change_byte(rng, text):

@@ -1,9 +1,11 @@
-"""The limits of a plan (document 01, "The product", the paragraph "Limits").
+"""The limits of a plan (document 01, "The product", the paragraph "Limits"; the moduli by slip 10).
 
-    is_modulus   a prime from 2 to 65,521
+    is_modulus   a prime from 2 to 4,294,967,291
 """
 
-GREATEST_MODULUS = 65_521
+from functools import lru_cache
+
+GREATEST_MODULUS = 4_294_967_291
 GREATEST_SIZE = 2_048
 GREATEST_ENTRIES = 16_384
 GREATEST_TEXT = 65_536
@@ -11,8 +13,10 @@ LEAST_VALUE = -2_147_483_648
 GREATEST_VALUE = 2_147_483_647
 
 
+@lru_cache(maxsize=4_096)
 def is_modulus(p):
-    """Whether p is a prime within its range, by trial division."""
+    """Whether p is a prime within its range, by trial division; the largest takes
+    milliseconds, and few moduli come again and again."""
     if not 2 <= p <= GREATEST_MODULUS:
         return False
     divisor = 2

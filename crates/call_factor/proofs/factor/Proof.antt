@@ -1,78 +1,16 @@
--- `factor` meets its contract: everything lent is cleared, so that a refusal has nothing left to do. Assumes nothing.
-use mathlib.Core.Path.{_≡_, sym, ap, _∙_}
-use Rattle.refusals.specs.declared.Outcome.{Outcome}
-use Rattle.refusals.specs.declared.Outcome.the-variants.{Passed}
-use Rattle.sparse.specs.Matrix.{Compressed, compressed}
-use Rattle.sparse.specs.Set.{Storage, storageOf}
-use Rattle.factor_passes.proofs.WorkingRow.{KeptLengths}
-use Rattle.call_factor.specs.Lengths.{lentOf, lentOutcome}
-use Rattle.call_factor.proofs.Ready.{kept-same, ready, call-refused, call-done}
+-- `factor` meets its contract: what is refused is cleared, and what passes is factored. Assumes nothing.
+use mathlib.Core.Path.{sym, _∙_}
+use Rattle.call_factor.proofs.Ready.{call-refused}
 use borrow.Author.Needs.{needs}
 use Rattle.call_factor.proofs.factor.Statement.{statement}
 use Rattle.call_factor.proofs.factor.Tie as tie
 
-abbrev plan : tie.Start → Compressed
-plan s = compressed (s .args .starts .now) (s .args .cols .now) (s .args .vals .now)
+-- what was cleared, and what was factored, from what comes after each
+abbrev clearing : tie.After-slice-known18 → tie.After-clear-all
+clearing c = c .before .before .before .before .before .before .before .before .before .before .before .before .before .before .before .before .before .before
 
--- the lent lists, and the same after they were cleared
-abbrev lent : tie.Start → Storage
-lent s =
-    storageOf (s .args .ro .now) (s .args .co .now) (compressed (s .args .ls .now) (s .args .lc .now) (s .args .lv .now))
-    (compressed (s .args .us .now) (s .args .uc .now) (s .args .uv .now)) (s .args .work .now)
-
-abbrev own : tie.After-clear-all → Storage
-own x =
-    storageOf (x .clear-all .last .0) (x .clear-all .last .1 .0) (compressed (x .clear-all .last .1 .1 .0) (x .clear-all .last .1 .1 .1 .0) (x .clear-all .last .1 .1 .1 .1 .0))
-    (compressed (x .clear-all .last .1 .1 .1 .1 .1 .0) (x .clear-all .last .1 .1 .1 .1 .1 .1 .0) (x .clear-all .last .1 .1 .1 .1 .1 .1 .1 .0)) (x .clear-all .last .1 .1 .1 .1 .1 .1 .1 .1 .0)
-
--- the start, and the clearing, from what comes after each
-abbrev start : tie.After-clear-all → tie.Start
-start x = x .before .before .before .before .before .before .before .before .before .before .before .before .before .before .before .before .before .before .before .before .before .before
-
-abbrev clearing : tie.After-lent-outcome → tie.After-clear-all
-clearing c = c .before .before .before .before .before .before .before .before .before .before .before .before .before .before .before .before .before .before .before
-
-abbrev told-clearing : tie.After-enum-told → tie.After-clear-all
-told-clearing c = clearing (c .before .before)
-
-abbrev told : tie.After-factor → tie.After-enum-told
-told y = y .before .before .before .before .before .before .before .before .before .before
-
--- every length is kept, so that the tests say of both what they say of either
-kept : (x : tie.After-clear-all) → KeptLengths (lent (start x)) (own x)
-kept x =
-    record {
-      R-long = x .clear-all .kept .0;
-      C-long = x .clear-all .kept .1 .0;
-      ls-long = x .clear-all .kept .1 .1 .0;
-      lc-long = x .clear-all .kept .1 .1 .1 .0;
-      lv-long = x .clear-all .kept .1 .1 .1 .1 .0;
-      us-long = x .clear-all .kept .1 .1 .1 .1 .1 .0;
-      uc-long = x .clear-all .kept .1 .1 .1 .1 .1 .1 .0;
-      uv-long = x .clear-all .kept .1 .1 .1 .1 .1 .1 .1 .0;
-      w-long = x .clear-all .kept .1 .1 .1 .1 .1 .1 .1 .1 .0;
-    }
-
-same : (x : tie.After-clear-all) → lentOf (own x) ≡ lentOf (lent (start x))
-same x = kept-same (lent (start x)) (own x) (kept x)
-
-abbrev outcome : tie.Start → Storage → Outcome
-outcome s h = lentOutcome (s .args .p) (s .args .n) (s .args .m) (plan s) (lentOf h)
-
-tested-own : (c : tie.After-lent-outcome) → let x = clearing c in c .lent-outcome .result ≡ outcome (start x) (own x)
-tested-own c = c .lent-outcome .ensures
-
-tested : (c : tie.After-lent-outcome) → let s = start (clearing c) in c .lent-outcome .result ≡ outcome s (lent s)
-tested c = let s = start (clearing c) in tested-own c ∙ ap (lentOutcome (s .args .p) (s .args .n) (s .args .m) (plan s)) (same (clearing c))
-
-passed-own : (c : tie.After-enum-told) → let x = told-clearing c in outcome (start x) (own x) ≡ Passed
-passed-own c = sym (tested-own (c .before .before)) ∙ c .enum-told .given .1
-
-passed : (c : tie.After-enum-told) → let s = start (told-clearing c) in outcome s (lent s) ≡ Passed
-passed c = sym (tested (c .before .before)) ∙ c .enum-told .given .1
-
-clear-all-requires : tie.Need-clear-all-requires
-clear-all-requires c κs = search needs
+abbrev factoring : tie.After-slice-known27 → tie.After-factor-accepted
+factoring c = c .before .before .before .before .before .before .before .before .before .before .before .before .before .before .before .before .before .before
 
 lent-outcome-requires : tie.Need-lent-outcome-requires
 lent-outcome-requires c κs = search needs
@@ -80,80 +18,85 @@ lent-outcome-requires c κs = search needs
 enum-known-tested : tie.Need-enum-known-tested
 enum-known-tested c = search needs
 
+clear-all-requires : tie.Need-clear-all-requires
+clear-all-requires c κs = search needs
+
 same-length : tie.Need-same-length
-same-length c = kept (c .before .before .before .before .before .before .before .before .before .before .before .before .before .before .before .before .before .before .before .before .before .before) .R-long
+same-length c = clearing c .clear-all .kept .0
 
 same-length-2 : tie.Need-same-length-2
-same-length-2 c = kept (c .before .before .before .before .before .before .before .before .before .before .before .before .before .before .before .before .before .before .before .before .before .before) .C-long
+same-length-2 c = clearing c .clear-all .kept .1 .0
 
 same-length-3 : tie.Need-same-length-3
-same-length-3 c = kept (c .before .before .before .before .before .before .before .before .before .before .before .before .before .before .before .before .before .before .before .before .before .before) .ls-long
+same-length-3 c = clearing c .clear-all .kept .1 .1 .0
 
 same-length-4 : tie.Need-same-length-4
-same-length-4 c = kept (c .before .before .before .before .before .before .before .before .before .before .before .before .before .before .before .before .before .before .before .before .before .before) .lc-long
+same-length-4 c = clearing c .clear-all .kept .1 .1 .1 .0
 
 same-length-5 : tie.Need-same-length-5
-same-length-5 c = kept (c .before .before .before .before .before .before .before .before .before .before .before .before .before .before .before .before .before .before .before .before .before .before) .lv-long
+same-length-5 c = clearing c .clear-all .kept .1 .1 .1 .1 .0
 
 same-length-6 : tie.Need-same-length-6
-same-length-6 c = kept (c .before .before .before .before .before .before .before .before .before .before .before .before .before .before .before .before .before .before .before .before .before .before) .us-long
+same-length-6 c = clearing c .clear-all .kept .1 .1 .1 .1 .1 .0
 
 same-length-7 : tie.Need-same-length-7
-same-length-7 c = kept (c .before .before .before .before .before .before .before .before .before .before .before .before .before .before .before .before .before .before .before .before .before .before) .uc-long
+same-length-7 c = clearing c .clear-all .kept .1 .1 .1 .1 .1 .1 .0
 
 same-length-8 : tie.Need-same-length-8
-same-length-8 c = kept (c .before .before .before .before .before .before .before .before .before .before .before .before .before .before .before .before .before .before .before .before .before .before) .uv-long
+same-length-8 c = clearing c .clear-all .kept .1 .1 .1 .1 .1 .1 .1 .0
 
 same-length-9 : tie.Need-same-length-9
-same-length-9 c = kept (c .before .before .before .before .before .before .before .before .before .before .before .before .before .before .before .before .before .before .before .before .before .before) .w-long
+same-length-9 c = clearing c .clear-all .kept .1 .1 .1 .1 .1 .1 .1 .1 .0
 
 returns : tie.Need-returns
-returns c = let o = c .before .before .before in call-refused _ _ _ _ _ _ _ _ (sym (tested o) ∙ c .before .tested .given .1) (clearing o .clear-all .ensures)
+returns c =
+    let x = clearing c in
+    let t = x .before .before .before .before .before .before .before .before .before .before .before in
+    call-refused _ _ _ _ _ _ _ _ (sym (t .before .before .lent-outcome .ensures) ∙ t .tested .given .1) (x .clear-all .ensures)
 
 enum-told : tie.Need-enum-told
 enum-told c = search needs
 
-factor-requires : tie.Need-factor-requires
-factor-requires c κs = let e = c .before .before .before .before .before .before .before .before .before in ready _ _ _ _ _ (passed-own e) (told-clearing e .clear-all .ensures)
+factor-accepted-requires : tie.Need-factor-accepted-requires
+factor-accepted-requires c κs = let t = c .before .before .before .before .before .before .before .before .before in sym (t .before .before .lent-outcome .ensures) ∙ t .enum-told .given .1
 
 same-length-10 : tie.Need-same-length-10
-same-length-10 c = let y = c .before .before .before .before .before .before .before .before .before .before .before .before .before .before .before .before .before .before in y .factor .kept .1 .1 .1 .1 .1 .1 .0 ∙ kept (told-clearing (told y)) .R-long
+same-length-10 c = factoring c .factor-accepted .kept .1 .1 .1 .1 .1 .1 .0
 
 same-length-11 : tie.Need-same-length-11
-same-length-11 c = let y = c .before .before .before .before .before .before .before .before .before .before .before .before .before .before .before .before .before .before in y .factor .kept .1 .1 .1 .1 .1 .1 .1 .0 ∙ kept (told-clearing (told y)) .C-long
+same-length-11 c = factoring c .factor-accepted .kept .1 .1 .1 .1 .1 .1 .1 .0
 
 same-length-12 : tie.Need-same-length-12
-same-length-12 c = let y = c .before .before .before .before .before .before .before .before .before .before .before .before .before .before .before .before .before .before in y .factor .kept .1 .1 .1 .1 .1 .1 .1 .1 .0 ∙ kept (told-clearing (told y)) .ls-long
+same-length-12 c = factoring c .factor-accepted .kept .1 .1 .1 .1 .1 .1 .1 .1 .0
 
 same-length-13 : tie.Need-same-length-13
-same-length-13 c = let y = c .before .before .before .before .before .before .before .before .before .before .before .before .before .before .before .before .before .before in y .factor .kept .1 .1 .1 .1 .1 .1 .1 .1 .1 .0 ∙ kept (told-clearing (told y)) .lc-long
+same-length-13 c = factoring c .factor-accepted .kept .1 .1 .1 .1 .1 .1 .1 .1 .1 .0
 
 same-length-14 : tie.Need-same-length-14
-same-length-14 c = let y = c .before .before .before .before .before .before .before .before .before .before .before .before .before .before .before .before .before .before in y .factor .kept .1 .1 .1 .1 .1 .1 .1 .1 .1 .1 .0 ∙ kept (told-clearing (told y)) .lv-long
+same-length-14 c = factoring c .factor-accepted .kept .1 .1 .1 .1 .1 .1 .1 .1 .1 .1 .0
 
 same-length-15 : tie.Need-same-length-15
-same-length-15 c = let y = c .before .before .before .before .before .before .before .before .before .before .before .before .before .before .before .before .before .before in y .factor .kept .1 .1 .1 .1 .1 .1 .1 .1 .1 .1 .1 .0 ∙ kept (told-clearing (told y)) .us-long
+same-length-15 c = factoring c .factor-accepted .kept .1 .1 .1 .1 .1 .1 .1 .1 .1 .1 .1 .0
 
 same-length-16 : tie.Need-same-length-16
-same-length-16 c = let y = c .before .before .before .before .before .before .before .before .before .before .before .before .before .before .before .before .before .before in y .factor .kept .1 .1 .1 .1 .1 .1 .1 .1 .1 .1 .1 .1 .0 ∙ kept (told-clearing (told y)) .uc-long
+same-length-16 c = factoring c .factor-accepted .kept .1 .1 .1 .1 .1 .1 .1 .1 .1 .1 .1 .1 .0
 
 same-length-17 : tie.Need-same-length-17
-same-length-17 c = let y = c .before .before .before .before .before .before .before .before .before .before .before .before .before .before .before .before .before .before in y .factor .kept .1 .1 .1 .1 .1 .1 .1 .1 .1 .1 .1 .1 .1 .0 ∙ kept (told-clearing (told y)) .uv-long
+same-length-17 c = factoring c .factor-accepted .kept .1 .1 .1 .1 .1 .1 .1 .1 .1 .1 .1 .1 .1 .0
 
 same-length-18 : tie.Need-same-length-18
-same-length-18 c = let y = c .before .before .before .before .before .before .before .before .before .before .before .before .before .before .before .before .before .before in y .factor .kept .1 .1 .1 .1 .1 .1 .1 .1 .1 .1 .1 .1 .1 .1 .0 ∙ kept (told-clearing (told y)) .w-long
+same-length-18 c = factoring c .factor-accepted .kept .1 .1 .1 .1 .1 .1 .1 .1 .1 .1 .1 .1 .1 .1 .0
 
 returns-2 : tie.Need-returns-2
-returns-2 c = let y = c .before .before .before .before .before .before .before .before .before .before .before .before .before .before .before .before .before .before in let x = told-clearing (told y) in
-    call-done _ _ _ _ _ (lentOf (lent (start x))) (lentOf (own x)) (same x) _ (passed (told y)) (y .factor .ensures)
+returns-2 c = factoring c .factor-accepted .ensures
 
 pub factor-spec : {M : Type 1} → statement M
 factor-spec =
     tie.close
     (tie.spec
-    clear-all-requires
     lent-outcome-requires
     enum-known-tested
+    clear-all-requires
     same-length
     same-length-2
     same-length-3
@@ -165,7 +108,7 @@ factor-spec =
     same-length-9
     returns
     enum-told
-    factor-requires
+    factor-accepted-requires
     same-length-10
     same-length-11
     same-length-12

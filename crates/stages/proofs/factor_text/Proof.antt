@@ -42,7 +42,7 @@ returns : tie.Need-returns
 returns c = let s = c .before .before .before .before .before .before .before .before .before .before .before .before .before .before .before .before .before .before .before .before .before .before .before .before .before .before .before .before .before in let x = c .before .before .before .before .before .before .before .before .before .before .before .before .read in read-refused (s .args .text .now) (plan s) (compressed (x .last .1 .0) (x .last .1 .1 .0) (x .last .1 .1 .1 .0)) (lent s) (s .pre) (x .result) (x .ensures) _ (storageOf _ _ (compressed _ _ _) (compressed _ _ _) _) _ _ (c .before .before .before .before .enum-told2 .given .1) (c .before .before .clear-row .ensures)
 
 factor-held-requires : tie.Need-factor-held-requires
-factor-held-requires c κs = let s = c .before .before .before .before .before .before .before .before .before .before .before .before .before .before .before .before .before .before .before .before .before .before .before .before .before .before .before .before .before .before .before .before .before .before .before .before .before in let x = c .before .before .before .before .before .before .before .before .before .before .before .before .before .before .before .before .before .before .before .before .read in lendable (s .args .text .now) (plan s) (compressed (x .last .1 .0) (x .last .1 .1 .0) (x .last .1 .1 .1 .0)) (lent s) (s .pre) (x .result) (x .ensures) (x .kept .1 .0) (x .kept .1 .1 .0) (x .kept .1 .1 .1 .0)
+factor-held-requires c κs = let s = c .before .before .before .before .before .before .before .before .before .before .before .before .before .before .before .before .before .before .before .before .before .before .before .before .before .before .before .before .before .before .before .before .before .before .before .before .before in let x = c .before .before .before .before .before .before .before .before .before .before .before .before .before .before .before .before .before .before .before .before .read in lendable (s .args .text .now) (plan s) (compressed (x .last .1 .0) (x .last .1 .1 .0) (x .last .1 .1 .1 .0)) (lent s) (s .pre) (x .result) (x .ensures) (x .kept .1 .0) (x .kept .1 .1 .0) (x .kept .1 .1 .1 .0) (c .before .before .before .before .before .before .before .before .before .before .before .before .enum-told .given .1)
 
 cast-lower : tie.Need-cast-lower
 cast-lower c = search needs
