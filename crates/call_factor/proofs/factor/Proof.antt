@@ -1,9 +1,20 @@
 -- `factor` meets its contract: what is refused is cleared, and what passes is factored. Assumes nothing.
-use mathlib.Core.Path.{sym, _∙_}
+use mathlib.Core.Path.{_≡_, sym, _∙_}
+use Rattle.sparse.specs.Matrix.{Compressed, compressed}
+use Rattle.sparse.specs.Set.{Storage, storageOf}
+use Rattle.call_factor.specs.Lengths.{lentOf, lentOutcome}
 use Rattle.call_factor.proofs.Ready.{call-refused}
 use borrow.Author.Needs.{needs}
 use Rattle.call_factor.proofs.factor.Statement.{statement}
 use Rattle.call_factor.proofs.factor.Tie as tie
+
+abbrev plan : tie.Start → Compressed
+plan s = compressed (s .args .starts .now) (s .args .cols .now) (s .args .vals .now)
+
+abbrev lent : tie.Start → Storage
+lent s =
+    storageOf (s .args .ro .now) (s .args .co .now) (compressed (s .args .ls .now) (s .args .lc .now) (s .args .lv .now))
+    (compressed (s .args .us .now) (s .args .uc .now) (s .args .uv .now)) (s .args .work .now)
 
 -- what was cleared, and what was factored, from what comes after each
 abbrev clearing : tie.After-slice-known18 → tie.After-clear-all
@@ -11,6 +22,13 @@ clearing c = c .before .before .before .before .before .before .before .before .
 
 abbrev factoring : tie.After-slice-known27 → tie.After-factor-accepted
 factoring c = c .before .before .before .before .before .before .before .before .before .before .before .before .before .before .before .before .before .before
+
+abbrev start : tie.After-lent-outcome → tie.Start
+start o = o .before .before .before .before .before .before .before .before .before .before .before .before .before
+
+-- the tests are made of the plan and the lists that are given
+tested : (o : tie.After-lent-outcome) → let s = start o in o .lent-outcome .result ≡ lentOutcome (s .args .p) (s .args .n) (s .args .m) (plan s) (lentOf (lent s))
+tested o = o .lent-outcome .ensures
 
 lent-outcome-requires : tie.Need-lent-outcome-requires
 lent-outcome-requires c κs = search needs
@@ -52,13 +70,13 @@ returns : tie.Need-returns
 returns c =
     let x = clearing c in
     let t = x .before .before .before .before .before .before .before .before .before .before .before in
-    call-refused _ _ _ _ _ _ _ _ (sym (t .before .before .lent-outcome .ensures) ∙ t .tested .given .1) (x .clear-all .ensures)
+    call-refused _ _ _ _ _ _ _ _ (sym (tested (t .before .before)) ∙ t .tested .given .1) (x .clear-all .ensures)
 
 enum-told : tie.Need-enum-told
 enum-told c = search needs
 
 factor-accepted-requires : tie.Need-factor-accepted-requires
-factor-accepted-requires c κs = let t = c .before .before .before .before .before .before .before .before .before in sym (t .before .before .lent-outcome .ensures) ∙ t .enum-told .given .1
+factor-accepted-requires c κs = let t = c .before .before .before .before .before .before .before .before .before in sym (tested (t .before .before)) ∙ t .enum-told .given .1
 
 same-length-10 : tie.Need-same-length-10
 same-length-10 c = factoring c .factor-accepted .kept .1 .1 .1 .1 .1 .1 .0
