@@ -262,6 +262,17 @@ def rank_made_up():
     )
 
 
+def totals_by_pivots():
+    report.totals = lambda plan, factors, opened: (
+        f"totals open {factors.r} closed {plan.m - factors.r}"
+    )
+
+
+def totals_on_a_refusal():
+    true_refused = report.refused
+    report.refused = lambda refusal: true_refused(refusal) + report.printed("totals open 0 closed 0")
+
+
 def refuses_all():
     _spoil_reading(lambda text, room: Refusal(3, 1))
 
@@ -370,6 +381,8 @@ DEFECTS = {
         same_x_always,
         blank_factors,
         rank_made_up,
+        totals_by_pivots,
+        totals_on_a_refusal,
         refuses_all,
         no_division_by_251,
         no_divisors_past_256,

@@ -76,6 +76,8 @@ SHOWN_BY = {
     "same_x_always": ("report", "ask"),
     "blank_factors": ("calls",),
     "rank_made_up": ("report",),
+    "totals_by_pivots": ("report",),
+    "totals_on_a_refusal": ("report",),
     "refuses_all": ("calls", "report", "ask"),
     "no_division_by_251": ("calls",),
     "no_divisors_past_256": ("calls", "report"),

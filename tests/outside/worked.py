@@ -41,6 +41,7 @@ REPORT_D = (
     b"modulus 7 slots 5 words 5 entries 11\n"
     b"rank 4 structural 4 L 6 U 7\n"
     b"open 5\n"
+    b"totals open 1 closed 4\n"
 )
 
 
@@ -190,44 +191,78 @@ REPORTS = (
     (PLAN_D, REPORT_D),
     (FALLING_D, REPORT_D),
     (BY_COLUMN_D, REPORT_D),
-    (b"7\n0 0 M\n0 0 0\n", b"modulus 7 slots 0 words 0 entries 0\nrank 0 structural 0 L 0 U 0\n"),
-    (b"7\n0 1 M\n0 0 0\n", b"modulus 7 slots 0 words 1 entries 0\nrank 0 structural 0 L 0 U 0\n"),
-    (b"7\n2 2 M\n0 0 0\n", b"modulus 7 slots 2 words 2 entries 0\nrank 0 structural 0 L 0 U 0\n"),
+    (
+        b"7\n0 0 M\n0 0 0\n",
+        b"modulus 7 slots 0 words 0 entries 0\nrank 0 structural 0 L 0 U 0\n"
+        b"totals open 0 closed 0\n",
+    ),
+    (
+        b"7\n2 0 M\n0 0 0\n",
+        b"modulus 7 slots 2 words 0 entries 0\nrank 0 structural 0 L 0 U 0\n"
+        b"totals open 0 closed 0\n",
+    ),
+    (
+        b"7\n0 1 M\n0 0 0\n",
+        b"modulus 7 slots 0 words 1 entries 0\nrank 0 structural 0 L 0 U 0\n"
+        b"totals open 0 closed 1\n",
+    ),
+    (
+        b"7\n2 2 M\n0 0 0\n",
+        b"modulus 7 slots 2 words 2 entries 0\nrank 0 structural 0 L 0 U 0\n"
+        b"totals open 0 closed 2\n",
+    ),
+    # The one pivot word is closed: what is closed is not what is no pivot.
     (
         b"2\n2 3 M\n1 1 1\n1 2 1\n1 3 1\n2 1 1\n2 2 1\n2 3 1\n0 0 0\n",
-        b"modulus 2 slots 2 words 3 entries 6\nrank 1 structural 1 L 2 U 3\n",
+        b"modulus 2 slots 2 words 3 entries 6\nrank 1 structural 1 L 2 U 3\n"
+        b"totals open 0 closed 3\n",
     ),
     (
         b"65521\n1 1 M\n1 1 1\n0 0 0\n",
-        b"modulus 65521 slots 1 words 1 entries 1\nrank 1 structural 1 L 1 U 1\nopen 1\n",
+        b"modulus 65521 slots 1 words 1 entries 1\nrank 1 structural 1 L 1 U 1\nopen 1\n"
+        b"totals open 1 closed 0\n",
     ),
     (
         b"4294967291\n1 1 M\n1 1 -2147483648\n0 0 0\n",
-        b"modulus 4294967291 slots 1 words 1 entries 1\nrank 1 structural 1 L 1 U 1\nopen 1\n",
+        b"modulus 4294967291 slots 1 words 1 entries 1\nrank 1 structural 1 L 1 U 1\nopen 1\n"
+        b"totals open 1 closed 0\n",
     ),
     (
         b"2\n1 1 M\n1 1 1\n0 0 0\n",
-        b"modulus 2 slots 1 words 1 entries 1\nrank 1 structural 1 L 1 U 1\nopen 1\n",
+        b"modulus 2 slots 1 words 1 entries 1\nrank 1 structural 1 L 1 U 1\nopen 1\n"
+        b"totals open 1 closed 0\n",
     ),
     (
         b"7\n1 2048 M\n1 2048 1\n0 0 0\n",
-        b"modulus 7 slots 1 words 2048 entries 1\nrank 1 structural 1 L 1 U 1\nopen 2048\n",
+        b"modulus 7 slots 1 words 2048 entries 1\nrank 1 structural 1 L 1 U 1\nopen 2048\n"
+        b"totals open 1 closed 2047\n",
+    ),
+    # Every word is open: the longest report.
+    (
+        b"7\n2048 2048 M\n" + b"".join(b"%d %d 1\n" % (j, j) for j in range(1, 2049)) + b"0 0 0\n",
+        b"modulus 7 slots 2048 words 2048 entries 2048\nrank 2048 structural 2048 L 2048 U 2048\n"
+        + b"".join(b"open %d\n" % j for j in range(1, 2049))
+        + b"totals open 2048 closed 0\n",
     ),
     (
         b"7\n1 1 M\n1 1 2147483647\n0 0 0\n",
-        b"modulus 7 slots 1 words 1 entries 1\nrank 1 structural 1 L 1 U 1\nopen 1\n",
+        b"modulus 7 slots 1 words 1 entries 1\nrank 1 structural 1 L 1 U 1\nopen 1\n"
+        b"totals open 1 closed 0\n",
     ),
     (
         b"7\n1 1 M\n1 1 14\n0 0 0\n",
-        b"modulus 7 slots 1 words 1 entries 0\nrank 0 structural 0 L 0 U 0\n",
+        b"modulus 7 slots 1 words 1 entries 0\nrank 0 structural 0 L 0 U 0\n"
+        b"totals open 0 closed 1\n",
     ),
     (
         b"7\n2 2 M\n2 1 1\n1 2 1\n0 0 0\n",
-        b"modulus 7 slots 2 words 2 entries 2\nrank 2 structural 2 L 2 U 2\nopen 1\nopen 2\n",
+        b"modulus 7 slots 2 words 2 entries 2\nrank 2 structural 2 L 2 U 2\nopen 1\nopen 2\n"
+        b"totals open 2 closed 0\n",
     ),
     (
         b"7\n2 2 M\n2 1 7\n1 2 1\n0 0 0\n",
-        b"modulus 7 slots 2 words 2 entries 1\nrank 1 structural 1 L 1 U 1\nopen 2\n",
+        b"modulus 7 slots 2 words 2 entries 1\nrank 1 structural 1 L 1 U 1\nopen 2\n"
+        b"totals open 1 closed 1\n",
     ),
 )
 

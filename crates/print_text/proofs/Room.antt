@@ -8,8 +8,8 @@ use lib.ListN.{length, length-append}
 use Rattle.text_fields.specs.Decimal.{decimal}
 use Rattle.text_fields.proofs.Canonical.{decimal-length}
 use Rattle.print_text.specs.declared.lines.Summary.{Summary}
-use Rattle.print_text.specs.Labels.{modulusLabel, slotsLabel, wordsLabel, entriesLabel, rankLabel, structuralLabel, lowerLabel, upperLabel, openLabel, refusedLabel, atLabel, space}
-use Rattle.print_text.specs.Lines.{labelled, sizesLine, rankLine, openLine, wordLine, openLines}
+use Rattle.print_text.specs.Labels.{modulusLabel, slotsLabel, wordsLabel, entriesLabel, rankLabel, structuralLabel, lowerLabel, upperLabel, openLabel, totalsLabel, closedLabel, refusedLabel, atLabel, space}
+use Rattle.print_text.specs.Lines.{labelled, sizesLine, rankLine, openLine, wordLine, openLines, openCount, closedCount, totalsLine}
 use Rattle.print_text.specs.Report.{reportText, refusalText}
 use Rattle.print_text.specs.Answer.{valuesText, verdictWord, answerLine}
 use Rattle.print_text.specs.Needs.{Printable}
@@ -43,9 +43,13 @@ unfolding openLines
 lines-short j [] = omega arith
 lines-short j (cell ∷ cells) = omega (arith, length-append (wordLine j cell) (openLines (j + 1) cells), word-short j cell, lines-short (j + 1) cells)
 
-report-short : (s : Summary) (cells : List ℕ) → length (reportText s cells) ≤ 136 + 16 * length cells
+totals-short : (cells : List ℕ) → length (totalsLine cells) ≤ 41
+unfolding totalsLine flatten
+totals-short cells = simp length-append (omega (arith, labelled-short totalsLabel (openCount cells), labelled-short closedLabel (closedCount cells)))
+
+report-short : (s : Summary) (cells : List ℕ) → length (reportText s cells) ≤ 177 + 16 * length cells
 unfolding reportText flatten
-report-short s cells = simp length-append (omega (arith, sizes-short s, rank-short s, lines-short 0 cells))
+report-short s cells = simp length-append (omega (arith, sizes-short s, rank-short s, lines-short 0 cells, totals-short cells))
 
 values-short : (xs : List ℕ) → length (valuesText xs) ≤ 11 * length xs
 unfolding valuesText

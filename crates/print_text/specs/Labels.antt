@@ -1,5 +1,6 @@
 -- The fixed parts of the printed lines, as bytes.
---   modulusLabel, slotsLabel, wordsLabel, entriesLabel, rankLabel, structuralLabel, lowerLabel, upperLabel, openLabel, refusedLabel, atLabel
+--   modulusLabel, slotsLabel, wordsLabel, entriesLabel, rankLabel, structuralLabel, lowerLabel, upperLabel, openLabel, totalsLabel, closedLabel,
+--   refusedLabel, atLabel
 --                       what stands before each number, with its spaces
 --   openWord, closedWord    the two verdicts
 --   space, lineFeed         what stands before each value, and at the end of each line
@@ -41,6 +42,14 @@ upperLabel = 32 ∷ 85 ∷ 32 ∷ []
 -- `open `
 abbrev pub openLabel : List ℕ
 openLabel = 111 ∷ 112 ∷ 101 ∷ 110 ∷ 32 ∷ []
+
+-- `totals open `
+abbrev pub totalsLabel : List ℕ
+totalsLabel = 116 ∷ 111 ∷ 116 ∷ 97 ∷ 108 ∷ 115 ∷ 32 ∷ 111 ∷ 112 ∷ 101 ∷ 110 ∷ 32 ∷ []
+
+-- ` closed `
+abbrev pub closedLabel : List ℕ
+closedLabel = 32 ∷ 99 ∷ 108 ∷ 111 ∷ 115 ∷ 101 ∷ 100 ∷ 32 ∷ []
 
 -- `refused `
 abbrev pub refusedLabel : List ℕ

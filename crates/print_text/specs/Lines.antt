@@ -1,17 +1,22 @@
--- The printed lines, each with its line feed (document 01, "Report and cases").
+-- The printed lines, each with its line feed (document 01, "Report and cases"; the totals: document 02, slip 1).
 --   labelled label x         a label and a number in decimal
 --   sizesLine s              `modulus 7 slots 5 words 5 entries 11`
 --   rankLine s               `rank 4 structural 4 L 6 U 7`
 --   openLine j               `open 5`, for column 4: words count from 1
 --   wordLine j cell          the line of column j where its cell is 1 (open), none where it is 0 (closed)
 --   openLines j cells        the lines of the columns from j on, rising
+--   openCount cells          how many cells are 1 (open words)
+--   closedCount cells        how many are not (closed words)
+--   totalsLine cells         `totals open 1 closed 4`
 use Prim.Native.Nat.{ℕ, _+_}
-use mathlib.Core.Bool.{cond}
+use mathlib.Core.Bool.{cond, not}
 use mathlib.Core.List.{List, [], _∷_, _++_, flatten}
 use lib.Dec.{eqb}
+use lib.ListN.{length, getD}
+use Rattle.lists.specs.Tests.{count}
 use Rattle.text_fields.specs.Decimal.{decimal}
 use Rattle.print_text.specs.declared.lines.Summary.{Summary}
-use Rattle.print_text.specs.Labels.{modulusLabel, slotsLabel, wordsLabel, entriesLabel, rankLabel, structuralLabel, lowerLabel, upperLabel, openLabel, lineFeed}
+use Rattle.print_text.specs.Labels.{modulusLabel, slotsLabel, wordsLabel, entriesLabel, rankLabel, structuralLabel, lowerLabel, upperLabel, openLabel, totalsLabel, closedLabel, lineFeed}
 
 unfoldable pub labelled : List ℕ → ℕ → List ℕ
 labelled label x = label ++ decimal x
@@ -45,3 +50,13 @@ wordLine j cell = cond (eqb cell 1) (openLine j) []
 unfoldable pub openLines : ℕ → List ℕ → List ℕ
 openLines j [] = []
 openLines j (cell ∷ cells) = wordLine j cell ++ openLines (j + 1) cells
+
+-- each is counted, neither is what the other leaves over: that they add up to the number of words is a theorem, `counts-sum`
+unfoldable pub openCount : List ℕ → ℕ
+openCount cells = count (length cells) (λ j. eqb (getD cells j 0) 1)
+
+unfoldable pub closedCount : List ℕ → ℕ
+closedCount cells = count (length cells) (λ j. not (eqb (getD cells j 0) 1))
+
+unfoldable pub totalsLine : List ℕ → List ℕ
+totalsLine cells = flatten (labelled totalsLabel (openCount cells) ∷ labelled closedLabel (closedCount cells) ∷ lineFeed ∷ [])

@@ -5,10 +5,10 @@ use Prim.Native.Nat.{ℕ}
 use mathlib.Core.List.{List, [], _∷_, flatten}
 use Rattle.print_text.specs.declared.lines.Summary.{Summary}
 use Rattle.print_text.specs.Labels.{refusedLabel, atLabel, lineFeed}
-use Rattle.print_text.specs.Lines.{labelled, sizesLine, rankLine, openLines}
+use Rattle.print_text.specs.Lines.{labelled, sizesLine, rankLine, openLines, totalsLine}
 
 unfoldable pub reportText : Summary → List ℕ → List ℕ
-reportText s cells = flatten (sizesLine s ∷ rankLine s ∷ openLines 0 cells ∷ [])
+reportText s cells = flatten (sizesLine s ∷ rankLine s ∷ openLines 0 cells ∷ totalsLine cells ∷ [])
 
 unfoldable pub refusalText : ℕ → ℕ → List ℕ
 refusalText k d = flatten (labelled refusedLabel k ∷ labelled atLabel d ∷ lineFeed ∷ [])

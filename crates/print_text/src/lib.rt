@@ -3,3 +3,4 @@ pub mod answer;
 pub mod lines;
 mod number;
 pub mod report;
+mod totals;

@@ -12,6 +12,7 @@ use crate::lines::put_open_lines;
 use crate::lines::put_rank_line;
 use crate::lines::put_sizes_line;
 use crate::number::put_labelled;
+use crate::totals::put_totals_line;
 use byte_buffer::put_bytes;
 use lists::clear_bytes;
 
@@ -21,7 +22,8 @@ fn put_report(s: Summary, cells: &[u32], out: &mut [u8]) -> usize
 {
     let after_sizes = put_sizes_line(s, out, 0);
     let after_rank = put_rank_line(s, out, after_sizes);
-    put_open_lines(cells, out, after_rank)
+    let after_open = put_open_lines(cells, out, after_rank);
+    put_totals_line(cells, out, after_open)
 }
 
 fn put_refusal(number: u32, detail: u32, out: &mut [u8]) -> usize

@@ -1,3 +1,4 @@
 pub mod Printing
 pub mod Reported
+pub mod Totals
 pub mod Theorems

@@ -32,6 +32,7 @@ use Rattle.call_open.proofs.Theorems.{columns-long, stored-marks}
 use Rattle.factor_all.specs.Factorization.{Factorization}
 use Rattle.print_text.specs.Report.{reportText, refusalText}
 use Rattle.print_text.specs.Printed.{countedFromOne, printed, PrintsRefusal}
+use Rattle.print_text.proofs.Counting.{otherLines, totals-last}
 use Rattle.print_text.proofs.Shown.{fills-shown, first-refusal}
 use Rattle.stages.specs.Stages.{reading, factoredOf}
 use Rattle.stages.specs.Meaning.{factorsOf, FitsAll, OverflowsAt}
@@ -39,6 +40,7 @@ use Rattle.stages.proofs.ReadText.{reading-good, outcome-passed, reading-number
 use Rattle.stages.proofs.Passing.{factors-sized, factors-pass}
 use Rattle.report_lib.specs.Reporting.{summaryOf, openListOf, reportReadOf, reportOf, Reports}
 use Rattle.report_lib.specs.Meaning.{ReportsRight}
+use Rattle.report_lib.proofs.Totals.{totals-sum, marks-open, marks-closed}
 
 -- ---- the open columns from a set that passes the check
 
@@ -62,7 +64,7 @@ module _ (p n m : ℕ) (A : Compressed) (s : Set) (passes : StoredPasses p n m A
         cleared = refl;
       }
 
-  all-marked : MarksOpen p n m A (openColumns p m s)
+  pub all-marked : MarksOpen p n m A (openColumns p m s)
   all-marked =
       stored-marks p n m A s Passed (zeros m) (openColumns p m s) (zeros workLength) (zeros (length (zeros workLength)))
       (as-call (zeros m) (zeros workLength) (length-zeros m) (length-zeros workLength)) refl
@@ -137,4 +139,8 @@ module _ (text : List ℕ) (size : ℕ) (b₀ b w₀ w : List ℕ) (call : Repor
           lower-is = factors-sized p n m A good .lower-values;
           upper-is = factors-sized p n m A good .upper-values;
           marks-are = all-marked p n m A set passes;
+          last-line = (otherLines (summaryOf (reading text) (wholeSet text)) (openColumns p m set), shown-whole fits ∙ totals-last (summaryOf (reading text) (wholeSet text)) (openColumns p m set));
+          open-total = marks-open p n m A (openColumns p m set) (all-marked p n m A set passes);
+          closed-total = marks-closed p n m A (openColumns p m set) (all-marked p n m A set passes);
+          totals-sum = totals-sum p n m set;
         }

@@ -13,19 +13,29 @@
 --   .. -x                open: the x that was left has x A = y, is 0 on every row that is no pivot row, and z is all zero
 --   .. -z                closed: the z that was left has A z = 0 and y z not 0, is 1 at one column that is no pivot column and 0 at the others, and x is all zero
 --   .. -columns          the list of open columns has 1 at j exactly if the unit vector of j is in the row space, and 0 exactly if not
+-- The totals, for every set, whoever made it:
+--   open-total           so many unit questions are answered open from it
+--   closed-total         and so many closed
+--   totals-sum           together m
+--   set-tells            where it passes, a unit question is answered open exactly if the unit vector is in the row space: these are the totals of `report-right`
+--   report-foot          the totals are the last line of a text's report, where no stage refuses
 -- The set of the pivot rules, for every good plan:
 --   rules-right          has the published shape and the product A, and passes the check
 -- What the two programs print, for a text that states a plan whose factors fit:
---   report-right         the report has the plan's sizes, its rank, the number of structural pivots, the entries of L and U, and its open words
+--   report-right         the report has the plan's sizes, its rank, the number of structural pivots, the entries of L and U, its open words, and their totals
 --   ask-right            the line has the right verdict on a question of m residues, with the x or the z that `.. -x` and `.. -z` describe
-use Prim.Native.Nat.{ℕ, _<_}
+use Prim.Native.Nat.{ℕ, _+_, _<_}
 use mathlib.Core.Path.{_≡_}
 use mathlib.Core.Logic.{_↔_}
-use mathlib.Core.List.{List, [], _∷_}
+use mathlib.Core.Bool.{not}
+use mathlib.Core.List.{List, [], _∷_, _++_}
 use lib.ListN.{length, take}
 use Rattle.lists.specs.Filled.{filled}
+use Rattle.lists.specs.Tests.{count}
 use Rattle.refusals.specs.Refusals.{numberOf}
 use Rattle.refusals.specs.declared.Outcome.{Outcome}
+use Rattle.refusals.specs.declared.Outcome.the-variants.{Passed}
+use Rattle.algebra.specs.Sum.{δ}
 use Rattle.algebra.specs.Matrix.{vector}
 use Rattle.algebra.specs.Rank.{Rank}
 use Rattle.algebra.specs.RowSpace.{InRowSpace}
@@ -36,6 +46,7 @@ use Rattle.sparse.specs.Set.{Set, Storage}
 use Rattle.elimination.specs.Selection.{structural}
 use Rattle.elimination.specs.Rules.{FollowsRules}
 use Rattle.elimination.specs.Factoring.{factor}
+use Rattle.row_space.specs.Solve.{isOpen, solve, openColumns}
 use Rattle.certificate.specs.Reading.{setOfCertificate}
 use Rattle.text_plan.specs.Held.{StatesPlan}
 use Rattle.limits.specs.Limits.{largestEntries, workLength}
@@ -54,15 +65,17 @@ use Rattle.call_answer.proofs.Theorems as answers
 use Rattle.call_open.specs.Calls.{openFactorsOf, openCertificateOf, Lists}
 use Rattle.call_open.specs.Meaning.{MarksOpen}
 use Rattle.call_open.proofs.Theorems as columns
-use Rattle.stages.specs.Stages.{reading}
+use Rattle.stages.specs.Stages.{reading, factoredOf}
 use Rattle.stages.specs.Meaning.{FitsAll}
 use Rattle.stages.proofs.Passing.{factors-pass}
 use Rattle.plq.specs.Calls.{Makes}
 use Rattle.plq.specs.Meaning.{ownCertificate}
 use Rattle.plq.proofs.Texts as texts
-use Rattle.report_lib.specs.Reporting.{Reports}
-use Rattle.report_lib.specs.Meaning.{ReportsRight}
+use Rattle.print_text.specs.Lines.{openCount, closedCount, totalsLine}
+use Rattle.report_lib.specs.Reporting.{openListOf, reportOf, Reports}
+use Rattle.report_lib.specs.Meaning.{TellsOpen, ReportsRight}
 use Rattle.report_lib.proofs.Theorems as reports
+use Rattle.report_lib.proofs.Totals as totals
 use Rattle.ask_lib.specs.Asking.{Asks}
 use Rattle.ask_lib.specs.Meaning.{AskRight}
 use Rattle.ask_lib.proofs.Theorems as asks
@@ -136,6 +149,25 @@ stored-columns = columns.stored-marks
 pub bytes-columns : (p n m : ℕ) (A : Compressed) (cert : List ℕ) (r : Outcome) (l₀ l w₀ w : List ℕ) → Lists (openCertificateOf p n m A cert (length l₀) (length w₀)) r l₀ l w₀ w
     → numberOf r ≡ 0 → MarksOpen p n m A l
 bytes-columns = columns.bytes-marks
+
+-- ---- the totals
+
+pub open-total : (p n m : ℕ) (s : Set) → openCount (openColumns p m s) ≡ count m (λ j. isOpen (solve p n m s (δ j) .verdict))
+open-total = totals.open-total
+
+pub closed-total : (p n m : ℕ) (s : Set) → closedCount (openColumns p m s) ≡ count m (λ j. not (isOpen (solve p n m s (δ j) .verdict)))
+closed-total = totals.closed-total
+
+pub totals-sum : (p n m : ℕ) (s : Set) → openCount (openColumns p m s) + closedCount (openColumns p m s) ≡ m
+totals-sum = totals.totals-sum
+
+pub set-tells : (p n m : ℕ) (A : Compressed) (s : Set) → StoredPasses p n m A s workLength → TellsOpen p n m A (λ j. isOpen (solve p n m s (δ j) .verdict))
+set-tells p n m A s passes = totals.set-tells p n m A s (reports.all-marked p n m A s passes)
+
+pub report-foot : (text : List ℕ) → reading text .result .outcome ≡ Passed → factoredOf (reading text) .outcome ≡ Passed
+    → openListOf (reading text) (factoredOf (reading text)) .outcome ≡ Passed
+    → (front : List ℕ) × (reportOf text ≡ front ++ totalsLine (openListOf (reading text) (factoredOf (reading text)) .list))
+report-foot = totals.report-foot
 
 -- ---- the set of the pivot rules
 

@@ -1,6 +1,7 @@
 """The report program's output (document 01, "Report and cases").
 
     report       the output for a text
+    totals       its last line (document 02, slip 1)
     stages       reading, then factoring, with the rooms that the program lends
     printed      lines as a program prints them
     refused      the one line of a refusal
@@ -14,17 +15,25 @@ from .refusals import Refusal
 
 
 def report(text):
-    """Sizes, rank line and open words, or the one line of a refusal."""
+    """Sizes, rank line, open words and totals, or the one line of a refusal."""
     result = stages(text)
     if isinstance(result, Refusal):
         return refused(result)
     plan, (factors, structural) = result
     lower, upper = len(factors.L.columns), len(factors.U.columns)
+    opened = open_words(plan, factors)
     return printed(
         f"modulus {plan.p} slots {plan.n} words {plan.m} entries {len(plan.rows.columns)}",
         f"rank {factors.r} structural {structural} L {lower} U {upper}",
-        *(f"open {column + 1}" for column in open_words(plan, factors)),
+        *(f"open {column + 1}" for column in opened),
+        totals(plan, factors, opened),
     )
+
+
+def totals(plan, factors, opened):
+    """How many words are open and how many are closed; both are counted."""
+    closed = set(range(plan.m)) - set(opened)
+    return f"totals open {len(opened)} closed {len(closed)}"
 
 
 def stages(text):
