@@ -19,8 +19,11 @@
  *       12  r above the smaller of n and m                        0
  *       13  factor storage or shape broken                        0
  *       14  product differs                                       first position, from 0
+ *       16  an owner above 255                                    line
  *
  * A call needs about 710 KiB of stack, whatever the plan, and no other memory; the library keeps nothing between calls.
+ *
+ * A text may state the owners of its words; a certificate has nothing of them, and passes with any.
  *
  * docs/FORMATS.md describes the plan text and the certificate's bytes.
  */
@@ -40,7 +43,7 @@ extern "C" {
 /* Makes the certificate of a plan.
  *   takes    a plan text, and a buffer of any length and content
  *   gives    0, and the certificate in the buffer, zero past its end; its header says its length (plq_certificate_length)
- *   refuses  reading: 2, then the first line at fault, 3 to 6 or 1 or 2; then factoring, with 16,384 entries for each of L and U: 7; then
+ *   refuses  reading: 2, then the first line at fault, 3 to 6, 1, 2 or 16; then factoring, with 16,384 entries for each of L and U: 7; then
  *            writing: 9
  *   leaves   after a refusal the buffer all zero; the text is only read */
 uint64_t plq_make_certificate(const uint8_t *text, size_t text_length, uint8_t *buffer, size_t buffer_length);

@@ -2,6 +2,7 @@
 
     plan_cases       all cases of one random plan
     tiny_cases       every question on one tiny plan
+    asked_cases      questions that follow a plan and its owners
     fixed_cases      worked cases, limits, sweeps and damages of plan D
     differences      the cases on which a program and the model differ
 """
@@ -30,12 +31,15 @@ from model.plan_text import read_plan
 from model.refusals import Refusal
 from sweeps import EMPTY, buffer_cases, modulus_cases
 from worked import (
+    AFTER_D,
+    ASKED,
     EARLIER_D,
     EDITED,
     FACTORED,
     LARGE_PRIMES,
     LARGEST_VALUES,
     NO_LARGE_MODULI,
+    OWNED_D,
     PLAN_D,
     QUESTIONS,
     REFUSALS,
@@ -77,6 +81,7 @@ def _printed_cases(rng, plan, text, origin):
         yield Case("check", damaged, certificate=rng.randbytes(40), origin=origin)
     if rng.random() < 0.25:
         yield Case("ask", damaged, question=random_question(rng, plan), origin=origin)
+        yield Case("ask", damaged + question_text(rng, plan), origin=origin)
 
 
 def _certificates(rng, plan, factors):
@@ -126,16 +131,18 @@ def tiny_cases(seed, index, most):
 
 
 def _plan_d_cases():
-    """Document 01's questions and edits, and the certificate that was made before
-    slip 9; then every byte of D's certificate changed in every way that one bit
-    or all bits make."""
+    """Document 01's questions and the certificate that was made before slip 9, with
+    owners and without; document 01's edits; then every byte of D's certificate
+    changed in every way that one bit or all bits make."""
     plan = read_plan(PLAN_D, GREATEST_ENTRIES)
     factors = factor(plan, GREATEST_ENTRIES, GREATEST_ENTRIES).factors
     own = write(plan, factors)
-    for y, _ in QUESTIONS:
-        yield Case("ask", PLAN_D, question=y, origin="plan D")
-    for certificate in (own, write(plan, EARLIER_D)):
-        yield Case("check", PLAN_D, certificate=certificate, origin="plan D")
+    for text in (PLAN_D, OWNED_D):
+        for y, _ in QUESTIONS:
+            yield Case("ask", text, question=y, origin="plan D")
+        for certificate in (own, write(plan, EARLIER_D)):
+            yield Case("check", text, certificate=certificate, origin="plan D")
+    yield from asked_cases()
     for which, place, value, _ in EDITED:
         edited = with_value(factors, which, place, value)
         yield Case("check", PLAN_D, certificate=write(plan, edited), origin="plan D edited")
@@ -143,6 +150,15 @@ def _plan_d_cases():
         for change in (1, 2, 4, 8, 16, 32, 64, 128, 255):
             changed = own[:place] + bytes([own[place] ^ change]) + own[place + 1 :]
             yield Case("check", PLAN_D, certificate=changed, origin=f"plan D byte {place}")
+
+
+def asked_cases():
+    """Questions by text: the worked ones, and one after each line that may follow
+    plan D."""
+    for text, _ in ASKED:
+        yield Case("ask", text, origin="question by text")
+    for after, _ in AFTER_D:
+        yield Case("ask", PLAN_D + after + b"0 0 0 0 1\n", origin="question by text")
 
 
 def _changed_values(factors, p):

@@ -24,7 +24,8 @@ from model import (
     structure,
 )
 from model.factors import Factored, Factors, factor, reduce, schedule
-from model.plan_text import read_plan
+from model.limits import GREATEST_OWNER, GREATEST_TEXT
+from model.plan_text import LAST_LINE, OWNERS_WORD, read_plan
 from model.questions import Answer
 from model.refusals import Refusal
 from model.storage import row, store
@@ -302,9 +303,9 @@ def reads_another_plan():
     _spoil_reading(lambda text, room: read_plan(text.replace(b" -", b" "), room))
 
 
-def _places(text, end):
-    """i and j of the lines from the third one up to `end`."""
-    return [tuple(map(int, line.split(b" ")[:2])) for line in text.split(b"\n")[2:end]]
+def _places(lines):
+    """i and j of the lines from the third one on."""
+    return [tuple(map(int, line.split(b" ")[:2])) for line in lines[2:]]
 
 
 def wants_rising_triples():
@@ -312,7 +313,8 @@ def wants_rising_triples():
 
     def wrong(text, room):
         found = read_plan(text, room)
-        places = [] if isinstance(found, Refusal) else _places(text, -2)
+        lines = text.split(b"\n")
+        places = [] if isinstance(found, Refusal) else _places(lines[: lines.index(LAST_LINE)])
         for line in range(1, len(places)):
             if places[line] <= places[line - 1]:
                 return Refusal(5, line + 3)
@@ -328,7 +330,7 @@ def _spoil_repeats(function):
         found = read_plan(text, room)
         if not isinstance(found, Refusal) or found.number != 5:
             return found
-        places = _places(text, found.detail)
+        places = _places(text.split(b"\n")[: found.detail])
         return function(text, room, places.index(places[-1]) + 3, found.detail)
 
     _spoil_reading(wrong)
@@ -348,6 +350,100 @@ def repeats_a_zero():
         return read_plan(b"\n".join(lines[: first - 1] + lines[first:]), room)
 
     _spoil_repeats(wrong)
+
+
+def unstated_owners_are_pads():
+    """Without the line of owners every word has the owner 0."""
+    plan_text.UNSTATED_OWNER = 0
+
+
+def first_owner_always():
+    """Every open word is printed with the owner of the first word."""
+    report.open_line = lambda plan, column: f"open {column + 1} owner {plan.owners[0]}"
+
+
+def open_pads_left_out():
+    """Pads are not printed, and count as closed."""
+    report.open_words = lambda plan, factors: [
+        j for j in questions.open_words(plan, factors) if plan.owners[j]
+    ]
+
+
+def pads_left_out_of_the_plan():
+    """Owners alter the plan: what stands at pads is not stored."""
+
+    def wrong(text, room):
+        found = read_plan(text, room)
+        if isinstance(found, Refusal):
+            return found
+        rows = (row(found.rows, i) for i in range(found.n))
+        kept = ({j: v for j, v in cells.items() if found.owners[j]} for cells in rows)
+        return found._replace(rows=store(kept))
+
+    _spoil_reading(wrong)
+
+
+def _spoil_owners(function):
+    """`function` has the fields after the word `owners`, and the right answer."""
+    true_numbers = plan_text._owner_numbers
+
+    def wrong(lines, number, m):
+        found = true_numbers(lines, number, m)
+        word, *fields = lines[number - 1].split(b" ") if number <= len(lines) else [b""]
+        return function(fields, found) if word == OWNERS_WORD else found
+
+    plan_text._owner_numbers = wrong
+
+
+def owners_modulo_256():
+    """An owner above 255 is cut down to a byte."""
+    _spoil_owners(
+        lambda fields, found: (
+            found if isinstance(found, Refusal) else tuple(owner % 256 for owner in found)
+        )
+    )
+
+
+def owners_judged_one_by_one():
+    """16 comes before 3 where the number is before what is malformed."""
+
+    def wrong(fields, found):
+        for field in fields if isinstance(found, Refusal) else ():
+            if not plan_text.OWNER.fullmatch(field):
+                break
+            if int(field) > GREATEST_OWNER:
+                return Refusal(16, found.detail)
+        return found
+
+    _spoil_owners(wrong)
+
+
+def rest_before_large_owners():
+    """What follows the line of owners comes before 16 on the line."""
+    true_owners = plan_text._owners
+
+    def wrong(lines, unterminated, last, m):
+        found = true_owners(lines, unterminated, last, m)
+        has_rest = len(lines) > last + 1 or unterminated
+        return Refusal(3, last + 2) if has_rest and found == (16, last + 1) else found
+
+    plan_text._owners = wrong
+
+
+def owners_past_the_limit():
+    """The line of owners does not count towards the length of a text."""
+    plan_text.GREATEST_TEXT = 2 * GREATEST_TEXT
+
+    def wrong(text, room):
+        plan, _, _ = text.partition(OWNERS_WORD)
+        return Refusal(2) if len(plan) > GREATEST_TEXT else read_plan(text, room)
+
+    _spoil_reading(wrong)
+
+
+def owners_asked():
+    """The line of owners is taken for the beginning of the question."""
+    ask.plan_end = lambda text: len(b"".join(text.partition(b"\n0 0 0\n")[:2]))
 
 
 def leaves_refused_output():
@@ -391,6 +487,15 @@ DEFECTS = {
         wants_rising_triples,
         names_the_earlier_line,
         repeats_a_zero,
+        unstated_owners_are_pads,
+        first_owner_always,
+        open_pads_left_out,
+        pads_left_out_of_the_plan,
+        owners_modulo_256,
+        owners_judged_one_by_one,
+        rest_before_large_owners,
+        owners_past_the_limit,
+        owners_asked,
         leaves_refused_output,
     )
 }

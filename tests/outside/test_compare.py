@@ -18,15 +18,26 @@ from compare import (
     plan_cases,
     tiny_cases,
 )
-from generate.edges import edge_texts, left_edges
+from generate.edges import edge_texts, left_edges, owned_text_of_length
 from generate.left import BLOCK
 from generate.texts import plain_text, varied_text
+from model.limits import GREATEST_TEXT
 from model.refusals import REPEATED
 from programs import FILLER, Ask, Calls, Crash, Report, compile_driver
 from samples import PLAN
 from standin import DEFECTS
 from sweeps import EMPTY, modulus_cases
-from worked import FACTORED, LARGE_PRIMES, NO_LARGE_MODULI, PLAN_D, QUESTIONS, REFUSALS
+from worked import (
+    AFTER_D,
+    ASKED,
+    FACTORED,
+    LARGE_PRIMES,
+    NO_LARGE_MODULI,
+    OWNED_D,
+    PLAN_D,
+    QUESTIONS,
+    REFUSALS,
+)
 
 HERE = Path(__file__).parent
 STUB_HEADER = """
@@ -86,6 +97,15 @@ SHOWN_BY = {
     "wants_rising_triples": ("calls", "report", "ask"),
     "names_the_earlier_line": ("calls", "report"),
     "repeats_a_zero": ("calls", "report"),
+    "unstated_owners_are_pads": ("report",),
+    "first_owner_always": ("report",),
+    "open_pads_left_out": ("report",),
+    "pads_left_out_of_the_plan": ("calls", "report", "ask"),
+    "owners_modulo_256": ("calls", "report", "ask"),
+    "owners_judged_one_by_one": ("calls", "report", "ask"),
+    "rest_before_large_owners": ("calls", "report"),
+    "owners_past_the_limit": ("calls", "report"),
+    "owners_asked": ("ask",),
     "leaves_refused_output": ("calls",),
 }
 
@@ -98,10 +118,21 @@ def block_cases():
             yield Case("make", plain_text(plan), buffer_length=ANY_CERTIFICATE)
 
 
+def owner_cases():
+    """Plan D with owners, some of them too large, questions after it, and a text
+    that is too long by its owners."""
+    large = [PLAN_D + after for after, _ in AFTER_D if after.startswith(b"owners 256 1 2 2 0")]
+    for text in (OWNED_D, *large, owned_text_of_length(GREATEST_TEXT + 1)):
+        yield Case("report", text)
+        yield Case("make", text, buffer_length=600)
+    for text, _ in ASKED:
+        yield Case("ask", text)
+
+
 def given_cases():
     """Plan D and the other plans whose factors are worked, plan D in other words,
-    plans at the edge of the block, repeated places, plans at the edge of the
-    rooms, some moduli, and random plans."""
+    with owners, plans at the edge of the block, repeated places, plans at the edge
+    of the rooms, some moduli, and random plans."""
     texts = [text for text, _, _ in FACTORED]
     texts += [varied_text(Random(f"varied {index}"), PLAN) for index in range(3)]
     for text in texts:
@@ -110,6 +141,7 @@ def given_cases():
     for y, _ in QUESTIONS:
         yield Case("ask", PLAN_D, question=y)
         yield Case("ask", texts[-1], question=y)
+    yield from owner_cases()
     yield from block_cases()
     for text in (text for text, refusal in REFUSALS if refusal.number == REPEATED):
         yield Case("report", text)
@@ -163,11 +195,11 @@ class Reaches(unittest.TestCase):
 
     def test_numbers_of_the_calls(self):
         numbers = {number % 256 for number, _ in self.results["make"] + self.results["check"]}
-        self.assertEqual(numbers, set(range(15)) - {8})
+        self.assertEqual(numbers, {*range(15), 16} - {8})
 
     def test_lines_of_the_programs(self):
         printed = self.results["report"] + self.results["ask"]
-        refusals = [b"refused %d at " % number for number in (1, 2, 3, 4, 5, 6, 7, 15)]
+        refusals = [b"refused %d at " % number for number in (1, 2, 3, 4, 5, 6, 7, 15, 16)]
         for opening in (*refusals, b"modulus", b"open", b"closed"):
             self.assertTrue(any(line.startswith(opening) for line in printed), opening)
 

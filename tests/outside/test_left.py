@@ -12,7 +12,7 @@ from generate.plans import dense
 from model.factors import factor
 from model.limits import GREATEST_ENTRIES, GREATEST_MODULUS
 from model.refusals import ROOM, Refusal
-from model.storage import Plan, store
+from model.storage import plan_of, store
 from samples import factors_of
 from sweeps import AMPLE, room_differences
 
@@ -121,7 +121,7 @@ class Benchmark(unittest.TestCase):
         bench = module_from_spec(spec)
         spec.loader.exec_module(bench)
         dense_ends = [plan for plan in bench.all_plans() if plan.name.startswith("dense end")]
-        found = [left(Plan(one.p, one.n, one.m, store(one.rows))) for one in dense_ends]
+        found = [left(plan_of(one.p, one.n, one.m, store(one.rows))) for one in dense_ends]
         self.assertEqual(found, [Left(28, 28), Left(30, 30)])
 
 

@@ -1,18 +1,24 @@
-"""Reading and factoring in the model: variations, enumeration and every room."""
+"""Reading and factoring in the model: variations, enumeration, every room and owners."""
 
+import re
 import unittest
 from itertools import combinations, product
 
-from generate import edges, texts
+from generate import edges, sets, texts
 from generate.plans import tiny_plan
 from model import enumeration, structure
+from model.ask import ask
+from model.calls import check_certificate as check_call
+from model.calls import make_certificate as make_call
 from model.certificate import write
 from model.check import check_certificate, check_factors
 from model.factors import factor
 from model.limits import GREATEST_ENTRIES, GREATEST_VALUE
 from model.plan_text import read_plan
+from model.questions import open_words
 from model.refusals import Refusal
-from model.storage import Plan, Rows, plan_refusal, row
+from model.report import report
+from model.storage import Plan, Rows, plan_of, plan_refusal, row
 from samples import FACTORS, PLAN, factors_of, plans, small_plans
 from sweeps import AMPLE, reading_differences, room_differences
 
@@ -52,7 +58,7 @@ class Reading(unittest.TestCase):
     def test_a_value_that_reduces_to_zero_needs_no_room(self):
         text = b"7\n1 2 M\n1 1 -14\n1 2 5\n0 0 0\n"
         self.assertEqual(read_plan(text, 0), Refusal(7, 4))
-        self.assertEqual(read_plan(text, 1), Plan(7, 1, 2, Rows((0, 1), (1,), (5,))))
+        self.assertEqual(read_plan(text, 1), plan_of(7, 1, 2, Rows((0, 1), (1,), (5,))))
 
     def test_room_comes_in_text_order(self):
         text = b"7\n1 3 M\n1 1 1\n1 2 1\n1 3 x\n"
@@ -77,6 +83,64 @@ class Reading(unittest.TestCase):
 
     def test_no_text_reaches_the_entry_limit(self):
         self.assertLess(65_536 // len("1 1 1\n"), GREATEST_ENTRIES)
+
+
+class Owners(unittest.TestCase):
+    """The owners of words against slip 4's sentences."""
+
+    def test_about_half_of_the_texts_state_them(self):
+        varied = [(plan, texts.varied_text(rng, plan)) for rng, plan in plans("stated", 400)]
+        found = [plan.owners for plan, text in varied if b"\nowners" in text]
+        self.assertTrue(160 < len(found) < 240, len(found))
+        self.assertGreater(sum(set(owners) == {1} for owners in found), 20)
+        self.assertGreater(sum({0, 255} <= set(owners) for owners in found), 20)
+        self.assertIn((), found)
+
+    def test_every_number(self):
+        """A number is taken as it is printed; above 255 it is 16."""
+        fields = [bytes(field) for size in range(5) for field in product(b"0125 -", repeat=size)]
+        for field in (*fields, b"4294967296", b"9999999999", b"10000000000"):
+            is_printed = field.isdigit() and field == b"%d" % int(field) and len(field) <= 10
+            found = read_plan(b"7\n0 1 M\n0 0 0\nowners %s\n" % field, 0)
+            if not is_printed:
+                self.assertEqual(found, Refusal(3, 4), field)
+            elif int(field) > 255:
+                self.assertEqual(found, Refusal(16, 4), field)
+            else:
+                self.assertEqual(found.owners, (int(field),))
+
+    def test_they_alter_nothing_but_their_lines(self):
+        for rng, plan in small_plans("altered", 100):
+            others = plan._replace(owners=tuple(rng.choices(range(256), k=plan.m)))
+            self.assertEqual(factor(plan, AMPLE, AMPLE), factor(others, AMPLE, AMPLE))
+            y = texts.random_question(rng, plan)
+            certificate = write(plan, sets.damaged_set(rng, plan, factors_of(plan)))
+            for call in (
+                lambda text: make_call(text, 4_096),
+                lambda text: check_call(text, certificate),
+                lambda text: ask(text, y),
+                lambda text: re.sub(rb" owner [0-9]+\n", b"\n", report(text)),
+            ):
+                self.assertEqual(*(call(texts.plain_text(one)) for one in (plan, others)))
+
+    def test_open_words_have_their_own(self):
+        for _, plan in small_plans("own words", 100):
+            found = re.findall(rb"open ([0-9]+) owner ([0-9]+)\n", report(texts.plain_text(plan)))
+            wanted = [(j + 1, plan.owners[j]) for j in open_words(plan, factors_of(plan))]
+            self.assertEqual([tuple(map(int, line)) for line in found], wanted)
+
+    def test_the_line_counts_towards_the_length(self):
+        for length in (65_535, 65_536, 65_537):
+            text = edges.owned_text_of_length(length)
+            self.assertEqual(len(text), length)
+            self.assertLess(text.index(b"owners"), 60_000)
+            self.assertEqual(read_plan(text, 0) == Refusal(2), length > 65_536)
+
+    def test_as_many_as_words(self):
+        found = [read_plan(text, 1) for text in edges.owner_counts()]
+        accepted = [plan.owners for plan in found if isinstance(plan, Plan)]
+        self.assertEqual(accepted, [(), (255,) * 2_048])
+        self.assertEqual(sum(found.count(Refusal(3, line)) for line in (4, 5)), 3)
 
 
 class Structure(unittest.TestCase):
@@ -184,9 +248,12 @@ class Factoring(unittest.TestCase):
         for plan, number in (
             (PLAN._replace(n=4), 9),
             (PLAN._replace(rows=good._replace(values=good.values[1:])), 9),
+            (PLAN._replace(owners=PLAN.owners[1:]), 9),
+            (PLAN._replace(m=4), 9),
+            (PLAN._replace(p=8, owners=()), 9),
             (PLAN._replace(p=8), 1),
-            (PLAN._replace(m=2_049), 2),
-            (PLAN._replace(m=4), 8),
+            (PLAN._replace(m=2_049, owners=(0,) * 2_049), 2),
+            (PLAN._replace(m=4, owners=(0,) * 4), 8),
             (PLAN._replace(p=3), 8),
             (PLAN._replace(rows=good._replace(starts=(1, *good.starts[1:]))), 8),
             (PLAN._replace(rows=good._replace(starts=(*good.starts[:-1], 10))), 8),

@@ -9,7 +9,7 @@ from model import enumeration
 from model.certificate import write
 from model.questions import answer, answer_from_certificate, answer_from_factors, open_words
 from model.refusals import Refusal
-from model.storage import Plan, Rows
+from model.storage import Rows, plan_of
 from samples import FACTORS, PLAN, factors_of, plans, sets_that_pass, small_plans
 
 
@@ -74,7 +74,7 @@ class Questions(unittest.TestCase):
                 )
 
     def test_two_closed_questions_may_add_up_to_an_open_one(self):
-        plan = Plan(7, 1, 2, Rows((0, 2), (0, 1), (1, 1)))
+        plan = plan_of(7, 1, 2, Rows((0, 2), (0, 1), (1, 1)))
         factors = factors_of(plan)
         verdicts = [answer(plan, factors, y).is_open for y in ((1, 0), (0, 1), (1, 1))]
         self.assertEqual(verdicts, [False, False, True])

@@ -13,7 +13,7 @@ from model.check import check_certificate, check_factors, judge
 from model.limits import GREATEST_ENTRIES
 from model.questions import answer, open_words
 from model.refusals import Refusal
-from model.storage import Plan, plan_refusal
+from model.storage import plan_of, plan_refusal
 from samples import FACTORS, PLAN, factors_of, sets_that_pass, small_plans
 from worked import PLAN_D
 
@@ -24,11 +24,11 @@ def passes_by_cells(plan, factors):
     p, n, m = plan.p, plan.n, plan.m
     if set(R) != set(range(n)) or set(C) != set(range(m)) or r > min(n, m):
         return False
-    if Refusal(8) in (plan_refusal(Plan(p, n, r, L)), plan_refusal(Plan(p, r, m, U))):
+    if Refusal(8) in (plan_refusal(plan_of(p, n, r, L)), plan_refusal(plan_of(p, r, m, U))):
         return False
     A = enumeration.full_rows(plan)
-    L = enumeration.full_rows(Plan(p, n, r, L))
-    U = enumeration.full_rows(Plan(p, r, m, U))
+    L = enumeration.full_rows(plan_of(p, n, r, L))
+    U = enumeration.full_rows(plan_of(p, r, m, U))
     return (
         all(L[i][k] == 0 for i in range(n) for k in range(r) if k > i)
         and all(L[k][k] != 0 for k in range(r))

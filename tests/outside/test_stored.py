@@ -33,6 +33,7 @@ WORKING_ROW = 2_048
 # Of reading's lists the program lends the first cells, and these past their ends.
 STARTS_READ = 2_049
 ENTRIES_READ = 16_385
+OWNERS_READ = 2_048
 UNTOUCHED = 9
 
 
@@ -84,12 +85,18 @@ def handed(case):
         columns[: case.given("COLUMNS", entries)],
         values[: case.given("VALUES", entries)],
     )
-    return Plan(case.given("P", read.p), n, m, rows)
+    owners = (*_left(read.owners, OWNERS_READ), UNTOUCHED)[: case.given("OWNERS", m)]
+    return Plan(case.given("P", read.p), n, m, rows, owners)
+
+
+def _left(numbers, length):
+    """A list as reading leaves it."""
+    return numbers + (0,) * (length - len(numbers))
 
 
 def _changed(case, of, numbers, length):
-    """A list as reading leaves it, with its first number changed."""
-    cells = numbers + (0,) * (length - len(numbers))
+    """The same with its first number changed."""
+    cells = _left(numbers, length)
     return (case.given(of, cells[0]), *cells[1:])
 
 

@@ -17,27 +17,31 @@ from model.refusals import LENGTH, Refusal
 PROGRAM = Path(__file__).resolve().parents[2] / "crates" / "case_reading"
 CALL = re.compile(r'\b([a-z]+)_case\(\s*(b"[^"]*")((?:,\s*\d+)*),?\s*\);')
 
+# The files that name cases, as their cases are run.
+SOURCES = ("main.rt", "owners.rt")
 STARTS = 2_049
+OWNERS = 2_048
 LONG_ROOM = 5_460
-SHOWN = {"starts": 7, "columns": 12, "values": 12}
+SHOWN = {"starts": 7, "columns": 12, "values": 12, "owners": 7}
 
-# The lengths of the lent starts, columns and values, by the kind of case.
+# The lengths of the lent starts, columns, values and owners, by the kind of case.
 LENT = {
-    "plain": lambda: (STARTS, 16, 16),
-    "room": lambda room: (STARTS, room, room),
+    "plain": lambda: (STARTS, 16, 16, OWNERS),
+    "room": lambda room: (STARTS, room, room, OWNERS),
     "length": lambda *lengths: lengths,
-    "cells": lambda: (STARTS, SHOWN["columns"], SHOWN["values"]),
+    "cells": lambda: (STARTS, SHOWN["columns"], SHOWN["values"], OWNERS),
 }
 
 
 def cases():
     """Each case: name, text, lengths, and whether cells are printed."""
-    for kind, case, numbers in CALL.findall((PROGRAM / "src" / "main.rt").read_text()):
+    source = "".join((PROGRAM / "src" / name).read_text() for name in SOURCES)
+    for kind, case, numbers in CALL.findall(source):
         name, text = literal_eval(case).split(b"|", 1)
         lent = LENT[kind](*map(int, re.findall(r"\d+", numbers)))
         yield name.decode(), text, lent, kind == "cells"
     for name, text in long_texts():
-        yield name, text, (STARTS, LONG_ROOM, LONG_ROOM), False
+        yield name, text, (STARTS, LONG_ROOM, LONG_ROOM, OWNERS), False
 
 
 def long_texts():
@@ -53,8 +57,8 @@ def long_texts():
     yield "65536 bytes, an end repeated", text(last, *between, last)
 
 
-def read(text, starts, columns, values):
-    if starts != STARTS or columns != values:
+def read(text, starts, columns, values, owners):
+    if starts != STARTS or columns != values or owners != OWNERS:
         return Refusal(LENGTH)
     return read_plan(text, columns)
 
@@ -63,9 +67,9 @@ def wanted(name, text, lent, shown):
     """What is returned and how many cells are not 0, then the first cells."""
     found = read(text, *lent)
     if isinstance(found, Refusal):
-        numbers, plan, lists = found, (0, 0, 0, 0), ((), (), ())
+        numbers, plan, lists = found, (0, 0, 0, 0), ((), (), (), ())
     else:
-        numbers, lists = (0, 0), found.rows
+        numbers, lists = (0, 0), (*found.rows, found.owners)
         plan = (found.p, found.n, found.m, len(found.rows.columns))
     cells = [sum(map(bool, numbers)) for numbers in lists]
     yield f"{name}: {_words(numbers)} plan {_words(plan)} cells {_words(cells)}"

@@ -6,7 +6,7 @@ from pathlib import Path
 from cases import expected
 from compare import MODULI
 from generate.sets import with_value
-from model.ask import ask
+from model.ask import ask, ask_by_text
 from model.certificate import write
 from model.check import check_certificate
 from model.factors import factor
@@ -17,11 +17,13 @@ from model.report import refused, report
 from samples import FACTORS, PLAN, factors_of
 from sweeps import AMPLE, modulus_cases, sieve
 from worked import (
+    ASKED,
     EARLIER_D,
     EDITED,
     FACTORED,
     LARGE_PRIMES,
     NO_LARGE_MODULI,
+    OWNED_D,
     PLAN_D,
     QUESTIONS,
     REFUSALS,
@@ -60,7 +62,12 @@ class WorkedCases(unittest.TestCase):
     def test_questions(self):
         for y, output in QUESTIONS:
             self.assertEqual(ask(PLAN_D, y), output)
+            self.assertEqual(ask(OWNED_D, y), output)
             self.assertEqual(answer(PLAN, EARLIER_D, y), answer(PLAN, FACTORS, y))
+
+    def test_questions_by_text(self):
+        for text, output in ASKED:
+            self.assertEqual(ask_by_text(text), output, text)
 
     def test_empty_questions(self):
         none, word = (read_plan(b"7\n0 %d M\n0 0 0\n" % m, 0) for m in (0, 1))

@@ -1,15 +1,18 @@
 """The worked cases of document 01 with their results, letter by letter (document 01, "Report and cases").
-Those of the structural pivots are worked by slip 9 of the change requests.
+Those of the structural pivots are worked by slip 9 of the change requests, those of owners by slip 4.
 
     PLAN_D        the text of plan D; FALLING_D and BY_COLUMN_D, the same plan in other orders
+    OWNED_D       the same with a line of owners
     EIGHT_LEFT    the text of a plan with eight rows that have no structural pivot
     FACTORED      texts with the number of structural pivots and the factors
     EARLIER_D     plan D's factors as they were made before slip 9: they pass too
     REPORTS       texts with what the report program prints
-    REFUSALS      texts with the refusal that the report program prints
+    AFTER_D       what may follow the last line of plan D, with the refusal
+    REFUSALS      texts with the refusal that the report program prints, those of AFTER_D among them
     LARGEST_VALUES   a plan modulo the largest modulus, with values near it
     LARGE_PRIMES, NO_LARGE_MODULI   moduli past the table of divisors, accepted and refused
     QUESTIONS     questions on plan D with what the question program prints
+    ASKED         texts with a question after the plan, and what it prints
     EDITED        plan D's set with one number changed, and the refusal
     ROOMS         rooms for L and U on plan D, and the refusal, or None where they suffice
 """
@@ -30,6 +33,7 @@ BY_COLUMN_D = (
     b"7\n5 5 M\n1 1 2\n3 1 4\n2 2 3\n3 2 3\n4 2 1\n1 3 1\n3 3 2\n4 3 5\n2 4 1\n3 4 1\n5 5 3\n"
     b"0 0 0\n"
 )
+OWNED_D = PLAN_D + b"owners 1 1 2 2 0\n"
 EIGHT_LEFT = (
     b"7\n10 7 M\n1 1 1\n1 2 1\n2 2 1\n2 3 1\n2 4 1\n2 5 1\n2 6 1\n2 7 1\n3 1 1\n3 3 6\n"
     b"3 5 6\n3 6 1\n3 7 6\n4 1 1\n4 4 6\n4 5 6\n4 6 6\n4 7 2\n5 1 1\n5 3 1\n5 4 1\n5 5 6\n"
@@ -40,9 +44,14 @@ EIGHT_LEFT = (
 REPORT_D = (
     b"modulus 7 slots 5 words 5 entries 11\n"
     b"rank 4 structural 4 L 6 U 7\n"
-    b"open 5\n"
+    b"open 5 owner 1\n"
     b"totals open 1 closed 4\n"
 )
+ALL_OPEN = (
+    b"7\n2048 2048 M\n" + b"".join(b"%d %d 1\n" % (j, j) for j in range(1, 2049)) + b"0 0 0\n"
+)
+# Owners of three digits: 100 to 255, and again from 100 on.
+LONG_OWNERS = [100 + j % 156 for j in range(2048)]
 
 
 def _set(R, C, L, U):
@@ -219,34 +228,41 @@ REPORTS = (
     ),
     (
         b"65521\n1 1 M\n1 1 1\n0 0 0\n",
-        b"modulus 65521 slots 1 words 1 entries 1\nrank 1 structural 1 L 1 U 1\nopen 1\n"
+        b"modulus 65521 slots 1 words 1 entries 1\nrank 1 structural 1 L 1 U 1\nopen 1 owner 1\n"
         b"totals open 1 closed 0\n",
     ),
     (
         b"4294967291\n1 1 M\n1 1 -2147483648\n0 0 0\n",
-        b"modulus 4294967291 slots 1 words 1 entries 1\nrank 1 structural 1 L 1 U 1\nopen 1\n"
-        b"totals open 1 closed 0\n",
+        b"modulus 4294967291 slots 1 words 1 entries 1\nrank 1 structural 1 L 1 U 1\n"
+        b"open 1 owner 1\ntotals open 1 closed 0\n",
     ),
     (
         b"2\n1 1 M\n1 1 1\n0 0 0\n",
-        b"modulus 2 slots 1 words 1 entries 1\nrank 1 structural 1 L 1 U 1\nopen 1\n"
+        b"modulus 2 slots 1 words 1 entries 1\nrank 1 structural 1 L 1 U 1\nopen 1 owner 1\n"
         b"totals open 1 closed 0\n",
     ),
     (
         b"7\n1 2048 M\n1 2048 1\n0 0 0\n",
-        b"modulus 7 slots 1 words 2048 entries 1\nrank 1 structural 1 L 1 U 1\nopen 2048\n"
+        b"modulus 7 slots 1 words 2048 entries 1\nrank 1 structural 1 L 1 U 1\nopen 2048 owner 1\n"
         b"totals open 1 closed 2047\n",
     ),
-    # Every word is open: the longest report.
+    # Every word is open.
     (
-        b"7\n2048 2048 M\n" + b"".join(b"%d %d 1\n" % (j, j) for j in range(1, 2049)) + b"0 0 0\n",
+        ALL_OPEN,
         b"modulus 7 slots 2048 words 2048 entries 2048\nrank 2048 structural 2048 L 2048 U 2048\n"
-        + b"".join(b"open %d\n" % j for j in range(1, 2049))
+        + b"".join(b"open %d owner 1\n" % j for j in range(1, 2049))
+        + b"totals open 2048 closed 0\n",
+    ),
+    # The same with long owners: the longest report.
+    (
+        ALL_OPEN + b"owners" + b"".join(b" %d" % owner for owner in LONG_OWNERS) + b"\n",
+        b"modulus 7 slots 2048 words 2048 entries 2048\nrank 2048 structural 2048 L 2048 U 2048\n"
+        + b"".join(b"open %d owner %d\n" % found for found in enumerate(LONG_OWNERS, 1))
         + b"totals open 2048 closed 0\n",
     ),
     (
         b"7\n1 1 M\n1 1 2147483647\n0 0 0\n",
-        b"modulus 7 slots 1 words 1 entries 1\nrank 1 structural 1 L 1 U 1\nopen 1\n"
+        b"modulus 7 slots 1 words 1 entries 1\nrank 1 structural 1 L 1 U 1\nopen 1 owner 1\n"
         b"totals open 1 closed 0\n",
     ),
     (
@@ -256,13 +272,40 @@ REPORTS = (
     ),
     (
         b"7\n2 2 M\n2 1 1\n1 2 1\n0 0 0\n",
-        b"modulus 7 slots 2 words 2 entries 2\nrank 2 structural 2 L 2 U 2\nopen 1\nopen 2\n"
-        b"totals open 2 closed 0\n",
+        b"modulus 7 slots 2 words 2 entries 2\nrank 2 structural 2 L 2 U 2\n"
+        b"open 1 owner 1\nopen 2 owner 1\ntotals open 2 closed 0\n",
     ),
     (
         b"7\n2 2 M\n2 1 7\n1 2 1\n0 0 0\n",
-        b"modulus 7 slots 2 words 2 entries 1\nrank 1 structural 1 L 1 U 1\nopen 2\n"
+        b"modulus 7 slots 2 words 2 entries 1\nrank 1 structural 1 L 1 U 1\nopen 2 owner 1\n"
         b"totals open 1 closed 1\n",
+    ),
+    # Owners go with the words, whatever the order of the triples; the open pad is printed.
+    (OWNED_D, REPORT_D.replace(b"owner 1", b"owner 0")),
+    (FALLING_D + b"owners 1 1 2 2 0\n", REPORT_D.replace(b"owner 1", b"owner 0")),
+    (PLAN_D + b"owners 1 1 1 1 1\n", REPORT_D),
+    (PLAN_D + b"owners 0 0 0 0 1\n", REPORT_D),
+    (PLAN_D + b"owners 1 1 1 1 255\n", REPORT_D.replace(b"owner 1", b"owner 255")),
+    (
+        b"7\n2 2 M\n2 1 1\n1 2 1\n0 0 0\nowners 10 200\n",
+        b"modulus 7 slots 2 words 2 entries 2\nrank 2 structural 2 L 2 U 2\n"
+        b"open 1 owner 10\nopen 2 owner 200\ntotals open 2 closed 0\n",
+    ),
+    # No word: the bare word.
+    (
+        b"7\n0 0 M\n0 0 0\nowners\n",
+        b"modulus 7 slots 0 words 0 entries 0\nrank 0 structural 0 L 0 U 0\n"
+        b"totals open 0 closed 0\n",
+    ),
+    (
+        b"7\n2 0 M\n0 0 0\nowners\n",
+        b"modulus 7 slots 2 words 0 entries 0\nrank 0 structural 0 L 0 U 0\n"
+        b"totals open 0 closed 0\n",
+    ),
+    (
+        b"7\n0 1 M\n0 0 0\nowners 255\n",
+        b"modulus 7 slots 0 words 1 entries 0\nrank 0 structural 0 L 0 U 0\n"
+        b"totals open 0 closed 1\n",
     ),
 )
 
@@ -284,6 +327,70 @@ NO_LARGE_MODULI = (
     2**32 + 2,
     4_294_967_311,  # a prime past the range
     9_999_999_999,
+)
+
+# Plan D has 14 lines: what follows them is line 15, and what follows that line 16.
+AFTER_D = (
+    # another line
+    (b"\n", Refusal(3, 15)),
+    (b"0 0 0\n", Refusal(3, 15)),
+    (b"1 1 1\n", Refusal(3, 15)),
+    (b"1 1 2 2 0\n", Refusal(3, 15)),
+    (b"owner 1 1 2 2 0\n", Refusal(3, 15)),
+    (b"Owners 1 1 2 2 0\n", Refusal(3, 15)),
+    (b"ownersx 1 1 2 2 0\n", Refusal(3, 15)),
+    (b"owners\t1 1 2 2 0\n", Refusal(3, 15)),
+    (b"1 owners 1 1 2 2 0\n", Refusal(3, 15)),
+    # fewer owners than words, and more
+    (b"owners\n", Refusal(3, 15)),
+    (b"owners 1 1 2 2\n", Refusal(3, 15)),
+    (b"owners 1 1 2 2 0 1\n", Refusal(3, 15)),
+    # spaces
+    (b" owners 1 1 2 2 0\n", Refusal(3, 15)),
+    (b"owners  1 1 2 2 0\n", Refusal(3, 15)),
+    (b"owners 1 1  2 2 0\n", Refusal(3, 15)),
+    (b"owners 1 1  2 2\n", Refusal(3, 15)),
+    (b"owners 1 1 2 2 0 \n", Refusal(3, 15)),
+    (b"owners 1 1 2 2 \n", Refusal(3, 15)),
+    # the form of a number
+    (b"owners 01 1 2 2 0\n", Refusal(3, 15)),
+    (b"owners 1 1 2 2 00\n", Refusal(3, 15)),
+    (b"owners 1 -1 2 2 0\n", Refusal(3, 15)),
+    (b"owners 1 1 2 2 -0\n", Refusal(3, 15)),
+    (b"owners 1 +1 2 2 0\n", Refusal(3, 15)),
+    (b"owners 1 1 x 2 0\n", Refusal(3, 15)),
+    (b"owners 1 1 2 2 0\r\n", Refusal(3, 15)),
+    (b"owners 1 1 2 2 10000000000\n", Refusal(3, 15)),
+    (b"owners 1 1 2 2 00000000001\n", Refusal(3, 15)),
+    # an owner above 255
+    (b"owners 1 1 2 2 256\n", Refusal(16, 15)),
+    (b"owners 256 1 2 2 0\n", Refusal(16, 15)),
+    (b"owners 1 1 9999999999 2 0\n", Refusal(16, 15)),
+    (b"owners 1 1 2 2 4294967296\n", Refusal(16, 15)),
+    (b"owners 1 1 2 2 4294967297\n", Refusal(16, 15)),
+    # the whole line is judged by 3 first
+    (b"owners 256 1 2 2 01\n", Refusal(3, 15)),
+    (b"owners 256 1 2 2 10000000000\n", Refusal(3, 15)),
+    (b"owners 256 1 2 2\n", Refusal(3, 15)),
+    (b"owners 256 1 2 2 0 1\n", Refusal(3, 15)),
+    (b"owners 1 1 2 2 0 256\n", Refusal(3, 15)),
+    (b"owners 256 1 2 2 0 \n", Refusal(3, 15)),
+    (b"owners 1 x 2 2 256\n", Refusal(3, 15)),
+    # no line feed
+    (b"o", Refusal(3, 15)),
+    (b"owners", Refusal(3, 15)),
+    (b"owners 1 1 2 2 0", Refusal(3, 15)),
+    (b"owners 256 1 2 2 0", Refusal(3, 15)),
+    # what follows the line comes after it
+    (b"owners 1 1 2 2 0\n\n", Refusal(3, 16)),
+    (b"owners 1 1 2 2 0\nx", Refusal(3, 16)),
+    (b"owners 1 1 2 2 0\n0 0 0\n", Refusal(3, 16)),
+    (b"owners 1 1 2 2 0\nowners 1 1 2 2 0\n", Refusal(3, 16)),
+    (b"owners 1 1 2 2 0\nowners 1 1 2 2 256\n", Refusal(3, 16)),
+    (b"owners 256 1 2 2 0\nx", Refusal(16, 15)),
+    (b"owners 256 1 2 2 0\n\n", Refusal(16, 15)),
+    (b"owners 256 1 2 2 0\nowners 1 1 2 2 0\n", Refusal(16, 15)),
+    (b"owners 1 1 2 2\nowners 1 1 2 2 0\n", Refusal(3, 15)),
 )
 
 REFUSALS = (
@@ -356,12 +463,49 @@ REFUSALS = (
     (b"7\n1 1 M\n1 1 2147483648\n0 0 0\n", Refusal(6, 3)),
     (b"7\n1 1 M\n1 1 -2147483649\n0 0 0\n", Refusal(6, 3)),
     (b"7\n1 1 M\n1 1 10000000000\n0 0 0\n", Refusal(3, 3)),
+    # owners, where there is a word and where there is none
+    *((PLAN_D + after, refusal) for after, refusal in AFTER_D),
+    (b"7\n0 0 M\n0 0 0\nowners \n", Refusal(3, 4)),
+    (b"7\n0 0 M\n0 0 0\nowners 0\n", Refusal(3, 4)),
+    (b"7\n0 0 M\n0 0 0\nowners 256\n", Refusal(3, 4)),
+    (b"7\n0 0 M\n0 0 0\nowners", Refusal(3, 4)),
+    (b"7\n0 0 M\n0 0 0\nowners\nowners\n", Refusal(3, 5)),
+    # owners are judged after all of the plan, and stand nowhere else
+    (PLAN_D.replace(b"2 4 1\n", b"2 6 1\n") + b"owners 256 1 2 2 0\n", Refusal(4, 6)),
+    (b"7\n1 1 M\nowners 1\n0 0 0\n", Refusal(3, 3)),
+    (b"7\nowners 1\n1 1 M\n0 0 0\n", Refusal(3, 2)),
+    (b"7\n1 1 M\n1 1 1\nowners 1\n", Refusal(3, 4)),
 )
 
 QUESTIONS = (
     ((0, 0, 0, 0, 1), b"open 0 0 0 0 5\n"),
     ((0, 0, 1, 6, 0), b"open 0 6 0 3 0\n"),
     ((1, 0, 0, 0, 0), b"closed 3 2 1 1 0\n"),
+)
+
+ASKED = (
+    (PLAN_D + b"0 0 0 0 1\n", b"open 0 0 0 0 5\n"),
+    (OWNED_D + b"0 0 0 0 1\n", b"open 0 0 0 0 5\n"),
+    (OWNED_D + b"0\n0\n1\n6\n0", b"open 0 6 0 3 0\n"),
+    (OWNED_D + b"1 0 0 0 0", b"closed 3 2 1 1 0\n"),
+    (b"7\n0 0 M\n0 0 0\nowners\n", b"open\n"),
+    (b"7\n0 1 M\n0 0 0\nowners 0\n1\n", b"closed 1\n"),
+    # The line of owners is the plan's, whatever stands in it.
+    (OWNED_D, b"refused 9 at 0\n"),
+    (PLAN_D + b"owners 1 1 2 2 0", b"refused 3 at 15\n"),
+    (PLAN_D + b"owners 1 1 2 2 0 0 0 0 0 1\n", b"refused 3 at 15\n"),
+    (PLAN_D + b"owners 0 0 0 0\n0 0 0 0 1\n", b"refused 3 at 15\n"),
+    (PLAN_D + b"owners\n0 0 0 0 1\n", b"refused 3 at 15\n"),
+    (PLAN_D + b"owners", b"refused 3 at 15\n"),
+    (PLAN_D + b"owners 1 1 2 2 256\n0 0 0 0 1\n", b"refused 16 at 15\n"),
+    (PLAN_D + b"owners 256 1 2 2 01\n0 0 0 0 1\n", b"refused 3 at 15\n"),
+    # Any other line is the question's, and so is a second one: six values, or five.
+    (OWNED_D + b"owners 1 1 2 2 0\n", b"refused 9 at 0\n"),
+    (OWNED_D + b"owners 1 1 2 2\n", b"refused 15 at 1\n"),
+    (PLAN_D + b"ownersx 0 0 0 1\n", b"refused 15 at 1\n"),
+    (PLAN_D + b"owners\t 0 0 0 1\n", b"refused 15 at 1\n"),
+    (PLAN_D + b"0 owners 0 0 1\n", b"refused 15 at 2\n"),
+    (PLAN_D + b"0 0 0 0 1\nowners 1 1 2 2 0\n", b"refused 9 at 0\n"),
 )
 
 # Which factor, the place in its list of values, the new value, the refusal.

@@ -1,22 +1,26 @@
--- Where a plan's text ends that a question may follow.
---   isLastLine l       a line is `0 0 0`
---   endIn t            the place after the first line `0 0 0` of the lines t; the text's end where there is none
---   PlanEnds text r    the contract: r is that place of a text, and within it
+-- Where a plan's text ends that a question may follow: with its first line `0 0 0`, and with the line after it where that one begins with the word
+-- `owners`.
+--   ownersEnd foot       how many bytes of what follows the line `0 0 0` belong to the plan: the line of owners with its line feed, or none
+--   textEnd text         that place of a text
+--   PlanTextEnds ..      the contract: r is that place, and within the text
 use Prim.Native.Nat.{ℕ, _+_, _≤_}
 use mathlib.Core.Path.{_≡_}
-use mathlib.Core.Bool.{Bool, cond, _&&_}
+use mathlib.Core.Bool.{cond}
 use mathlib.Core.List.{List}
 use lib.Dec.{eqb}
-use lib.ListN.{length, getD}
-use Rattle.text_fields.specs.Pieces.{Pieces, last, more, pieces}
+use lib.ListN.{length, drop}
+use Rattle.text_fields.specs.Pieces.{pieces, firstPiece}
+use Rattle.text_owners.specs.Ending.{endIn}
+use Rattle.text_owners.specs.Owners.{isOwnersWord}
 
-unfoldable pub isLastLine : List ℕ → Bool
-isLastLine l = eqb (length l) 5 && (eqb (getD l 0 0) 48 && (eqb (getD l 1 0) 32 && (eqb (getD l 2 0) 48 && (eqb (getD l 3 0) 32 && eqb (getD l 4 0) 48))))
+unfoldable pub ownersEnd : List ℕ → ℕ
+ownersEnd foot =
+    let l = firstPiece (pieces 10 foot) in
+    cond (isOwnersWord (firstPiece (pieces 32 l))) (cond (eqb (length l) (length foot)) (length l) (length l + 1)) 0
 
-unfoldable pub endIn : Pieces → ℕ
-endIn (last l) = length l
-endIn (more l t) = let rest = endIn t in length l + 1 + cond (isLastLine l) 0 rest
+unfoldable pub textEnd : List ℕ → ℕ
+textEnd text = let e = endIn (pieces 10 text) in e + ownersEnd (drop e text)
 
-pub record PlanEnds (text : List ℕ) (r : ℕ) : Type 0 where
-  pub end-is : r ≡ endIn (pieces 10 text)
+pub record PlanTextEnds (text : List ℕ) (r : ℕ) : Type 0 where
+  pub end-is : r ≡ textEnd text
   pub inside : r ≤ length text

@@ -1,7 +1,7 @@
 // The question program: the answer to a question about a plan, put by hand.
 // The plan's text is read from standard input. The question is given as arguments, one value each; without arguments it follows
 // the plan on standard input. One line is printed: `open` and x, `closed` and z, or `refused`, a number and its detail.
-ghost use Prim.Native.Nat.{_≤_};
+ghost use Prim.Native.Nat.{_+_, _≤_, _<_, _^_};
 ghost use lib.ListN.{length};
 ghost use Rattle.limits.specs.Limits.{startsLength};
 use limits::PRINT_ROOM;
@@ -28,7 +28,9 @@ fn ask_by_arguments(text: &[u8]) {
     print_answer(text, &y[..count]);
 }
 
-fn ask_by_text(text: &[u8]) {
+fn ask_by_text(text: &[u8])
+    requires { ⌜ length (now text) + 1 < 2 ^ 32 ⌝ }
+{
     let mut y = [0u32; START_CELLS];
     let end = text::plan_end(text);
     let count = question::from_text(&text[end..], &mut y);

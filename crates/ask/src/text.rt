@@ -1,51 +1,37 @@
 // A plan's text that a question may follow.
+ghost use Prim.Native.Nat.{_+_, _≤_, _<_, _^_};
+ghost use lib.ListN.{length};
 ghost use mathlib.Core.Path.{_≡_};
-ghost use Rattle.ask.specs.Ending.{isLastLine, PlanEnds};
+ghost use lib.ListN.{drop};
+ghost use Rattle.ask.specs.Ending.{ownersEnd, PlanTextEnds};
 use text_fields::pieces::piece;
-
-const ZERO: u8 = 48;
-
-const SPACE: u8 = 32;
+use text_owners::ending::end_in;
+use text_owners::line::begins_owners;
 
 const LINE_FEED: u8 = 10;
 
-// Whether a line is `0 0 0`.
-fn is_last(line: &[u8]) -> bool
-    ensures { λ r. ⌜ r ≡ isLastLine (now (line .entry)) ⌝ }
+// How many bytes from a place on belong to the plan: those of a line of owners, with its line feed where it has one.
+fn owners_end(text: &[u8], at: usize) -> usize
+    requires { ⌜ at ≤ length (now text) ⌝ }
+    ensures { λ r. ⌜ r ≡ ownersEnd (drop at (now (text .entry))) ⌝ }
 {
-    if line.len() != 5 {
-        return false;
+    let line = piece(text, at, LINE_FEED);
+    if !begins_owners(line) {
+        return 0;
     }
-    if line[0] != ZERO {
-        return false;
+    let size = line.len();
+    if size == text.len() - at {
+        return size;
     }
-    if line[1] != SPACE {
-        return false;
-    }
-    if line[2] != ZERO {
-        return false;
-    }
-    if line[3] != SPACE {
-        return false;
-    }
-    line[4] == ZERO
+    size + 1
 }
 
-// The place after the first line `0 0 0`; the text's end where there is none.
+// The place where the plan ends; the text's end where there is no line `0 0 0`.
 pub fn plan_end(text: &[u8]) -> usize
-    ensures { λ r. ⌜ PlanEnds (now (text .entry)) r ⌝ }
+    requires { ⌜ length (now text) + 1 < 2 ^ 32 ⌝ }
+    ensures { λ r. ⌜ PlanTextEnds (now (text .entry)) r ⌝ }
 {
-    let mut at = 0;
-    while at < text.len() {
-        let line = piece(text, at, LINE_FEED);
-        let end = at + line.len();
-        if end == text.len() {
-            return end;
-        }
-        at = end + 1;
-        if is_last(line) {
-            return at;
-        }
-    }
-    at
+    let end = end_in(text);
+    let at = end.at;
+    at + owners_end(text, at)
 }

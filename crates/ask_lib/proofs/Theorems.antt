@@ -29,7 +29,10 @@ use Rattle.row_space.specs.Question.{questionOutcome}
 use Rattle.row_space.specs.Solve.{Solved, solve}
 use Rattle.answer_question.proofs.Passed.{question-passed}
 use Rattle.limits.specs.Limits.{largestEntries, workLength}
-use Rattle.text_plan.specs.Held.{planOf, StatesPlan}
+use Rattle.byte_buffer.specs.Fills.{Fills}
+use Rattle.text_plan.specs.Call.{ReadAnswer}
+use Rattle.text_plan.specs.Held.{planOf}
+use Rattle.text_owners.specs.Stating.{StatesText}
 use Rattle.call_check.specs.Calls.{checkFactorsOf}
 use Rattle.call_check.specs.Passing.{StoredPasses}
 use Rattle.call_check.proofs.Theorems.{factors-exactly}
@@ -160,12 +163,12 @@ module _ (text y : List ℕ) (size : ℕ) (b₀ b w₀ w : List ℕ) (call : Ask
   unfolding askOf askReadOf
   shown = fills-shown b₀ b size (askOf text y) (call .answer)
 
-  pub ask-refused : ¬ StatesPlan largestEntries text → PrintsRefusal textFaults (take size b)
+  pub ask-refused : ¬ StatesText largestEntries text → PrintsRefusal textFaults (take size b)
   ask-refused none =
       subst (PrintsRefusal textFaults) (sym shown)
       (first-refusal textFaults (reading text .result .outcome) (after-reading (factoredOf (reading text))) (reading-numbers text) (λ e. none (outcome-passed text .0 e)))
 
-  module _ (states : StatesPlan largestEntries text) where
+  module _ (states : StatesText largestEntries text) where
     passes₁ : StoredPasses p₁ n₁ m₁ plan set workLength
     passes₁ = factors-pass p₁ n₁ m₁ plan (reading-good text states)
 
@@ -203,3 +206,9 @@ module _ (text y : List ℕ) (size : ℕ) (b₀ b w₀ w : List ℕ) (call : Ask
               printed-is = shown-whole _ (given-all p₁ n₁ m₁ plan set passes₁ y long residues);
               right = solved-right p₁ n₁ m₁ plan set passes₁ y long residues;
             }
+
+-- ---- texts that are read as the same plan
+
+pub asked-alike : (T T′ : List ℕ) → reading T ≡ reading T′ → (y : List ℕ) (size : ℕ) (b₀ b w₀ w : List ℕ) → Asks T y size b₀ b w₀ w → Asks T′ y size b₀ b w₀ w
+unfolding askOf
+asked-alike T T′ same y size b₀ b w₀ w a = record { answer = subst (λ (x : ReadAnswer). Fills b₀ b size (askReadOf x y)) same (a .answer); cleared = a .cleared }

@@ -9,7 +9,8 @@
 --   factored-seven         7 is returned, for a good plan and lists of their lengths, exactly if L or U has more entries than its lists hold
 --   factored-row           at the first row in processing order that overflows either
 --   factored-by            the numbers of the table by which it refuses
---   factored-cleared       a refusal leaves all lists 0, and no rank
+--   refusal-cleared        what a refusal leaves, whatever its number: all lists 0, and no rank
+--   factored-cleared       so a call that refused leaves that
 use mathlib.Core.Path.{_≡_, refl, sym, ap, subst, _∙_}
 use mathlib.Core.Logic.{_↔_, inl, inr}
 use mathlib.Core.Bool.{true, true≢false}
@@ -142,6 +143,21 @@ module _ (p n m : ℕ) (A : Compressed) (l : Lent) where
 
 -- ---- what a call returned and left
 
+pub refusal-cleared : (c d : ℕ) (o : Factored) (S : Storage) → Leaves (refusal c d) o S → FactorCleared o S
+refusal-cleared c d o S h =
+    record {
+      rank = h .rank;
+      structural = h .structural;
+      R = h .R ∙ filled-none (length (S .R));
+      C = h .C ∙ filled-none (length (S .C));
+      L-starts = h .L-starts ∙ filled-none (length (S .L .starts));
+      L-columns = h .L-columns ∙ filled-none (length (S .L .cols));
+      L-values = h .L-values ∙ filled-none (length (S .L .vals));
+      U-starts = h .U-starts ∙ filled-none (length (S .U .starts));
+      U-columns = h .U-columns ∙ filled-none (length (S .U .cols));
+      U-values = h .U-values ∙ filled-none (length (S .U .vals));
+    }
+
 module _ (p n m : ℕ) (A : Compressed) (l : Lent) (o : Factored) (S : Storage) (call : Leaves (factorCallOf p n m A l) o S) where
   abbrev number : ℕ
   number = numberOf (o .outcome)
@@ -171,26 +187,11 @@ module _ (p n m : ℕ) (A : Compressed) (l : Lent) (o : Factored) (S : Storage) 
       go (some i) = inr refl
 
   pub factored-cleared : ¬ (number ≡ 0) → FactorCleared o S
-  factored-cleared f = call-cases p n m A l (λ (g : Factorization). Leaves g o S → FactorCleared o S) (λ c d h. cleared c d) (go (over p n m A l)) call
+  factored-cleared f = call-cases p n m A l (λ (g : Factorization). Leaves g o S → FactorCleared o S) (λ c d h. refusal-cleared c d o S) (go (over p n m A l)) call
     where
-      cleared : (c d : ℕ) → Leaves (refusal c d) o S → FactorCleared o S
-      cleared c d h =
-          record {
-            rank = h .rank;
-            structural = h .structural;
-            R = h .R ∙ filled-none (length (S .R));
-            C = h .C ∙ filled-none (length (S .C));
-            L-starts = h .L-starts ∙ filled-none (length (S .L .starts));
-            L-columns = h .L-columns ∙ filled-none (length (S .L .cols));
-            L-values = h .L-values ∙ filled-none (length (S .L .vals));
-            U-starts = h .U-starts ∙ filled-none (length (S .U .starts));
-            U-columns = h .U-columns ∙ filled-none (length (S .U .cols));
-            U-values = h .U-values ∙ filled-none (length (S .U .vals));
-          }
-
       go : (t : Option ℕ) → Leaves (unlessOver t (whole p n m A l)) o S → FactorCleared o S
       go none h = absurd (f (h .number))
-      go (some i) h = cleared 7 i h
+      go (some i) h = refusal-cleared 7 i o S h
 
   module _ (zero : number ≡ 0) where
     accepted : Factorable p n m A l

@@ -107,6 +107,8 @@ pub fn plan_lengths() {
     changed(b"D, columns 12", change::COLUMNS, 12);
     changed(b"D, values 10", change::VALUES, 10);
     changed(b"D, values 12", change::VALUES, 12);
+    changed(b"D, owners 4", change::OWNERS, 4);
+    changed(b"D, owners 6", change::OWNERS, 6);
 }
 
 // 9

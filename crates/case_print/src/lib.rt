@@ -1,5 +1,6 @@
 // What the programs that run cases print of numbers, outcomes and lists, on standard output.
 ghost use Prim.Native.Nat.{_+_, _^_, _≤_, _<_};
+ghost use lib.ListN.{length};
 use refusals::Outcome;
 
 // A space and a number.
@@ -9,6 +10,10 @@ pub fn number(n: u64) {
 }
 
 fn wide(x: u32) -> u64 {
+    x as u64
+}
+
+fn wide_byte(x: u8) -> u64 {
     x as u64
 }
 
@@ -36,6 +41,18 @@ pub fn list(label: &[u8], numbers: &[u32]) {
     }
 }
 
+// A label and the first bytes of a list, so many.
+pub fn first_bytes(label: &[u8], bytes: &[u8], count: usize)
+    requires { ⌜ count ≤ length (now bytes) ⌝ }
+{
+    io::write_all(1, label);
+    let mut i = 0;
+    while i < count {
+        number(wide_byte(bytes[i]));
+        i += 1;
+    }
+}
+
 // One more where x is not 0.
 fn counted(count: usize, x: u64) -> usize
     requires { ⌜ count < 2 ^ 63 ⌝ }
@@ -50,6 +67,17 @@ pub fn nonzero(numbers: &[u32]) -> usize {
     let mut i = 0;
     while i < numbers.len() {
         count = counted(count, wide(numbers[i]));
+        i += 1;
+    }
+    count
+}
+
+// How many bytes of a list are not 0.
+pub fn nonzero_bytes(bytes: &[u8]) -> usize {
+    let mut count = 0;
+    let mut i = 0;
+    while i < bytes.len() {
+        count = counted(count, wide_byte(bytes[i]));
         i += 1;
     }
     count

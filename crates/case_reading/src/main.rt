@@ -1,80 +1,16 @@
-// The cases of document 01 that concern reading, and triples in any order, one line each: the name; the number and its detail; p, n, m and the
-// number of entries; and how many cells of the starts, the columns and the values are not 0. Lent lists hold 9s before.
-ghost use Prim.Native.Nat.{_≤_};
-ghost use lib.ListN.{length};
+// The cases of documents 01 and 02 that concern reading, one line each: the name; the number and its detail; p, n, m and the number of
+// entries; and how many cells of the starts, the columns, the values and the owners are not 0. Lent lists hold 9s before. Of some plans
+// the first cells of each list follow.
+use run::cells_case;
+use run::length_case;
+use run::long_case;
+use run::plain_case;
+use run::room_case;
 
 mod long;
+mod owners;
 mod print;
-
-// The byte `|`.
-const BAR: u8 = 124;
-
-// Reads a text and prints what comes of it.
-fn show(name: &[u8], text: &[u8], starts: &mut [u32], cols: &mut [u32], vals: &mut [u32]) {
-    let r = text_plan::read(text, starts, cols, vals);
-    print::line(name, r);
-    io::write_all(1, b" cells");
-    case_print::number(case_print::nonzero(starts) as u64);
-    case_print::number(case_print::nonzero(cols) as u64);
-    case_print::number(case_print::nonzero(vals) as u64);
-    io::write_all(1, b"\n");
-}
-
-// A case is its name, a bar and its text.
-fn show_case(case: &[u8], starts: &mut [u32], cols: &mut [u32], vals: &mut [u32]) {
-    let name = text_fields::pieces::piece(case, 0, BAR);
-    let e = name.len();
-    if e < case.len() {
-        show(name, &case[e + 1..], starts, cols, vals);
-    }
-}
-
-// Reads a case's text into the first a, b and c cells of the lists.
-fn show_parts(
-    case: &[u8],
-    starts: &mut [u32],
-    a: usize,
-    cols: &mut [u32],
-    b: usize,
-    vals: &mut [u32],
-    c: usize,
-)
-    requires { ⌜ (a ≤ length (now starts)) × (b ≤ length (now cols)) × (c ≤ length (now vals)) ⌝ }
-{
-    show_case(case, &mut starts[..a], &mut cols[..b], &mut vals[..c]);
-}
-
-// Reads a case's text into lists of these lengths.
-fn length_case(case: &[u8], a: usize, b: usize, c: usize)
-    requires { ⌜ (a ≤ 2050) × (b ≤ 16) × (c ≤ 16) ⌝ }
-{
-    let mut starts = [9u32; 2050];
-    let mut cols = [9u32; 16];
-    let mut vals = [9u32; 16];
-    show_parts(case, &mut starts, a, &mut cols, b, &mut vals, c);
-}
-
-// Reads a case's text into lists with room for so many entries.
-fn room_case(case: &[u8], room: usize)
-    requires { ⌜ room ≤ 16 ⌝ }
-{
-    length_case(case, 2049, room, room);
-}
-
-fn plain_case(case: &[u8]) {
-    room_case(case, 16);
-}
-
-// Reads a case's text and prints the first cells of each list too.
-fn cells_case(case: &[u8]) {
-    let mut starts = [9u32; 2049];
-    let mut cols = [9u32; 12];
-    let mut vals = [9u32; 12];
-    show_case(case, &mut starts, &mut cols, &mut vals);
-    print::list_line(b"  starts", lists::part(&starts, 0, 7));
-    print::list_line(b"  columns", &cols);
-    print::list_line(b"  values", &vals);
-}
+mod run;
 
 fn moduli() {
     plain_case(b"p 65521|65521\n0 0 M\n0 0 0\n");
@@ -233,10 +169,13 @@ fn ends() {
 }
 
 fn lengths() {
-    length_case(b"starts 2048|7\n0 0 M\n0 0 0\n", 2048, 4, 4);
-    length_case(b"starts 2050|7\n0 0 M\n0 0 0\n", 2050, 4, 4);
-    length_case(b"columns 3, values 4|x", 2049, 3, 4);
-    length_case(b"no room at all|7\n0 0 M\n0 0 0\n", 2049, 0, 0);
+    length_case(b"starts 2048|7\n0 0 M\n0 0 0\n", 2048, 4, 4, 2048);
+    length_case(b"starts 2050|7\n0 0 M\n0 0 0\n", 2050, 4, 4, 2048);
+    length_case(b"columns 3, values 4|x", 2049, 3, 4, 2048);
+    length_case(b"no room at all|7\n0 0 M\n0 0 0\n", 2049, 0, 0, 2048);
+    length_case(b"owners 2047|7\n0 0 M\n0 0 0\n", 2049, 4, 4, 2047);
+    length_case(b"owners 2049|x", 2049, 4, 4, 2049);
+    length_case(b"no owners lent|7\n0 0 M\n0 0 0\n", 2049, 4, 4, 0);
 }
 
 // Document 01's plan D.
@@ -244,16 +183,6 @@ fn plan_d() {
     cells_case(
         b"plan D|7\n5 5 M\n1 1 2\n1 3 1\n2 2 3\n2 4 1\n3 1 4\n3 2 3\n3 3 2\n3 4 1\n4 2 1\n4 3 5\n5 5 3\n0 0 0\n",
     );
-}
-
-// Reads the first n bytes of a text into lists with room for 5,460 entries.
-fn long_case(name: &[u8], text: &[u8], n: usize)
-    requires { ⌜ n ≤ length (now text) ⌝ }
-{
-    let mut starts = [9u32; 2049];
-    let mut cols = [9u32; 5460];
-    let mut vals = [9u32; 5460];
-    show(name, &text[..n], &mut starts, &mut cols, &mut vals);
 }
 
 // A text of 65,536 bytes, and one of a byte more.
@@ -290,6 +219,11 @@ fn main() {
     ends();
     lengths();
     plan_d();
+    owners::stated();
+    owners::plan_d();
+    owners::malformed();
+    owners::too_large();
+    owners::ends();
     long_texts();
     long_any_order();
 }

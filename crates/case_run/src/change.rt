@@ -36,12 +36,14 @@ pub const U_VALUES: u32 = 15;
 
 pub const WORK: u32 = 16;
 
+pub const OWNERS: u32 = 17;
+
 // The first number of one list of the plan.
-pub const FIRST_START: u32 = 17;
+pub const FIRST_START: u32 = 18;
 
-pub const FIRST_COLUMN: u32 = 18;
+pub const FIRST_COLUMN: u32 = 19;
 
-pub const FIRST_VALUE: u32 = 19;
+pub const FIRST_VALUE: u32 = 20;
 
 // What is changed, and to what.
 pub struct Change {

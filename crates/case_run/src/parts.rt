@@ -16,6 +16,13 @@ pub fn within(list: &[u32], length: u32) -> usize
     least(index(length), list.len())
 }
 
+// The same for a list of bytes.
+pub fn within_bytes(bytes: &[u8], length: u32) -> usize
+    ensures { λ r. ⌜ Counts r (now (bytes .entry)) ⌝ }
+{
+    least(index(length), bytes.len())
+}
+
 // The same for a working row.
 pub fn within_row(row: &[u64], length: u32) -> usize
     ensures { λ r. ⌜ Counts r (now (row .entry)) ⌝ }
@@ -27,4 +34,10 @@ pub fn within_row(row: &[u64], length: u32) -> usize
 pub fn first(list: &[u32], length: u32) -> &[u32] {
     let e = within(list, length);
     &list[..e]
+}
+
+// The first bytes of a list, or all where it is shorter.
+pub fn first_bytes(bytes: &[u8], length: u32) -> &[u8] {
+    let e = within_bytes(bytes, length);
+    &bytes[..e]
 }

@@ -6,10 +6,12 @@ use crate::change::put_first;
 use crate::handed::Handed;
 use crate::handed::prepare;
 use crate::parts::first;
+use crate::parts::first_bytes;
 use crate::parts::within;
+use crate::parts::within_bytes;
 use crate::parts::within_row;
 use crate::print;
-use call_factor::factor;
+use call_owned::factor::factor;
 use text_plan::Reading;
 
 // Factors a plan into lent lists and prints what it returned and left.
@@ -19,6 +21,7 @@ fn factor_and_print(
     starts: &[u32],
     cols: &[u32],
     vals: &[u32],
+    owners: &[u8],
     ro: &mut [u32],
     co: &mut [u32],
     ls: &mut [u32],
@@ -36,6 +39,7 @@ fn factor_and_print(
         starts,
         cols,
         vals,
+        owners,
         ro,
         co,
         ls,
@@ -50,7 +54,7 @@ fn factor_and_print(
 }
 
 // Lends lists of 9s, as many cells of each as are to be handed.
-fn lend(name: &[u8], h: Handed, starts: &[u32], cols: &[u32], vals: &[u32]) {
+fn lend(name: &[u8], h: Handed, starts: &[u32], cols: &[u32], vals: &[u32], owners: &[u8]) {
     let mut ro = [9u32; 2049];
     let mut co = [9u32; 2049];
     let mut ls = [9u32; 2050];
@@ -75,6 +79,7 @@ fn lend(name: &[u8], h: Handed, starts: &[u32], cols: &[u32], vals: &[u32]) {
         starts,
         cols,
         vals,
+        owners,
         &mut ro[..a],
         &mut co[..b],
         &mut ls[..c],
@@ -87,16 +92,19 @@ fn lend(name: &[u8], h: Handed, starts: &[u32], cols: &[u32], vals: &[u32]) {
     );
 }
 
-// Reads a text into the first 2,049 starts, which reading takes, and into columns and values; changes what the case changes there.
+// Reads a text into the first 2,049 starts and the first 2,048 owners, which reading takes, and into columns and values; changes what
+// the case changes there.
 fn read(
     text: &[u8],
     change: Change,
     starts: &mut [u32],
     cols: &mut [u32],
     vals: &mut [u32],
+    owners: &mut [u8],
 ) -> Reading {
     let e = within(starts, 2049);
-    let r = text_plan::read(text, &mut starts[..e], cols, vals);
+    let k = within_bytes(owners, 2048);
+    let r = text_owners::read(text, &mut starts[..e], cols, vals, &mut owners[..k]);
     put_first(change, change::FIRST_START, starts);
     put_first(change, change::FIRST_COLUMN, cols);
     put_first(change, change::FIRST_VALUE, vals);
@@ -108,7 +116,8 @@ pub fn run(name: &[u8], text: &[u8], l: u32, u: u32, change: Change) {
     let mut starts = [9u32; 2050];
     let mut cols = [9u32; 16385];
     let mut vals = [9u32; 16385];
-    let r = read(text, change, &mut starts, &mut cols, &mut vals);
+    let mut owners = [9u8; 2050];
+    let r = read(text, change, &mut starts, &mut cols, &mut vals, &mut owners);
     let h = prepare(r, l, u, change);
     lend(
         name,
@@ -116,5 +125,6 @@ pub fn run(name: &[u8], text: &[u8], l: u32, u: u32, change: Change) {
         first(&starts, h.starts),
         first(&cols, h.columns),
         first(&vals, h.values),
+        first_bytes(&owners, h.owners),
     );
 }

@@ -1,5 +1,5 @@
--- The joint table of the proved cases of document 01 ("Report and cases"), those of plan D as slip 9 works them anew, each by computing the
--- definitions that the contracts cite. D's pairs, factors and rooms are computed beside the rule, in elimination's Example.
+-- The joint table of the proved cases of document 01 ("Report and cases"), those of plan D as slip 9 works them anew, and of the owners
+-- that may follow it (slip 4), each by computing the definitions that the contracts cite. D's pairs, factors and rooms are computed beside the rule, in elimination's Example.
 use Prim.Native.Nat.{ℕ}
 use mathlib.Core.Path.{_≡_, refl}
 use mathlib.Core.List.{List, [], _∷_, _++_}
@@ -42,6 +42,9 @@ use Rattle.certificate.specs.Reading.{placesOf, field, setIn, setOfCertificate,
 use Rattle.limits.specs.Limits.{workLength}
 use Rattle.call_plan.specs.Tests.{planLengths, setLengths, limitsOk, planOutcome}
 use Rattle.call_check.specs.Calls.{certificateOutcome, checkCertificateOf}
+use Rattle.text_fields.specs.Pieces.{pieces}
+use Rattle.text_fields.specs.Number.{digitsFrom, numberIn}
+use Rattle.text_owners.specs.Owners.{isOwnersWord, fieldsIn, fieldNumbers, ownersLine, allBytes, notRead, owned, ownersIn}
 use Rattle.case_table.specs.Plans.{none as silent, blank, ones, D, setD, earlierD}
 
 -- the certificate of D's set, with l for L[3][3] and u for U[0][0], checked with a working row of its length
@@ -82,6 +85,12 @@ pub record Table : Type 0 where
   pub D-word : solve 7 5 5 (setD 3 1) (vector (0 ∷ 0 ∷ 0 ∷ 0 ∷ 1 ∷ [])) ≡ record { verdict = Open; x = 0 ∷ 0 ∷ 0 ∷ 0 ∷ 5 ∷ []; z = 0 ∷ 0 ∷ 0 ∷ 0 ∷ 0 ∷ [] }
   pub D-sum : solve 7 5 5 (setD 3 1) (vector (0 ∷ 0 ∷ 1 ∷ 6 ∷ 0 ∷ [])) ≡ record { verdict = Open; x = 0 ∷ 6 ∷ 0 ∷ 3 ∷ 0 ∷ []; z = 0 ∷ 0 ∷ 0 ∷ 0 ∷ 0 ∷ [] }
   pub D-hidden : solve 7 5 5 (setD 3 1) (vector (1 ∷ 0 ∷ 0 ∷ 0 ∷ 0 ∷ [])) ≡ record { verdict = Closed; x = 0 ∷ 0 ∷ 0 ∷ 0 ∷ 0 ∷ []; z = 3 ∷ 2 ∷ 1 ∷ 1 ∷ 0 ∷ [] }
+  -- what may follow D's text, from line 15 on: nothing; `owners 1 1 2 2 0`; 256 among them, and a malformed number after it; no words and the bare word `owners`
+  pub D-unowned : ownersIn 5 15 (pieces 10 []) ≡ owned (1 ∷ 1 ∷ 1 ∷ 1 ∷ 1 ∷ [])
+  pub D-owners : ownersIn 5 15 (pieces 10 (111 ∷ 119 ∷ 110 ∷ 101 ∷ 114 ∷ 115 ∷ 32 ∷ 49 ∷ 32 ∷ 49 ∷ 32 ∷ 50 ∷ 32 ∷ 50 ∷ 32 ∷ 48 ∷ 10 ∷ [])) ≡ owned (1 ∷ 1 ∷ 2 ∷ 2 ∷ 0 ∷ [])
+  pub D-owner-256 : ownersIn 5 15 (pieces 10 (111 ∷ 119 ∷ 110 ∷ 101 ∷ 114 ∷ 115 ∷ 32 ∷ 50 ∷ 53 ∷ 54 ∷ 32 ∷ 49 ∷ 32 ∷ 50 ∷ 32 ∷ 50 ∷ 32 ∷ 48 ∷ 10 ∷ [])) ≡ notRead 16 15
+  pub D-owner-malformed : ownersIn 5 15 (pieces 10 (111 ∷ 119 ∷ 110 ∷ 101 ∷ 114 ∷ 115 ∷ 32 ∷ 50 ∷ 53 ∷ 54 ∷ 32 ∷ 49 ∷ 32 ∷ 50 ∷ 32 ∷ 50 ∷ 32 ∷ 48 ∷ 49 ∷ 10 ∷ [])) ≡ notRead 3 15
+  pub no-owners : ownersIn 0 4 (pieces 10 (111 ∷ 119 ∷ 110 ∷ 101 ∷ 114 ∷ 115 ∷ 10 ∷ [])) ≡ owned []
 
 -- the primes of the cases, by the test
 seven : Prime 7
@@ -93,7 +102,7 @@ unfolding isPrime dividedBelow
 two = true-prime 2 refl
 
 pub table : Table
-unfolding zeros tabulate all first sum dot δ place reduced invMod inverseBelow startsFrom startsOk risesFrom rowsFrom valuesOk wellFormed weigh columnsFrom nonzeros startsAfter allColumns allValues compress among below distinct permutation lowerRow lower upperRow upper agrees productOutcome judgeFactors judge backL backU lowest solve leads prefer chosen leading chain closes lowerOf without unfit extended extendedTo free lowestOf ordered selected structural columnsOf uppersOf multiplesBy multiples withPivot withDependent placedRow turn turns rest schedule rowsOf lowersOf factored factorFrom factor words bytes mark version factorNumbers numbersOf certificateOf placesOf field setIn setOfCertificate begins lengthOk sizesOk headerOk isPrime dividedBelow isModulus planLengths setLengths limitsOk planOutcome certificateOutcome checkCertificateOf
+unfolding zeros tabulate all first sum dot δ place reduced invMod inverseBelow startsFrom startsOk risesFrom rowsFrom valuesOk wellFormed weigh columnsFrom nonzeros startsAfter allColumns allValues compress among below distinct permutation lowerRow lower upperRow upper agrees productOutcome judgeFactors judge backL backU lowest solve leads prefer chosen leading chain closes lowerOf without unfit extended extendedTo free lowestOf ordered selected structural columnsOf uppersOf multiplesBy multiples withPivot withDependent placedRow turn turns rest schedule rowsOf lowersOf factored factorFrom factor words bytes mark version factorNumbers numbersOf certificateOf placesOf field setIn setOfCertificate begins lengthOk sizesOk headerOk isPrime dividedBelow isModulus planLengths setLengths limitsOk planOutcome certificateOutcome checkCertificateOf pieces numberIn digitsFrom isOwnersWord fieldsIn fieldNumbers ownersLine allBytes ownersIn
 table =
     record {
       empty-rank = factor-rank 7 0 0 silent seven refl refl;
@@ -117,4 +126,9 @@ table =
       D-word = refl;
       D-sum = refl;
       D-hidden = refl;
+      D-unowned = refl;
+      D-owners = refl;
+      D-owner-256 = refl;
+      D-owner-malformed = refl;
+      no-owners = refl;
     }

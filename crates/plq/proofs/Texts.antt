@@ -44,7 +44,9 @@ use Rattle.certificate.specs.Reading.{setOfCertificate}
 use Rattle.certificate.specs.Writing.{roomFor}
 use Rattle.limits.specs.Limits.{workLength, largestEntries}
 use Rattle.call_plan.proofs.Plans.{good-prime}
-use Rattle.text_plan.specs.Held.{planOf, StatesPlan}
+use Rattle.text_plan.specs.Call.{ReadAnswer}
+use Rattle.text_plan.specs.Held.{planOf}
+use Rattle.text_owners.specs.Stating.{StatesText}
 use Rattle.call_check.specs.Calls.{checkCertificateOf}
 use Rattle.call_check.proofs.Theorems.{factors-exactly, certificate-exactly, stored-certificate, rest, rest-numbers, after-plan}
 use Rattle.call_write.specs.Call.{writeOutcome, bytesGiven}
@@ -98,7 +100,7 @@ module _ (text cert : List ℕ) where
             ∙ back (record { plan = reading-good text (h .states); work = refl; layout = h .layout; passes = h .passes }),
       )
 
-  after-reading : StatesPlan largestEntries text → checkTextOf text cert ≡ rest p n m A cert workLength
+  after-reading : StatesText largestEntries text → checkTextOf text cert ≡ rest p n m A cert workLength
   unfolding checkTextOf checkReadOf
   after-reading h =
       after-passed (reading text .result .outcome) check (outcome-passed text .1 h)
@@ -124,7 +126,7 @@ module _ (text cert : List ℕ) where
     pub checked-by : PackedFrom (textFaults ++ setFaults) z
     checked-by = subst (PackedFrom (textFaults ++ setFaults)) (sym call) (packed-from (textFaults ++ setFaults) (checkTextOf text cert) text-numbers)
 
-    pub checked-judged : StatesPlan largestEntries text → PackedFrom setFaults z
+    pub checked-judged : StatesText largestEntries text → PackedFrom setFaults z
     checked-judged h =
         subst (PackedFrom setFaults) (sym (call ∙ ap packed (after-reading h))) (packed-from setFaults (rest p n m A cert workLength) (rest-numbers p n m A cert workLength))
 
@@ -202,7 +204,7 @@ module _ (text : List ℕ) where
   abbrev cert₁ : List ℕ
   cert₁ = ownCertificate (reading text)
 
-  made-is : StatesPlan largestEntries text → (room : ℕ) → makeTextOf text room ≡ (storage (firstRow text) ▷ roomFor room cert₁)
+  made-is : StatesText largestEntries text → (room : ℕ) → makeTextOf text room ≡ (storage (firstRow text) ▷ roomFor room cert₁)
   unfolding makeTextOf makeReadOf
   made-is h room =
       after-passed (reading text .result .outcome) (after-factoring (factoredOf (reading text))) (outcome-passed text .1 h)
@@ -248,11 +250,11 @@ module _ (text : List ℕ) where
         go (Refused k d) e = call .buffer ∙ ap (λ (o : Outcome). filled (length b₀) (bytesGiven o (certificateFor (reading text)))) e ∙ filled-none (length b₀)
 
     -- a text that is not refused
-    zero-states : z ≡ 0 → StatesPlan largestEntries text
+    zero-states : z ≡ 0 → StatesText largestEntries text
     unfolding makeTextOf makeReadOf
     zero-states e = outcome-passed text .0 (both-passed (reading text .result .outcome) _ (passed-exactly .0 e) .0)
 
-    module _ (states : StatesPlan largestEntries text) where
+    module _ (states : StatesText largestEntries text) where
       is : z ≡ packed (storage (firstRow text) ▷ roomFor (length b₀) cert₁)
       is = call .number ∙ ap packed (made-is states (length b₀))
 
@@ -304,3 +306,18 @@ module _ (text : List ℕ) where
         let bytes : take (length cert₁) b ≡ cert₁ = ap (take (length cert₁)) (made-buffer e) ∙ filled-cut (length b₀) (length cert₁) cert₁ refl in
         let h = certificate-exactly p₁ n₁ m₁ x cert₁ workLength .0 (stored-certificate p₁ n₁ m₁ x (factorsOf (reading text)) workLength (factors-pass p₁ n₁ m₁ x (reading-good text states))) in
         next ∙ ap packed (ap (checkTextOf text) bytes ∙ text-exactly text cert₁ .1 (record { states = states; layout = h .layout; passes = h .passes }))
+
+-- ---- texts that are read as the same plan
+
+module _ (T T′ : List ℕ) (same : reading T ≡ reading T′) where
+  pub checked-alike : (cert : List ℕ) → checkTextOf T cert ≡ checkTextOf T′ cert
+  unfolding checkTextOf
+  checked-alike cert = ap (λ (x : ReadAnswer). checkReadOf x cert) same
+
+  pub made-alike : (z : ℕ) (b₀ b : List ℕ) → Makes T z b₀ b → Makes T′ z b₀ b
+  unfolding makeTextOf
+  made-alike z b₀ b m =
+      record {
+        number = m .number ∙ ap (λ (x : ReadAnswer). packed (makeReadOf x (length b₀))) same;
+        buffer = m .buffer ∙ ap (λ (x : ReadAnswer). filled (length b₀) (bytesGiven (makeReadOf x (length b₀)) (certificateFor x))) same;
+      }

@@ -12,7 +12,8 @@ use mathlib.Core.List.{List}
 use lib.ListN.{length}
 use Rattle.refusals.specs.Refusals.{NumberFrom}
 use Rattle.text_plan.specs.Call.{ReadAnswer}
-use Rattle.text_plan.specs.Held.{planOf, StatesPlan}
+use Rattle.text_plan.specs.Held.{planOf}
+use Rattle.text_owners.specs.Stating.{StatesText}
 use Rattle.pluq.specs.Judge.{Passes}
 use Rattle.certificate.specs.Layout.{certificateOf}
 use Rattle.certificate.specs.Reading.{headerOk, setOfCertificate}
@@ -24,12 +25,12 @@ abbrev pub ownCertificate : ReadAnswer → List ℕ
 ownCertificate x = certificateOf (x .result .p) (x .result .n) (x .result .m) (factorsOf x)
 
 pub record Made (text : List ℕ) (room : ℕ) : Type 0 where
-  pub states : StatesPlan largestEntries text
+  pub states : StatesText largestEntries text
   pub fits : FitsAll (reading text)
   pub enough : length (ownCertificate (reading text)) ≤ room
 
 pub record TextPasses (text cert : List ℕ) : Type 0 where
-  pub states : StatesPlan largestEntries text
+  pub states : StatesText largestEntries text
   pub layout : headerOk (reading text .result .p) (reading text .result .n) (reading text .result .m) cert ≡ true
   pub passes : Passes (reading text .result .p) (reading text .result .n) (reading text .result .m) (planOf (reading text)) (setOfCertificate (reading text .result .n) (reading text .result .m) cert)
 

@@ -7,6 +7,7 @@ ghost use Rattle.plq.specs.Calls.{checkTextOf};
 ghost use Rattle.plq.specs.Needs.{CheckLists};
 ghost use Rattle.sparse.specs.Views.{before, storedAt, storedBefore};
 use call_check::check_certificate;
+use limits::SIZE_CELLS;
 use refusals::Outcome;
 use text_plan::Reading;
 
@@ -48,7 +49,8 @@ pub fn check_text(
     requires { ⌜ CheckLists (storedAt starts cols vals) (now work) ⌝ }
     ensures { λ o. ⌜ o ≡ checkTextOf (before text) (before certificate) ⌝ }
 {
-    let r = text_plan::read(text, starts, cols, vals);
+    let mut owners = [0u8; SIZE_CELLS];
+    let r = text_owners::read(text, starts, cols, vals, &mut owners);
     let read = r.outcome;
     let Outcome::Passed = read else {
         return read;

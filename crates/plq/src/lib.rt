@@ -1,14 +1,14 @@
 // The library. For programs in Rattle: the calls on stored plans, each proved in a crate of its own. For planning programs in C
 // (include/plq.h): two calls that take a plan as its text and need no storage of the caller's.
-pub use call_answer::from_certificate::answer_from_certificate;
-pub use call_answer::from_factors::answer_from_factors;
-pub use call_check::check_certificate;
-pub use call_check::check_factors;
-pub use call_factor::factor;
-pub use call_open::from_certificate::open_columns_from_certificate;
-pub use call_open::from_factors::open_columns_from_factors;
-pub use call_write::write_certificate;
-pub use text_plan::read as read_plan;
+pub use call_owned::answer::answer_from_certificate;
+pub use call_owned::answer::answer_from_factors;
+pub use call_owned::check::check_certificate;
+pub use call_owned::check::check_factors;
+pub use call_owned::factor::factor;
+pub use call_owned::open::open_columns_from_certificate;
+pub use call_owned::open::open_columns_from_factors;
+pub use call_owned::write::write_certificate;
+pub use text_owners::read as read_plan;
 ghost use mathlib.Core.Path.{_≡_};
 ghost use Rattle.plq.specs.Calls.{checkTextOf, packed, Makes};
 ghost use Rattle.sparse.specs.Views.{before, after};

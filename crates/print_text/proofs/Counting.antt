@@ -18,16 +18,16 @@ pub counts-sum : (cells : List ℕ) → openCount cells + closedCount cells ≡ 
 unfolding openCount closedCount
 counts-sum cells = count-both (length cells) (λ j. eqb (getD cells j 0) 1)
 
-abbrev pub otherLines : Summary → List ℕ → List ℕ
-otherLines s cells = flatten (sizesLine s ∷ rankLine s ∷ openLines 0 cells ∷ [])
+abbrev pub otherLines : Summary → (owners cells : List ℕ) → List ℕ
+otherLines s owners cells = flatten (sizesLine s ∷ rankLine s ∷ openLines 0 owners cells ∷ [])
 
-pub totals-last : (s : Summary) (cells : List ℕ) → reportText s cells ≡ otherLines s cells ++ totalsLine cells
+pub totals-last : (s : Summary) (owners cells : List ℕ) → reportText s owners cells ≡ otherLines s owners cells ++ totalsLine cells
 unfolding reportText flatten
-totals-last s cells =
+totals-last s owners cells = let opened = openLines 0 owners cells in
     ap (λ (l : List ℕ). sizesLine s ++ (rankLine s ++ l))
-    (ap (λ (l : List ℕ). openLines 0 cells ++ l) (append-nil (totalsLine cells)) ∙ sym (ap (λ (l : List ℕ). l ++ totalsLine cells) (append-nil (openLines 0 cells))))
-    ∙ sym (ap (λ (l : List ℕ). sizesLine s ++ l) (append-assoc (rankLine s) (openLines 0 cells ++ []) (totalsLine cells)))
-    ∙ sym (append-assoc (sizesLine s) (rankLine s ++ (openLines 0 cells ++ [])) (totalsLine cells))
+    (ap (λ (l : List ℕ). opened ++ l) (append-nil (totalsLine cells)) ∙ sym (ap (λ (l : List ℕ). l ++ totalsLine cells) (append-nil opened)))
+    ∙ sym (ap (λ (l : List ℕ). sizesLine s ++ l) (append-assoc (rankLine s) (opened ++ []) (totalsLine cells)))
+    ∙ sym (append-assoc (sizesLine s) (rankLine s ++ (opened ++ [])) (totalsLine cells))
 
 -- what the code takes for the closed words: those that are left
 pub closed-left : (cells : List ℕ) (k : ℕ) → k ≡ openCount cells → length cells - k ≡ closedCount cells

@@ -1,8 +1,10 @@
 -- What is printed for document 01's plan D, computed byte for byte.
 --   D-report     modulus 7 slots 5 words 5 entries 11
 --                rank 4 structural 4 L 6 U 7
---                open 5
+--                open 5 owner 1
 --                totals open 1 closed 4
+--   own-owners   open 3 owner 2
+--                open 5 owner 0: each open word with its own owner; the last one is a pad, which is nobody's
 --   a-refusal    refused 4 at 6
 --   D-open       open 0 0 0 0 5: the answer to the question (0,0,0,0,1)
 --   D-closed     closed 3 2 1 1 0: the answer to the question (1,0,0,0,0)
@@ -21,13 +23,19 @@ use Rattle.print_text.specs.Answer.{valuesText, answerLine, answerText}
 abbrev pub summaryD : Summary
 summaryD = record { modulus = 7; slots = 5; words = 5; entries = 11; rank = 4; structural = 4; lower = 6; upper = 7 }
 
-pub D-report : reportText summaryD (0 ∷ 0 ∷ 0 ∷ 0 ∷ 1 ∷ [])
+pub D-report : reportText summaryD (1 ∷ 1 ∷ 1 ∷ 1 ∷ 1 ∷ []) (0 ∷ 0 ∷ 0 ∷ 0 ∷ 1 ∷ [])
     ≡ (109 ∷ 111 ∷ 100 ∷ 117 ∷ 108 ∷ 117 ∷ 115 ∷ 32 ∷ 55 ∷ 32 ∷ 115 ∷ 108 ∷ 111 ∷ 116 ∷ 115 ∷ 32 ∷ 53 ∷ 32 ∷ 119 ∷ 111 ∷ 114 ∷ 100 ∷ 115 ∷ 32 ∷ 53 ∷ 32 ∷ 101 ∷ 110 ∷ 116 ∷ 114 ∷ 105 ∷ 101 ∷ 115 ∷ 32 ∷ 49 ∷ 49 ∷ 10 ∷ [])
     ++ ((114 ∷ 97 ∷ 110 ∷ 107 ∷ 32 ∷ 52 ∷ 32 ∷ 115 ∷ 116 ∷ 114 ∷ 117 ∷ 99 ∷ 116 ∷ 117 ∷ 114 ∷ 97 ∷ 108 ∷ 32 ∷ 52 ∷ 32 ∷ 76 ∷ 32 ∷ 54 ∷ 32 ∷ 85 ∷ 32 ∷ 55 ∷ 10 ∷ [])
-    ++ ((111 ∷ 112 ∷ 101 ∷ 110 ∷ 32 ∷ 53 ∷ 10 ∷ [])
+    ++ ((111 ∷ 112 ∷ 101 ∷ 110 ∷ 32 ∷ 53 ∷ 32 ∷ 111 ∷ 119 ∷ 110 ∷ 101 ∷ 114 ∷ 32 ∷ 49 ∷ 10 ∷ [])
     ++ (116 ∷ 111 ∷ 116 ∷ 97 ∷ 108 ∷ 115 ∷ 32 ∷ 111 ∷ 112 ∷ 101 ∷ 110 ∷ 32 ∷ 49 ∷ 32 ∷ 99 ∷ 108 ∷ 111 ∷ 115 ∷ 101 ∷ 100 ∷ 32 ∷ 52 ∷ 10 ∷ [])))
 unfolding reportText sizesLine rankLine openLines wordLine openLine totalsLine openCount closedCount count flatten labelled decimal decimalIn
 D-report = refl
+
+pub own-owners : openLines 0 (1 ∷ 1 ∷ 2 ∷ 2 ∷ 0 ∷ []) (0 ∷ 0 ∷ 1 ∷ 0 ∷ 1 ∷ [])
+    ≡ (111 ∷ 112 ∷ 101 ∷ 110 ∷ 32 ∷ 51 ∷ 32 ∷ 111 ∷ 119 ∷ 110 ∷ 101 ∷ 114 ∷ 32 ∷ 50 ∷ 10 ∷ [])
+    ++ (111 ∷ 112 ∷ 101 ∷ 110 ∷ 32 ∷ 53 ∷ 32 ∷ 111 ∷ 119 ∷ 110 ∷ 101 ∷ 114 ∷ 32 ∷ 48 ∷ 10 ∷ [])
+unfolding openLines wordLine openLine flatten labelled decimal decimalIn
+own-owners = refl
 
 pub a-refusal : refusalText 4 6 ≡ 114 ∷ 101 ∷ 102 ∷ 117 ∷ 115 ∷ 101 ∷ 100 ∷ 32 ∷ 52 ∷ 32 ∷ 97 ∷ 116 ∷ 32 ∷ 54 ∷ 10 ∷ []
 unfolding refusalText flatten labelled decimal decimalIn

@@ -1,14 +1,16 @@
 -- A buffer of 65,536 bytes holds whatever the programs print: a report of at most 2,048 words, a refusal, an answer of at most 2,048 values.
 use mathlib.Core.Bool.{Bool, true, false, cond}
-use mathlib.Core.List.{List, [], _∷_, flatten}
-use Prim.Native.Nat.{ℕ, _+_, _*_, _≤_}
+use mathlib.Core.List.{List, [], _∷_, _++_, flatten}
+use mathlib.Core.Path.{_≡_}
+use Prim.Native.Nat.{ℕ, zero, suc, _+_, _*_, _/_, _%_, _^_, _≤_, _<_}
+use native.Mathlib.Nat.{le-of-suc-le-suc, not-suc-le-zero}
 use native.Mathlib.Omega.{arith}
-use lib.Dec.{eqb}
-use lib.ListN.{length, length-append}
-use Rattle.text_fields.specs.Decimal.{decimal}
-use Rattle.text_fields.proofs.Canonical.{decimal-length}
+use lib.Dec.{eqb, ltb}
+use lib.ListN.{length, getD, length-append}
+use Rattle.text_fields.specs.Decimal.{decimalIn, decimal}
+use Rattle.text_fields.proofs.Canonical.{decimal-length, decimal-one, tenth}
 use Rattle.print_text.specs.declared.lines.Summary.{Summary}
-use Rattle.print_text.specs.Labels.{modulusLabel, slotsLabel, wordsLabel, entriesLabel, rankLabel, structuralLabel, lowerLabel, upperLabel, openLabel, totalsLabel, closedLabel, refusedLabel, atLabel, space}
+use Rattle.print_text.specs.Labels.{modulusLabel, slotsLabel, wordsLabel, entriesLabel, rankLabel, structuralLabel, lowerLabel, upperLabel, openLabel, ownerLabel, totalsLabel, closedLabel, refusedLabel, atLabel, space}
 use Rattle.print_text.specs.Lines.{labelled, sizesLine, rankLine, openLine, wordLine, openLines, openCount, closedCount, totalsLine}
 use Rattle.print_text.specs.Report.{reportText, refusalText}
 use Rattle.print_text.specs.Answer.{valuesText, verdictWord, answerLine}
@@ -18,6 +20,22 @@ labelled-short : (label : List ℕ) (x : ℕ) → length (labelled label x) ≤ 
 unfolding labelled decimal
 labelled-short label x = omega (arith, length-append label (decimal x), decimal-length 10 x)
 
+-- a number below 10 ^ k has at most k digits, however many there is room for
+few-digits : (f g n : ℕ) → n < 10 ^ suc f → f ≤ g → length (decimalIn (suc g) n) ≤ suc f
+unfolding decimalIn
+few-digits zero g n h le = rw (decimal-one g n h) (omega arith)
+few-digits (suc f) zero n h le = absurd (not-suc-le-zero le)
+few-digits (suc f) (suc g) n h le = go (ltb n 10) (decimalIn (suc g) (n / 10)) (few-digits f g (n / 10) (tenth (suc f) n h) (le-of-suc-le-suc le))
+  where
+    go : (t : Bool) (l : List ℕ) → length l ≤ suc f → length (cond t ((48 + n) ∷ []) (l ++ ((48 + n % 10) ∷ []))) ≤ suc (suc f)
+    go true l h = omega arith
+    go false l h = simp length-append (omega arith)
+
+-- the number of a word has at most four
+word-number-short : (label : List ℕ) (x : ℕ) → x ≤ 2048 → length (labelled label x) ≤ length label + 4
+unfolding labelled decimal
+word-number-short label x h = omega (arith, length-append label (decimal x), few-digits 3 9 x (omega arith) (omega arith))
+
 sizes-short : (s : Summary) → length (sizesLine s) ≤ 72
 unfolding sizesLine flatten
 sizes-short s = simp length-append (omega (arith, labelled-short modulusLabel (s .modulus), labelled-short slotsLabel (s .slots), labelled-short wordsLabel (s .words), labelled-short entriesLabel (s .entries)))
@@ -26,30 +44,33 @@ rank-short : (s : Summary) → length (rankLine s) ≤ 64
 unfolding rankLine flatten
 rank-short s = simp length-append (omega (arith, labelled-short rankLabel (s .rank), labelled-short structuralLabel (s .structural), labelled-short lowerLabel (s .lower), labelled-short upperLabel (s .upper)))
 
-open-short : (j : ℕ) → length (openLine j) ≤ 16
+-- 5 + 4 + 7 + 10 + 1 bytes: the word's number has to be counted closely, the owner's need not be, so nothing is asked of the owners
+open-short : (j owner : ℕ) → j < 2048 → length (openLine j owner) ≤ 27
 unfolding openLine flatten
-open-short j = simp length-append (omega (arith, labelled-short openLabel (j + 1)))
+open-short j owner h = simp length-append (omega (arith, word-number-short openLabel (j + 1) (omega arith), labelled-short ownerLabel owner))
 
-word-short : (j cell : ℕ) → length (wordLine j cell) ≤ 16
+word-short : (j owner cell : ℕ) → j < 2048 → length (wordLine j owner cell) ≤ 27
 unfolding wordLine
-word-short j cell = go (eqb cell 1)
+word-short j owner cell h = go (eqb cell 1)
   where
-    go : (t : Bool) → length (cond t (openLine j) []) ≤ 16
-    go true = open-short j
+    go : (t : Bool) → length (cond t (openLine j owner) []) ≤ 27
+    go true = open-short j owner h
     go false = omega arith
 
-lines-short : (j : ℕ) (cells : List ℕ) → length (openLines j cells) ≤ 16 * length cells
+lines-short : (j : ℕ) (owners cells : List ℕ) → j + length cells ≤ 2048 → length (openLines j owners cells) ≤ 27 * length cells
 unfolding openLines
-lines-short j [] = omega arith
-lines-short j (cell ∷ cells) = omega (arith, length-append (wordLine j cell) (openLines (j + 1) cells), word-short j cell, lines-short (j + 1) cells)
+lines-short j owners [] h = omega arith
+lines-short j owners (cell ∷ cells) h =
+    omega
+    (arith, length-append (wordLine j (getD owners j 0) cell) (openLines (j + 1) owners cells), word-short j (getD owners j 0) cell (omega arith), lines-short (j + 1) owners cells (omega arith))
 
 totals-short : (cells : List ℕ) → length (totalsLine cells) ≤ 41
 unfolding totalsLine flatten
 totals-short cells = simp length-append (omega (arith, labelled-short totalsLabel (openCount cells), labelled-short closedLabel (closedCount cells)))
 
-report-short : (s : Summary) (cells : List ℕ) → length (reportText s cells) ≤ 177 + 16 * length cells
+report-short : (s : Summary) (owners cells : List ℕ) → length cells ≤ 2048 → length (reportText s owners cells) ≤ 177 + 27 * length cells
 unfolding reportText flatten
-report-short s cells = simp length-append (omega (arith, sizes-short s, rank-short s, lines-short 0 cells, totals-short cells))
+report-short s owners cells h = simp length-append (omega (arith, sizes-short s, rank-short s, lines-short 0 owners cells (omega arith), totals-short cells))
 
 values-short : (xs : List ℕ) → length (valuesText xs) ≤ 11 * length xs
 unfolding valuesText
@@ -64,8 +85,8 @@ answer-short : (t : Bool) (xs : List ℕ) → length (answerLine t xs) ≤ 7 + 1
 unfolding answerLine flatten
 answer-short t xs = simp length-append (omega (arith, verdict-short t, values-short xs))
 
-pub report-room : (s : Summary) (cells out : List ℕ) → length cells ≤ 2048 → 65536 ≤ length out → Printable s cells out
-report-room s cells out h l = record { columns = h; room = omega (arith, report-short s cells) }
+pub report-room : (s : Summary) (owners cells out : List ℕ) → length owners ≡ length cells → length cells ≤ 2048 → 65536 ≤ length out → Printable s owners cells out
+report-room s owners cells out e h l = record { columns = h; owned = e; room = omega (arith, report-short s owners cells h) }
 
 pub refusal-room : (k d : ℕ) (out : List ℕ) → 65536 ≤ length out → length (refusalText k d) ≤ length out
 unfolding refusalText flatten

@@ -11,26 +11,26 @@ use Rattle.print_text.specs.Lines.{labelled, openLine, wordLine, openLin
 use Rattle.print_text.specs.Answer.{valuesText}
 
 -- the line of an open word, and of a closed one
-pub word-open : (j cell : ℕ) → cell ≡ 1 → wordLine j cell ≡ openLine j
+pub word-open : (j owner cell : ℕ) → cell ≡ 1 → wordLine j owner cell ≡ openLine j owner
 unfolding wordLine
-word-open j cell e = ap (λ (t : Bool). cond t (openLine j) []) (eq-eqb cell 1 e)
+word-open j owner cell e = ap (λ (t : Bool). cond t (openLine j owner) []) (eq-eqb cell 1 e)
 
-pub word-closed : (j cell : ℕ) → (cell ≡ 1 → ⊥) → wordLine j cell ≡ []
+pub word-closed : (j owner cell : ℕ) → (cell ≡ 1 → ⊥) → wordLine j owner cell ≡ []
 unfolding wordLine
-word-closed j cell e = ap (λ (t : Bool). cond t (openLine j) []) (ne-eqb cell 1 e)
+word-closed j owner cell e = ap (λ (t : Bool). cond t (openLine j owner) []) (ne-eqb cell 1 e)
 
 -- ---- the lines, and the values, from a place of the list on
 
-abbrev pub linesFrom : List ℕ → ℕ → List ℕ
-linesFrom cells j = openLines j (drop j cells)
+abbrev pub linesFrom : (owners cells : List ℕ) → ℕ → List ℕ
+linesFrom owners cells j = openLines j owners (drop j cells)
 
-pub lines-step : (cells : List ℕ) (j : ℕ) → j < length cells → linesFrom cells j ≡ wordLine j (getD cells j 0) ++ linesFrom cells (j + 1)
+pub lines-step : (owners cells : List ℕ) (j : ℕ) → j < length cells → linesFrom owners cells j ≡ wordLine j (getD owners j 0) (getD cells j 0) ++ linesFrom owners cells (j + 1)
 unfolding openLines
-lines-step cells j h = ap (λ (l : List ℕ). openLines j l) (drop-step cells j (getD cells j 0) h refl)
+lines-step owners cells j h = ap (λ (l : List ℕ). openLines j owners l) (drop-step cells j (getD cells j 0) h refl)
 
-pub lines-end : (cells : List ℕ) (j : ℕ) → length cells ≤ j → linesFrom cells j ≡ []
+pub lines-end : (owners cells : List ℕ) (j : ℕ) → length cells ≤ j → linesFrom owners cells j ≡ []
 unfolding openLines
-lines-end cells j h = ap (λ (l : List ℕ). openLines j l) (drop-of-length-le cells h)
+lines-end owners cells j h = ap (λ (l : List ℕ). openLines j owners l) (drop-of-length-le cells h)
 
 abbrev pub valuesFrom : List ℕ → ℕ → List ℕ
 valuesFrom values i = valuesText (drop i values)

@@ -1,6 +1,6 @@
 -- The fixed parts of the printed lines, as bytes.
---   modulusLabel, slotsLabel, wordsLabel, entriesLabel, rankLabel, structuralLabel, lowerLabel, upperLabel, openLabel, totalsLabel, closedLabel,
---   refusedLabel, atLabel
+--   modulusLabel, slotsLabel, wordsLabel, entriesLabel, rankLabel, structuralLabel, lowerLabel, upperLabel, openLabel, ownerLabel, totalsLabel,
+--   closedLabel, refusedLabel, atLabel
 --                       what stands before each number, with its spaces
 --   openWord, closedWord    the two verdicts
 --   space, lineFeed         what stands before each value, and at the end of each line
@@ -42,6 +42,10 @@ upperLabel = 32 ∷ 85 ∷ 32 ∷ []
 -- `open `
 abbrev pub openLabel : List ℕ
 openLabel = 111 ∷ 112 ∷ 101 ∷ 110 ∷ 32 ∷ []
+
+-- ` owner `
+abbrev pub ownerLabel : List ℕ
+ownerLabel = 32 ∷ 111 ∷ 119 ∷ 110 ∷ 101 ∷ 114 ∷ 32 ∷ []
 
 -- `totals open `
 abbrev pub totalsLabel : List ℕ

@@ -43,36 +43,37 @@ pub fn put_rank_line(s: Summary, out: &mut [u8], at: usize) -> usize
     put_bytes(b"\n", out, after_upper)
 }
 
-// `open 5` for column 4
-fn put_open_line(column: u32, out: &mut [u8], at: usize) -> usize
-    requires { ⌜ LineFits column (openLine column) (now out) at ⌝ }
-    ensures { λ r. ⌜ Stored (now (out .entry)) (now (out .exit)) at r (openLine column) ⌝ }
+// `open 5 owner 1` for column 4
+fn put_open_line(column: u32, owner: u8, out: &mut [u8], at: usize) -> usize
+    requires { ⌜ LineFits column (openLine column owner) (now out) at ⌝ }
+    ensures { λ r. ⌜ Stored (now (out .entry)) (now (out .exit)) at r (openLine column owner) ⌝ }
 {
     let after_word = put_labelled(b"open ", column + 1, out, at);
-    put_bytes(b"\n", out, after_word)
+    let after_owner = put_labelled(b" owner ", owner as u32, out, after_word);
+    put_bytes(b"\n", out, after_owner)
 }
 
 // The line of a column where its cell says that it is open; nothing where it is closed.
-fn put_word_line(column: u32, cell: u32, out: &mut [u8], at: usize) -> usize
-    requires { ⌜ LineFits column (wordLine column cell) (now out) at ⌝ }
-    ensures { λ r. ⌜ Stored (now (out .entry)) (now (out .exit)) at r (wordLine column cell) ⌝ }
+fn put_word_line(column: u32, owner: u8, cell: u32, out: &mut [u8], at: usize) -> usize
+    requires { ⌜ LineFits column (wordLine column owner cell) (now out) at ⌝ }
+    ensures { λ r. ⌜ Stored (now (out .entry)) (now (out .exit)) at r (wordLine column owner cell) ⌝ }
 {
     if cell == 1 {
-        put_open_line(column, out, at)
+        put_open_line(column, owner, out, at)
     } else {
         at
     }
 }
 
-// A line for each open word, rising.
-pub fn put_open_lines(cells: &[u32], out: &mut [u8], at: usize) -> usize
-    requires { ⌜ LinesFit (now cells) (now out) at ⌝ }
-    ensures { λ r. ⌜ Stored (now (out .entry)) (now (out .exit)) at r (openLines 0 (now (cells .entry))) ⌝ }
+// A line for each open word, rising, with its owner.
+pub fn put_open_lines(owners: &[u8], cells: &[u32], out: &mut [u8], at: usize) -> usize
+    requires { ⌜ LinesFit (now owners) (now cells) (now out) at ⌝ }
+    ensures { λ r. ⌜ Stored (now (out .entry)) (now (out .exit)) at r (openLines 0 (now (owners .entry)) (now (cells .entry))) ⌝ }
 {
     let mut next = at;
     let mut j = 0;
     while j < cells.len() {
-        next = put_word_line(j as u32, cells[j], out, next);
+        next = put_word_line(j as u32, owners[j], cells[j], out, next);
         j += 1;
     }
     next

@@ -16,13 +16,13 @@ use crate::totals::put_totals_line;
 use byte_buffer::put_bytes;
 use lists::clear_bytes;
 
-fn put_report(s: Summary, cells: &[u32], out: &mut [u8]) -> usize
-    requires { ⌜ Printable s (now cells) (now out) ⌝ }
-    ensures { λ r. ⌜ Stored (now (out .entry)) (now (out .exit)) 0 r (reportText s (now (cells .entry))) ⌝ }
+fn put_report(s: Summary, owners: &[u8], cells: &[u32], out: &mut [u8]) -> usize
+    requires { ⌜ Printable s (now owners) (now cells) (now out) ⌝ }
+    ensures { λ r. ⌜ Stored (now (out .entry)) (now (out .exit)) 0 r (reportText s (now (owners .entry)) (now (cells .entry))) ⌝ }
 {
     let after_sizes = put_sizes_line(s, out, 0);
     let after_rank = put_rank_line(s, out, after_sizes);
-    let after_open = put_open_lines(cells, out, after_rank);
+    let after_open = put_open_lines(owners, cells, out, after_rank);
     put_totals_line(cells, out, after_open)
 }
 
@@ -35,14 +35,14 @@ fn put_refusal(number: u32, detail: u32, out: &mut [u8]) -> usize
     put_bytes(b"\n", out, after_detail)
 }
 
-// Takes the numbers of a report, a cell for each word (1 open, 0 closed) and a buffer; 65,536 bytes are enough.
+// Takes the numbers of a report, for each word its owner and a cell (1 open, 0 closed), and a buffer; 65,536 bytes are enough.
 // Gives the length of the report. Leaves the report in the buffer, zero past its end.
-pub fn write_report(s: Summary, cells: &[u32], out: &mut [u8]) -> usize
-    requires { ⌜ Printable s (now cells) (now out) ⌝ }
-    ensures { λ size. ⌜ Fills (now (out .entry)) (now (out .exit)) size (reportText s (now (cells .entry))) ⌝ }
+pub fn write_report(s: Summary, owners: &[u8], cells: &[u32], out: &mut [u8]) -> usize
+    requires { ⌜ Printable s (now owners) (now cells) (now out) ⌝ }
+    ensures { λ size. ⌜ Fills (now (out .entry)) (now (out .exit)) size (reportText s (now (owners .entry)) (now (cells .entry))) ⌝ }
 {
     clear_bytes(out);
-    put_report(s, cells, out)
+    put_report(s, owners, cells, out)
 }
 
 // Takes the number and the detail of a refusal, and a buffer. Gives the length of the line, which it leaves in the buffer, zero past its end.

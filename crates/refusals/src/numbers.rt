@@ -1,4 +1,4 @@
-// Document 01's table of numbers (specs/Table), for code. 0 is: done, passed or answered.
+// The table of numbers (specs/Table), for code. 0 is: done, passed or answered.
 pub const BAD_MODULUS: u32 = 1;
 
 pub const OVER_LIMIT: u32 = 2;
@@ -28,3 +28,5 @@ pub const BAD_FACTORS: u32 = 13;
 pub const PRODUCT_DIFFERS: u32 = 14;
 
 pub const QUESTION_TOO_LARGE: u32 = 15;
+
+pub const OWNER_TOO_LARGE: u32 = 16;

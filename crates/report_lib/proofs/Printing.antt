@@ -2,7 +2,7 @@
 use mathlib.Core.Path.{_≡_, refl, sym, ap, _∙_, subst}
 use mathlib.Core.List.{List}
 use Prim.Native.Nat.{ℕ}
-use lib.ListN.{length}
+use lib.ListN.{length, take}
 use Rattle.lists.specs.Filled.{zeros, filled}
 use Rattle.refusals.specs.Table.{storageTooShort}
 use Rattle.refusals.specs.declared.Outcome.{Outcome}
@@ -46,16 +46,16 @@ module _ (s : Stages) (A : Compressed) (h : Storage) where
 
   -- ---- reading and factoring passed
 
-  module _ (marks out : List ℕ) (d : HeldReady s A h marks out) (o : Outcome) (marks′ w′ : List ℕ)
+  module _ (ow marks out : List ℕ) (d : HeldReady s A ow h marks out) (o : Outcome) (marks′ w′ : List ℕ)
       (q : Lists (heldList s A h (length marks) (length (h .work))) o marks marks′ (h .work) w′) where
     outcome-is : o ≡ list .outcome
     outcome-is = q .outcome ∙ (λ t. heldList s A h (d .marks-length t) (d .work-length t) .outcome)
 
-    pub columns-refused : (k j size : ℕ) (out′ : List ℕ) → o ≡ Refused k j → Fills out out′ size (refusalText k j) → Prints (heldText s A h) size out out′ (h .work) w′
+    pub columns-refused : (k j size : ℕ) (out′ : List ℕ) → o ≡ Refused k j → Fills out out′ size (refusalText k j) → Prints (heldText s A ow h) size out out′ (h .work) w′
     unfolding heldText
     columns-refused k j size out′ e f =
         record {
-          text-is = subst (Fills out out′ size) (ap (λ (u : Outcome). printed u (reportText (heldSummary s) (list .list))) (sym e ∙ outcome-is)) f;
+          text-is = subst (Fills out out′ size) (ap (λ (u : Outcome). printed u (reportText (heldSummary s) ow (list .list))) (sym e ∙ outcome-is)) f;
           cleared = q .cleared;
         }
 
@@ -65,46 +65,50 @@ module _ (s : Stages) (A : Compressed) (h : Storage) where
         ∙ (λ t. filled (d .marks-length t) (heldList s A h (d .marks-length t) (d .work-length t) .list))
         ∙ filled-whole (s .reading .m) (list .list) (list-length (sym outcome-is ∙ e))
 
-    pub columns-listed : (size : ℕ) (out′ : List ℕ) (z : Summary) → o ≡ Passed → z ≡ heldSummary s → Fills out out′ size (reportText z marks′) → Prints (heldText s A h) size out out′ (h .work) w′
+    pub columns-listed : (size : ℕ) (out′ : List ℕ) (z : Summary) → o ≡ Passed → z ≡ heldSummary s → Fills out out′ size (reportText z ow marks′) → Prints (heldText s A ow h) size out out′ (h .work) w′
     unfolding heldText
     columns-listed size out′ z e same f =
         record {
           text-is =
               subst (Fills out out′ size)
-              ((λ t. reportText (same t) (marks-are e t))
-              ∙ ap (λ (u : Outcome). printed u (reportText (heldSummary s) (list .list))) (sym e ∙ outcome-is))
+              ((λ t. reportText (same t) ow (marks-are e t))
+              ∙ ap (λ (u : Outcome). printed u (reportText (heldSummary s) ow (list .list))) (sym e ∙ outcome-is))
               f;
           cleared = q .cleared;
         }
 
   -- ---- any stages
 
-  module _ (out : List ℕ) (size : ℕ) (out′ : List ℕ) where
+  module _ (ow out : List ℕ) (size : ℕ) (out′ : List ℕ) where
+    -- the owners of the words
+    abbrev os : List ℕ
+    os = take (s .reading .m) ow
+
     abbrev after-reading : List ℕ
-    after-reading = printed (countedFromOne storageTooShort (s .factored .outcome)) (heldText s A h)
+    after-reading = printed (countedFromOne storageTooShort (s .factored .outcome)) (heldText s A os h)
 
     pub read-refused : {k d : ℕ} → s .reading .outcome ≡ Refused k d → h .work ≡ zeros (length (h .work)) → Fills out out′ size (refusalText k d)
-        → Prints (stagedText s A h) size out out′ (h .work) (h .work)
+        → Prints (stagedText s A ow h) size out out′ (h .work) (h .work)
     unfolding stagedText
     read-refused e clear f = record { text-is = subst (Fills out out′ size) (ap (λ (o : Outcome). printed o after-reading) (sym e)) f; cleared = clear }
 
     module _ (passed : s .reading .outcome ≡ Passed) where
-      read-done : after-reading ≡ stagedText s A h
+      read-done : after-reading ≡ stagedText s A ow h
       unfolding stagedText
       read-done = ap (λ (o : Outcome). printed o after-reading) (sym passed)
 
       pub factoring-refused : {k d row : ℕ} → s .factored .outcome ≡ Refused k d → h .work ≡ zeros (length (h .work)) → row ≡ detailFromOne storageTooShort k d → Fills out out′ size (refusalText k row)
-          → Prints (stagedText s A h) size out out′ (h .work) (h .work)
+          → Prints (stagedText s A ow h) size out out′ (h .work) (h .work)
       factoring-refused {k = k} e clear q f =
           record {
             text-is =
                 subst (Fills out out′ size)
-                (ap (refusalText k) q ∙ ap (λ (o : Outcome). printed (countedFromOne storageTooShort o) (heldText s A h)) (sym e) ∙ read-done)
+                (ap (refusalText k) q ∙ ap (λ (o : Outcome). printed (countedFromOne storageTooShort o) (heldText s A os h)) (sym e) ∙ read-done)
                 f;
             cleared = clear;
           }
 
-      pub factoring-done : (w′ : List ℕ) → s .factored .outcome ≡ Passed → Prints (heldText s A h) size out out′ (h .work) w′ → Prints (stagedText s A h) size out out′ (h .work) w′
+      pub factoring-done : (w′ : List ℕ) → s .factored .outcome ≡ Passed → Prints (heldText s A os h) size out out′ (h .work) w′ → Prints (stagedText s A ow h) size out out′ (h .work) w′
       factoring-done w′ e =
           subst (λ (text : List ℕ). Prints text size out out′ (h .work) w′)
-          (ap (λ (o : Outcome). printed (countedFromOne storageTooShort o) (heldText s A h)) (sym e) ∙ read-done)
+          (ap (λ (o : Outcome). printed (countedFromOne storageTooShort o) (heldText s A os h)) (sym e) ∙ read-done)

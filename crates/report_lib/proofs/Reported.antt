@@ -2,7 +2,7 @@
 use mathlib.Core.Path.{_≡_, refl, sym, ap, _∙_, subst}
 use mathlib.Core.List.{List}
 use Prim.Native.Nat.{ℕ, _≤_}
-use lib.ListN.{length}
+use lib.ListN.{length, take}
 use Rattle.lists.specs.Filled.{zeros}
 use Rattle.refusals.specs.declared.Outcome.{Outcome}
 use Rattle.refusals.specs.declared.Outcome.the-variants.{Passed, Refused}
@@ -18,7 +18,7 @@ use Rattle.print_text.specs.Report.{reportText}
 use Rattle.print_text.specs.Printed.{countedFromOne, printed, Prints}
 use Rattle.stages.specs.declared.Stages.{Stages}
 use Rattle.stages.specs.Stages.{reading, factoredOf}
-use Rattle.stages.specs.Staged.{FactorsHeld, Staged}
+use Rattle.stages.specs.Staged.{FactorsHeld, StagedOwned}
 use Rattle.report_lib.specs.Held.{heldSummary, heldList, heldText, stagedText}
 use Rattle.report_lib.specs.Needs.{ReportStagedReady}
 use Rattle.report_lib.specs.Reporting.{summaryOf, openListOf, reportReadOf, reportOf, ReportLists, Reports}
@@ -32,10 +32,10 @@ after-counted : (o : Outcome) (j : ℕ) (x y : List ℕ) → (o ≡ Passed → x
 after-counted Passed j x y e = e refl
 after-counted (Refused k d) j x y e = refl
 
-module _ (x : ReadAnswer) (s : Stages) (A : Compressed) (h : Storage) (same : s .reading ≡ x .result) where
+module _ (x : ReadAnswer) (ow : List ℕ) (s : Stages) (A : Compressed) (h : Storage) (same : s .reading ≡ x .result) where
   -- the report after reading, and after factoring
   abbrev after-factoring : List ℕ
-  after-factoring = printed (openListOf x (factoredOf x) .outcome) (reportText (summaryOf x (factoredOf x)) (openListOf x (factoredOf x) .list))
+  after-factoring = printed (openListOf x (factoredOf x) .outcome) (reportText (summaryOf x (factoredOf x)) (take (x .result .m) ow) (openListOf x (factoredOf x) .list))
 
   abbrev after-reading : List ℕ
   after-reading = printed (countedFromOne storageTooShort (factoredOf x .outcome)) after-factoring
@@ -57,39 +57,45 @@ module _ (x : ReadAnswer) (s : Stages) (A : Compressed) (h : Storage) (same : s 
     list-is : s .factored .outcome ≡ Passed → heldList s A h (s .reading .m) workLength ≡ openListOf x (factoredOf x)
     list-is z t = openFactorsOf (same t .p) (same t .n) (same t .m) (d .plan-is t) (d .set-is z t) (same t .m) workLength
 
-    held-is : s .factored .outcome ≡ Passed → heldText s A h ≡ after-factoring
+    held-is : s .factored .outcome ≡ Passed → heldText s A (take (s .reading .m) ow) h ≡ after-factoring
     unfolding heldText
-    held-is z t = printed (list-is z t .outcome) (reportText (summary-is t) (list-is z t .list))
+    held-is z t = printed (list-is z t .outcome) (reportText (summary-is t) (take (same t .m) ow) (list-is z t .list))
 
-    factored-is : printed (countedFromOne storageTooShort (s .factored .outcome)) (heldText s A h) ≡ after-reading
+    factored-is : printed (countedFromOne storageTooShort (s .factored .outcome)) (heldText s A (take (s .reading .m) ow) h) ≡ after-reading
     factored-is =
-        after-counted (s .factored .outcome) storageTooShort (heldText s A h) after-factoring held-is
+        after-counted (s .factored .outcome) storageTooShort (heldText s A (take (s .reading .m) ow) h) after-factoring held-is
         ∙ ap (λ (o : Outcome). printed (countedFromOne storageTooShort o) after-factoring) (d .outcome-is)
 
-  staged-is : (s .reading .outcome ≡ Passed → FactorsHeld x s A h) → stagedText s A h ≡ reportReadOf x
+  staged-is : (s .reading .outcome ≡ Passed → FactorsHeld x s A h) → stagedText s A ow h ≡ reportReadOf x ow
   unfolding stagedText reportReadOf
   staged-is factors =
       after-test (s .reading .outcome) _ after-reading (λ e. factored-is (factors e))
       ∙ ap (λ (r : Reading). printed (r .outcome) after-reading) same
 
-module _ (text : List ℕ) (s : Stages) (A : Compressed) (w₀ : List ℕ) (h : Storage) (staged : Staged text s A w₀ h) where
-  pub ready : (marks out : List ℕ) → ReportLists out w₀ → length (h .C) ≡ largestSize → length marks ≡ largestSize → ReportStagedReady s A h marks out
-  ready marks out d wide long =
+module _ (text : List ℕ) (s : Stages) (A : Compressed) (ow w₀ : List ℕ) (h : Storage) (owned : StagedOwned text s A ow w₀ h) where
+  pub ready : (marks out : List ℕ) → ReportLists out w₀ → length (h .C) ≡ largestSize → length ow ≡ largestSize → length marks ≡ largestSize → ReportStagedReady s A ow h marks out
+  ready marks out d wide owners long =
+      let staged = owned .stages in
       let same : length (h .work) ≡ length w₀ = ap length (staged .cleared) ∙ length-zeros (length w₀) in
       record {
         fits = λ z. staged .factors z .fits;
         columns-small = λ z. subst (λ (k : ℕ). s .reading .m ≤ k) wide (staged .factors z .fits .C-fits);
         detail-small = λ z. staged .factors z .detail-small;
+        owners-length = owners;
         marks-length = long;
         room = d .room;
         work-length = same ∙ d .work-length;
         clear = staged .cleared ∙ ap zeros (sym same);
       }
 
-  pub reported : (size : ℕ) (out out′ w′ : List ℕ) → Prints (stagedText s A h) size out out′ (h .work) w′ → Reports text size out out′ w₀ w′
+  pub reported : (size : ℕ) (out out′ w′ : List ℕ) → Prints (stagedText s A ow h) size out out′ (h .work) w′ → Reports text size out out′ w₀ w′
   unfolding reportOf
   reported size out out′ w′ p =
+      let staged = owned .stages in
       record {
-        report = subst (λ (ys : List ℕ). Prints ys size out out′ (h .work) w′) (staged-is (reading text) s A h (staged .reading-is) (staged .factors)) p .text-is;
+        report =
+            subst (λ (ys : List ℕ). Prints ys size out out′ (h .work) w′)
+            (staged-is (reading text) ow s A h (staged .reading-is) (staged .factors) ∙ ap (reportReadOf (reading text)) (owned .owners-are)) p
+            .text-is;
         cleared = p .cleared ∙ ap zeros (ap length (staged .cleared) ∙ length-zeros (length w₀));
       }

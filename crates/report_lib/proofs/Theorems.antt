@@ -13,7 +13,7 @@ use Rattle.refusals.specs.Table.{textFaults, storageTooShort}
 use Rattle.refusals.specs.Refusals.{numberOf, detailOf}
 use Rattle.refusals.specs.declared.Outcome.{Outcome}
 use Rattle.refusals.specs.declared.Outcome.the-variants.{Passed}
-use Rattle.lists.proofs.Filled.{length-zeros, filled-whole}
+use Rattle.lists.proofs.Filled.{length-zeros, filled-whole, filled-cut}
 use Rattle.refusals.proofs.Refusals.{unless-holds}
 use Rattle.sparse.specs.Matrix.{Compressed}
 use Rattle.sparse.specs.Set.{Set}
@@ -22,7 +22,9 @@ use Rattle.row_space.specs.Solve.{openColumns}
 use Rattle.limits.specs.Limits.{largestEntries, workLength}
 use Rattle.call_plan.specs.Accepted.{GoodPlan}
 use Rattle.call_plan.proofs.Plans.{good-prime}
-use Rattle.text_plan.specs.Held.{planOf, StatesPlan}
+use Rattle.text_plan.specs.Held.{planOf}
+use Rattle.text_owners.specs.Call.{ownersLength}
+use Rattle.text_owners.specs.Stating.{StatesText}
 use Rattle.call_check.specs.Calls.{checkFactorsOf}
 use Rattle.call_check.specs.Passing.{StoredPasses}
 use Rattle.call_check.proofs.Theorems.{factors-exactly}
@@ -34,9 +36,9 @@ use Rattle.print_text.specs.Report.{reportText, refusalText}
 use Rattle.print_text.specs.Printed.{countedFromOne, printed, PrintsRefusal}
 use Rattle.print_text.proofs.Counting.{otherLines, totals-last}
 use Rattle.print_text.proofs.Shown.{fills-shown, first-refusal}
-use Rattle.stages.specs.Stages.{reading, factoredOf}
+use Rattle.stages.specs.Stages.{reading, ownersRead, factoredOf}
 use Rattle.stages.specs.Meaning.{factorsOf, FitsAll, OverflowsAt}
-use Rattle.stages.proofs.ReadText.{reading-good, outcome-passed, reading-numbers, wholeSet, factored-whole, factored-over}
+use Rattle.stages.proofs.ReadText.{reading-holds, owners-read, reading-good, outcome-passed, reading-numbers, wholeSet, factored-whole, factored-over}
 use Rattle.stages.proofs.Passing.{factors-sized, factors-pass}
 use Rattle.report_lib.specs.Reporting.{summaryOf, openListOf, reportReadOf, reportOf, Reports}
 use Rattle.report_lib.specs.Meaning.{ReportsRight}
@@ -87,9 +89,13 @@ module _ (text : List ℕ) (size : ℕ) (b₀ b w₀ w : List ℕ) (call : Repor
   abbrev set : Set
   set = factorsOf (reading text)
 
+  -- the owners as they are printed
+  abbrev owners : List ℕ
+  owners = take m (ownersRead text)
+
   -- what is printed after reading, and after factoring
   abbrev after-factoring : Factorization → List ℕ
-  after-factoring f = let g = openListOf (reading text) f in printed (g .outcome) (reportText (summaryOf (reading text) f) (g .list))
+  after-factoring f = let g = openListOf (reading text) f in printed (g .outcome) (reportText (summaryOf (reading text) f) owners (g .list))
 
   abbrev after-reading : Factorization → List ℕ
   after-reading f = printed (countedFromOne storageTooShort (f .outcome)) (after-factoring f)
@@ -98,12 +104,12 @@ module _ (text : List ℕ) (size : ℕ) (b₀ b w₀ w : List ℕ) (call : Repor
   unfolding reportOf reportReadOf
   shown = fills-shown b₀ b size (reportOf text) (call .report)
 
-  pub report-refused : ¬ StatesPlan largestEntries text → PrintsRefusal textFaults (take size b)
+  pub report-refused : ¬ StatesText largestEntries text → PrintsRefusal textFaults (take size b)
   report-refused none =
       subst (PrintsRefusal textFaults) (sym shown)
       (first-refusal textFaults (reading text .result .outcome) (after-reading (factoredOf (reading text))) (reading-numbers text) (λ e. none (outcome-passed text .0 e)))
 
-  module _ (states : StatesPlan largestEntries text) where
+  module _ (states : StatesText largestEntries text) where
     good : GoodPlan p n m A
     good = reading-good text states
 
@@ -118,13 +124,19 @@ module _ (text : List ℕ) (size : ℕ) (b₀ b w₀ w : List ℕ) (call : Repor
         let (i, refused, overflows) = factored-over text states none in
         (i, shown-read ∙ ap (λ (o : Outcome). printed (countedFromOne 7 o) (after-factoring (factoredOf (reading text)))) refused, overflows)
 
-    shown-whole : FitsAll (reading text) → take size b ≡ reportText (summaryOf (reading text) (wholeSet text)) (openColumns p m set)
+    owners-are : owners ≡ states .owners
+    owners-are =
+        ap (take m) (owners-read text states)
+        ∙ filled-cut ownersLength m (states .owners) (states .owners-stated .long ∙ sym (reading-holds text states .columns-are))
+
+    shown-whole : FitsAll (reading text) → take size b ≡ reportText (summaryOf (reading text) (wholeSet text)) (states .owners) (openColumns p m set)
     shown-whole fits =
         shown-read
         ∙ ap after-reading (factored-whole text states fits)
-        ∙ ap (λ (g : Listed). printed (g .outcome) (reportText (summaryOf (reading text) (wholeSet text)) (g .list))) (listed-all p n m A set passes)
+        ∙ ap (λ (g : Listed). printed (g .outcome) (reportText (summaryOf (reading text) (wholeSet text)) owners (g .list))) (listed-all p n m A set passes)
+        ∙ ap (λ (os : List ℕ). reportText (summaryOf (reading text) (wholeSet text)) os (openColumns p m set)) owners-are
 
-    pub report-right : FitsAll (reading text) → ReportsRight (reading text) (take size b)
+    pub report-right : FitsAll (reading text) → ReportsRight (reading text) (states .owners) (take size b)
     report-right fits =
         record {
           summary = summaryOf (reading text) (wholeSet text);
@@ -139,7 +151,9 @@ module _ (text : List ℕ) (size : ℕ) (b₀ b w₀ w : List ℕ) (call : Repor
           lower-is = factors-sized p n m A good .lower-values;
           upper-is = factors-sized p n m A good .upper-values;
           marks-are = all-marked p n m A set passes;
-          last-line = (otherLines (summaryOf (reading text) (wholeSet text)) (openColumns p m set), shown-whole fits ∙ totals-last (summaryOf (reading text) (wholeSet text)) (openColumns p m set));
+          last-line =
+              let s = summaryOf (reading text) (wholeSet text) in
+              (otherLines s (states .owners) (openColumns p m set), shown-whole fits ∙ totals-last s (states .owners) (openColumns p m set));
           open-total = marks-open p n m A (openColumns p m set) (all-marked p n m A set passes);
           closed-total = marks-closed p n m A (openColumns p m set) (all-marked p n m A set passes);
           totals-sum = totals-sum p n m set;

@@ -8,7 +8,7 @@ use mathlib.Core.Bool.{Bool, true, false, cond, not, true≢false}
 use mathlib.Core.List.{List, _++_}
 use Prim.Native.Nat.{ℕ, _+_, _<_}
 use lib.Dec.{eqb, leb}
-use lib.ListN.{length, getD}
+use lib.ListN.{length, getD, take}
 use borrow.Author.Tests.{eqb-true, eq-eqb}
 use Rattle.lists.specs.Tests.{count}
 use Rattle.lists.proofs.Tests.{count-ext}
@@ -26,7 +26,7 @@ use Rattle.print_text.specs.Lines.{openCount, closedCount, totalsLine}
 use Rattle.print_text.specs.Report.{reportText}
 use Rattle.print_text.specs.Printed.{countedFromOne, printed}
 use Rattle.print_text.proofs.Counting.{counts-sum, otherLines, totals-last}
-use Rattle.stages.specs.Stages.{reading, factoredOf}
+use Rattle.stages.specs.Stages.{reading, ownersRead, factoredOf}
 use Rattle.report_lib.specs.Reporting.{summaryOf, openListOf, reportReadOf, reportOf}
 use Rattle.report_lib.specs.Meaning.{TellsOpen}
 
@@ -104,10 +104,11 @@ report-foot text read factored listed =
     let x = reading text in
     let f = factoredOf x in
     let g = openListOf x f in
-    let report = reportText (summaryOf x f) (g .list) in (
-      otherLines (summaryOf x f) (g .list),
+    let owners = take (x .result .m) (ownersRead text) in
+    let report = reportText (summaryOf x f) owners (g .list) in (
+      otherLines (summaryOf x f) owners (g .list),
       ap (λ (o : Outcome). printed o (printed (countedFromOne storageTooShort (f .outcome)) (printed (g .outcome) report))) read
           ∙ ap (λ (o : Outcome). printed (countedFromOne storageTooShort o) (printed (g .outcome) report)) factored
           ∙ ap (λ (o : Outcome). printed o report) listed
-          ∙ totals-last (summaryOf x f) (g .list),
+          ∙ totals-last (summaryOf x f) owners (g .list),
     )

@@ -1,10 +1,11 @@
--- What is printed of the stages, in terms of the lists that they left: A are those of the plan, h those of the set.
+-- What is printed of the stages, in terms of the lists that they left: A are those of the plan, ow are the owners, h the lists of the set.
 --   heldSummary s         the numbers of a report
 --   heldList s A h b w    the open columns of the plan, from the set, both as they stand in the lists
---   heldText s A h        what is printed once reading and factoring passed
---   stagedText s A h      what is printed of any stages: the first refusal, or the above
+--   heldText s A ow h     what is printed once reading and factoring passed
+--   stagedText s A ow h   what is printed of any stages: the first refusal, or the above
 use Prim.Native.Nat.{ℕ}
 use mathlib.Core.List.{List}
+use lib.ListN.{take}
 use Rattle.refusals.specs.Table.{storageTooShort}
 use Rattle.sparse.specs.Matrix.{Compressed}
 use Rattle.sparse.specs.Set.{Storage}
@@ -33,13 +34,13 @@ heldSummary s =
 abbrev pub heldList : Stages → Compressed → Storage → (b w : ℕ) → Listed
 heldList s A h b w = let r = s .reading in openFactorsOf (r .p) (r .n) (r .m) (heldPlan r A) (heldSet s h) b w
 
-unfoldable pub heldText : Stages → Compressed → Storage → List ℕ
-heldText s A h =
+unfoldable pub heldText : Stages → Compressed → (ow : List ℕ) → Storage → List ℕ
+heldText s A ow h =
     let g = heldList s A h (s .reading .m) workLength in
-    printed (g .outcome) (reportText (heldSummary s) (g .list))
+    printed (g .outcome) (reportText (heldSummary s) ow (g .list))
 
-unfoldable pub stagedText : Stages → Compressed → Storage → List ℕ
-stagedText s A h =
+unfoldable pub stagedText : Stages → Compressed → (ow : List ℕ) → Storage → List ℕ
+stagedText s A ow h =
     printed (s .reading .outcome)
     (printed (countedFromOne storageTooShort (s .factored .outcome))
-    (heldText s A h))
+    (heldText s A (take (s .reading .m) ow) h))

@@ -1,13 +1,13 @@
--- What a report says of the plan that was read.
---   TellsOpen p n m A t   the test t is true for column j exactly if the unit vector of j is in the row space of A (its word is open)
---   ReportsRight x out    out is the report of a plan's numbers and of marks for its words:
---     modulus-is ..       p, n, m and the number of entries are those that were read
---     rank-is             the rank is the greatest number of independent rows
---     structural-is       the structural pivots are as many as the pivot rules find
---     lower-is, upper-is  L and U of the factors by the pivot rules have so many entries
---     marks-are           a word is printed as open exactly if its unit vector is in the row space of the plan
---     last-line           it ends with the totals of these marks
---     open-total ..       which are the number of open words, whoever tells them, and the number of the others: together m
+-- What a report says of the plan that was read, and of the owners vs of its words.
+--   TellsOpen p n m A t     the test t is true for column j exactly if the unit vector of j is in the row space of A (its word is open)
+--   ReportsRight x vs out   out is the report of a plan's numbers, of the owners and of marks for its words:
+--     modulus-is ..         p, n, m and the number of entries are those that were read
+--     rank-is               the rank is the greatest number of independent rows
+--     structural-is         the structural pivots are as many as the pivot rules find
+--     lower-is, upper-is    L and U of the factors by the pivot rules have so many entries
+--     marks-are             a word is printed as open exactly if its unit vector is in the row space of the plan
+--     last-line             it ends with the totals of these marks
+--     open-total ..         which are the number of open words, whoever tells them, and the number of the others: together m
 use mathlib.Core.Path.{_≡_}
 use mathlib.Core.Logic.{_↔_}
 use mathlib.Core.Bool.{Bool, true, not}
@@ -31,10 +31,10 @@ use Rattle.stages.specs.Meaning.{factorsOf}
 abbrev pub TellsOpen : (p n m : ℕ) → Compressed → (ℕ → Bool) → Type 0
 TellsOpen p n m A t = (j : ℕ) → j < m → (t j ≡ true) ↔ InRowSpace p n m (matrix A) (δ j)
 
-pub record ReportsRight (x : ReadAnswer) (out : List ℕ) : Type 0 where
+pub record ReportsRight (x : ReadAnswer) (vs out : List ℕ) : Type 0 where
   pub summary : Summary
   pub marks : List ℕ
-  pub printed-is : out ≡ reportText summary marks
+  pub printed-is : out ≡ reportText summary vs marks
   pub modulus-is : summary .modulus ≡ x .result .p
   pub slots-are : summary .slots ≡ x .result .n
   pub words-are : summary .words ≡ x .result .m

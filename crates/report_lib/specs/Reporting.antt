@@ -1,14 +1,14 @@
 -- What the report program prints for a text (document 01, "Report and cases").
 --   summaryOf x f       the numbers of a report: the plan that was read, and its factoring
 --   openListOf x f      its open columns (document 01's open words), from the set that factoring gives
---   reportReadOf x      the report of a reading: the line of the first refusal, or the report
+--   reportReadOf x ow   the report of a reading with the owners ow: the line of the first refusal, or the report
 --   reportOf text       the report of a text
 --   ReportLists ..      a buffer that holds any report, and a working row
 --   Reports text ..     the contract: the length, every byte of the buffer, and the working row left all zero
 use Prim.Native.Nat.{ℕ, _≤_}
 use mathlib.Core.Path.{_≡_}
 use mathlib.Core.List.{List}
-use lib.ListN.{length}
+use lib.ListN.{length, take}
 use Rattle.lists.specs.Filled.{zeros}
 use Rattle.refusals.specs.Table.{storageTooShort}
 use Rattle.byte_buffer.specs.Fills.{Fills}
@@ -19,7 +19,7 @@ use Rattle.call_open.specs.Calls.{Listed, openFactorsOf}
 use Rattle.print_text.specs.declared.lines.Summary.{Summary}
 use Rattle.print_text.specs.Report.{reportText}
 use Rattle.print_text.specs.Printed.{countedFromOne, printed}
-use Rattle.stages.specs.Stages.{reading, factoredOf, setFactored}
+use Rattle.stages.specs.Stages.{reading, ownersRead, factoredOf, setFactored}
 use Rattle.text_plan.specs.Held.{planOf}
 
 abbrev pub summaryOf : ReadAnswer → Factorization → Summary
@@ -38,16 +38,16 @@ summaryOf x f =
 abbrev pub openListOf : ReadAnswer → Factorization → Listed
 openListOf x f = let r = x .result in openFactorsOf (r .p) (r .n) (r .m) (planOf x) (setFactored f) (r .m) workLength
 
-unfoldable pub reportReadOf : ReadAnswer → List ℕ
-reportReadOf x =
+unfoldable pub reportReadOf : ReadAnswer → (ow : List ℕ) → List ℕ
+reportReadOf x ow =
     let f = factoredOf x in
     printed (x .result .outcome)
     (printed (countedFromOne storageTooShort (f .outcome))
     (printed (openListOf x f .outcome)
-    (reportText (summaryOf x f) (openListOf x f .list))))
+    (reportText (summaryOf x f) (take (x .result .m) ow) (openListOf x f .list))))
 
 unfoldable pub reportOf : List ℕ → List ℕ
-reportOf text = reportReadOf (reading text)
+reportOf text = reportReadOf (reading text) (ownersRead text)
 
 pub record ReportLists (out w : List ℕ) : Type 0 where
   pub room : printRoom ≤ length out

@@ -18,7 +18,7 @@ use print_text::report::write_report;
 use refusals::Outcome;
 use refusals::numbers::STORAGE_TOO_SHORT;
 use stages::Stages;
-use stages::factor_text;
+use stages::factor_owned;
 
 // The numbers of a report.
 fn summary(s: Stages) -> Summary
@@ -101,12 +101,13 @@ fn report_held(
     us: &[u32],
     uc: &[u32],
     uv: &[u32],
+    owners: &[u8],
     marks: &mut [u32],
     out: &mut [u8],
     work: &mut [u64],
 ) -> usize
-    requires { ⌜ HeldReady s (storedAt starts cols vals) (storageAt ro co ls lc lv us uc uv work) (now marks) (now out) ⌝ }
-    ensures { λ size. ⌜ Prints (heldText s (storedBefore starts cols vals) (storageBefore ro co ls lc lv us uc uv work)) size (before out) (after out) (before work) (after work) ⌝ }
+    requires { ⌜ HeldReady s (storedAt starts cols vals) (now owners) (storageAt ro co ls lc lv us uc uv work) (now marks) (now out) ⌝ }
+    ensures { λ size. ⌜ Prints (heldText s (storedBefore starts cols vals) (before owners) (storageBefore ro co ls lc lv us uc uv work)) size (before out) (after out) (before work) (after work) ⌝ }
 {
     let listed = list_held(
         s,
@@ -127,7 +128,7 @@ fn report_held(
     if let Outcome::Refused(number, detail) = listed {
         return write_refusal(number, detail, out);
     }
-    write_report(summary(s), marks, out)
+    write_report(summary(s), owners, marks, out)
 }
 
 // Writes what is printed of any stages.
@@ -144,12 +145,13 @@ fn report_staged(
     us: &[u32],
     uc: &[u32],
     uv: &[u32],
+    owners: &[u8],
     marks: &mut [u32],
     out: &mut [u8],
     work: &mut [u64],
 ) -> usize
-    requires { ⌜ ReportStagedReady s (storedAt starts cols vals) (storageAt ro co ls lc lv us uc uv work) (now marks) (now out) ⌝ }
-    ensures { λ size. ⌜ Prints (stagedText s (storedBefore starts cols vals) (storageBefore ro co ls lc lv us uc uv work)) size (before out) (after out) (before work) (after work) ⌝ }
+    requires { ⌜ ReportStagedReady s (storedAt starts cols vals) (now owners) (storageAt ro co ls lc lv us uc uv work) (now marks) (now out) ⌝ }
+    ensures { λ size. ⌜ Prints (stagedText s (storedBefore starts cols vals) (before owners) (storageBefore ro co ls lc lv us uc uv work)) size (before out) (after out) (before work) (after work) ⌝ }
 {
     let r = s.reading;
     let f = s.factored;
@@ -176,6 +178,7 @@ fn report_staged(
         us,
         uc,
         uv,
+        &owners[..m],
         &mut marks[..m],
         out,
         work,
@@ -202,11 +205,13 @@ pub fn report(text: &[u8], out: &mut [u8], work: &mut [u64]) -> usize
     let mut uc = [0u32; ENTRY_CELLS];
     let mut uv = [0u32; ENTRY_CELLS];
     let mut marks = [0u32; SIZE_CELLS];
-    let s = factor_text(
+    let mut owners = [0u8; SIZE_CELLS];
+    let s = factor_owned(
         text,
         &mut starts,
         &mut cols,
         &mut vals,
+        &mut owners,
         &mut ro,
         &mut co,
         &mut ls,
@@ -230,6 +235,7 @@ pub fn report(text: &[u8], out: &mut [u8], work: &mut [u64]) -> usize
         &us,
         &uc,
         &uv,
+        &owners,
         &mut marks,
         out,
         work,

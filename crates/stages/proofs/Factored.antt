@@ -9,7 +9,8 @@ use Rattle.refusals.specs.Refusals.{numberOf}
 use Rattle.residue.proofs.Primes.{modulus-prime}
 use Rattle.sparse.specs.Matrix.{Compressed, compressed}
 use Rattle.sparse.specs.Set.{setOf, Storage}
-use Rattle.text_plan.specs.Call.{ReadAnswer, callOf, Gives}
+use Rattle.text_plan.specs.Call.{ReadAnswer, Gives}
+use Rattle.text_owners.specs.Call.{textCallOf, GivesText}
 use Rattle.text_plan.specs.declared.Reading.{Reading}
 use Rattle.limits.specs.Limits.{largestEntries}
 use Rattle.call_plan.specs.Accepted.{GoodPlan}
@@ -22,12 +23,12 @@ use Rattle.refusals.specs.declared.Outcome.the-variants.{Passed, Refused}
 use Rattle.call_factor.specs.Calls.{factorCallOf}
 use Rattle.call_factor.specs.declared.Lent.{Lent}
 use Rattle.stages.specs.declared.Stages.{Stages}
-use Rattle.stages.specs.Stages.{reading, lentFor, factoredOf, setFactored}
+use Rattle.stages.specs.Stages.{readText, reading, lentFor, factoredOf, setFactored}
 use Rattle.text_plan.specs.Held.{heldPlan}
-use Rattle.text_plan.proofs.Done.{read-good}
-use Rattle.stages.specs.Lists.{SetLists, StageLists, Held}
+use Rattle.text_owners.proofs.Theorems.{read-good}
+use Rattle.stages.specs.Lists.{SetLists, StageLists, OwnedLists, Held}
 use Rattle.stages.specs.Needs.{Lendable, cutTo, HeldFactored}
-use Rattle.stages.specs.Staged.{Fits, heldSet, FactorsHeld, Staged}
+use Rattle.stages.specs.Staged.{Fits, heldSet, FactorsHeld, StagedOwned}
 use Rattle.stages.proofs.Outcomes.{not-passed}
 use Rattle.stages.proofs.Lists.{filled-fits, filled-cell, cut-cell, cut-cut}
 use Rattle.stages.proofs.Holding.{Small, as-reading, small, held, answer-is}
@@ -141,32 +142,40 @@ module _ (r : Reading) (A : Compressed) (f : Factored) (h : Storage) (plan : Hel
       }
 
   -- of the text that was read
-  of-text : (text : List ℕ) (w₀ : List ℕ) → length (h .work) ≡ length w₀ → Gives (reading text) r (A .starts) (A .cols) (A .vals) → Staged text result A w₀ h
-  of-text text w₀ e g =
+  of-text : (text ow w₀ : List ℕ) → length (h .work) ≡ length w₀ → GivesText (readText text) r (A .starts) (A .cols) (A .vals) ow → StagedOwned text result A ow w₀ h
+  of-text text ow w₀ e g =
       record {
-        reading-is = g .result-is;
-        factors = λ z. subst (λ (x : ReadAnswer). FactorsHeld x result A h) (answer-is text r A g) factors;
-        cleared = left .work ∙ ap zeros e;
+        stages =
+            record {
+              reading-is = g .plan .result-is;
+              factors = λ z. subst (λ (x : ReadAnswer). FactorsHeld x result A h) (answer-is text r A (g .plan)) factors;
+              cleared = left .work ∙ ap zeros e;
+            };
+        owners-are = g .owners-are;
       }
 
 -- ---- reading, then factoring
 
-module _ (text : List ℕ) (A₀ A : Compressed) (h : Storage) (d : StageLists A₀ h) (r : Reading)
-    (read : Gives (callOf text (length (A₀ .starts)) (length (A₀ .cols)) (length (A₀ .vals))) r (A .starts) (A .cols) (A .vals)) where
-  given : Gives (reading text) r (A .starts) (A .cols) (A .vals)
-  given = as-reading text A₀ (d .plan) r A read
+module _ (text : List ℕ) (A₀ A : Compressed) (ow₀ ow : List ℕ) (h : Storage) (o : OwnedLists A₀ ow₀ h) (r : Reading)
+    (read : GivesText (textCallOf text (length (A₀ .starts)) (length (A₀ .cols)) (length (A₀ .vals)) (length ow₀)) r (A .starts) (A .cols) (A .vals) ow) where
+  abbrev d : StageLists A₀ h
+  d = o .lists
+
+  given : GivesText (readText text) r (A .starts) (A .cols) (A .vals) ow
+  given = as-reading text A₀ (d .plan) (length ow₀) (o .owners-length) r A ow read
 
   limits : Small r
-  limits = small text r A given
+  limits = small text r A (given .plan)
 
   pub read-refused : (f : Factored) (h′ : Storage) (lower upper : ℕ) {k d : ℕ} → r .outcome ≡ Refused k d → h′ .work ≡ zeros (length (h .work))
-      → Staged text (record { reading = r; factored = f; lower = lower; upper = upper }) A (h .work) h′
-  read-refused f h′ lower upper e z = record { reading-is = given .result-is; factors = λ q. absurd (not-passed e q); cleared = z }
+      → StagedOwned text (record { reading = r; factored = f; lower = lower; upper = upper }) A ow (h .work) h′
+  read-refused f h′ lower upper e z =
+      record { stages = record { reading-is = given .plan .result-is; factors = λ q. absurd (not-passed e q); cleared = z }; owners-are = given .owners-are }
 
   module _ (starts-same : length (A .starts) ≡ length (A₀ .starts)) (columns-same : length (A .cols) ≡ length (A₀ .cols)) (values-same : length (A .vals) ≡ length (A₀ .vals)) where
     in-lists : Held r A
     in-lists =
-        held text r A given
+        held text r A (given .plan)
         (record {
           starts-length = starts-same ∙ d .plan .starts-length;
           columns-length = columns-same ∙ d .plan .columns-length;
@@ -179,7 +188,7 @@ module _ (text : List ℕ) (A₀ A : Compressed) (h : Storage) (d : StageLists A
           plan = in-lists;
           rows-small = limits .rows;
           columns-small = limits .columns;
-          good = read-good text (length (A₀ .starts)) (length (A₀ .cols)) (length (A₀ .vals)) r (A .starts) (A .cols) (A .vals) read (ap numberOf e);
+          good = read-good text (length (A₀ .starts)) (length (A₀ .cols)) (length (A₀ .vals)) (length ow₀) r (A .starts) (A .cols) (A .vals) ow read (ap numberOf e);
           set = d .set;
           work-length = d .work-length;
         }
@@ -210,5 +219,5 @@ module _ (text : List ℕ) (A₀ A : Compressed) (h : Storage) (d : StageLists A
       pub upper-inside : f .rank < length (h′ .U .starts)
       upper-inside = omega (arith, rank-fits r A f h′ in-lists limits set-lists left, limits .rows, set-lists .U-lists .starts-length)
 
-      pub staged : Staged text (record { reading = r; factored = f; lower = getD (h′ .L .starts) (r .n) 0; upper = getD (h′ .U .starts) (f .rank) 0 }) A (h .work) h′
-      staged = of-text r A f h′ in-lists limits set-lists left text (h .work) (ap (λ (l : Lent). l .work) same) given
+      pub staged : StagedOwned text (record { reading = r; factored = f; lower = getD (h′ .L .starts) (r .n) 0; upper = getD (h′ .U .starts) (f .rank) 0 }) A ow (h .work) h′
+      staged = of-text r A f h′ in-lists limits set-lists left text ow (h .work) (ap (λ (l : Lent). l .work) same) given

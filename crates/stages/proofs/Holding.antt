@@ -1,19 +1,18 @@
 -- What a reading says it left in the lists is there.
-use mathlib.Core.Path.{_≡_, refl, sym, subst}
+use mathlib.Core.Path.{_≡_, refl, sym, ap, subst}
 use mathlib.Core.List.{List}
-use Prim.Native.Nat.{ℕ, _≤_}
+use Prim.Native.Nat.{ℕ, zero, suc, _≤_}
 use native.Mathlib.Omega.{arith}
 use lib.ListN.{length}
-use Rattle.text_opening.specs.Reading.{Entry, ReadResult, refused, accepted, placed, readOf}
-use Rattle.text_plan.specs.Call.{ReadAnswer, answerBy, readAnswerOf, callOf, Gives}
-use Rattle.text_plan.specs.Stating.{entriesOf}
+use Rattle.refusals.specs.Refusals.{numberOf}
+use Rattle.text_plan.specs.Call.{ReadAnswer, Gives}
 use Rattle.text_plan.specs.declared.Reading.{Reading}
-use Rattle.text_plan.proofs.Accepted.{accepted-states}
-use Rattle.text_plan.proofs.Scattered.{plan-scattered, placed-length}
-use Rattle.sparse.specs.Matrix.{Compressed}
-use Rattle.limits.specs.Limits.{largestSize, largestEntries}
-use Rattle.stages.specs.Stages.{reading}
 use Rattle.text_plan.specs.Held.{heldPlan, planOf}
+use Rattle.text_owners.specs.Call.{ownersLength, TextAnswer, textCallOf, GivesText}
+use Rattle.text_owners.proofs.Theorems.{read-exactly, holds-stated, read-good, read-cleared}
+use Rattle.sparse.specs.Matrix.{Compressed}
+use Rattle.limits.specs.Limits.{largestSize, largestEntries, startsLength}
+use Rattle.stages.specs.Stages.{readText, reading, ownersRead}
 use Rattle.stages.specs.Lists.{Largest, Held}
 
 -- ---- the numbers of a reading keep the limits
@@ -22,29 +21,40 @@ pub record Small (r : Reading) : Type 0 where
   pub columns : r .m ≤ largestSize
   pub entries : r .count ≤ largestEntries
 
-read-small : (text : List ℕ) (o : ReadResult) → readOf largestEntries text ≡ o → Small (readAnswerOf largestEntries o .result)
-unfolding answerBy
-read-small text (refused c d) e = record { rows = omega arith; columns = omega arith; entries = omega arith }
-read-small text (accepted s seen) e =
-    let h = accepted-states largestEntries s text seen e in
-    let stored = placed-length s (entriesOf (s .modulus .p) (h .stated)) (plan-scattered largestEntries s (h .stated) (h .plan)) in
-    record {
-      rows = h .plan .rows;
-      columns = h .plan .columns;
-      entries = subst (λ (es : List Entry). length (placed s es) ≤ largestEntries) (sym (h .entries-are)) (omega (arith, stored, h .plan .fits));
-    }
+module _ (text : List ℕ) where
+  abbrev x : ReadAnswer
+  x = reading text
 
-reading-small : (text : List ℕ) → Small (reading text .result)
-unfolding reading callOf
-reading-small text = read-small text (readOf largestEntries text) refl
+  -- the reading as a call
+  pub as-call : GivesText (textCallOf text startsLength largestEntries largestEntries ownersLength) (x .result) (x .starts) (x .columns) (x .values) (ownersRead text)
+  unfolding readText
+  as-call = record { plan = record { result-is = refl; starts-are = refl; columns-are = refl; values-are = refl }; owners-are = refl }
 
-module _ (text : List ℕ) (A₀ : Compressed) (large : Largest A₀) (r : Reading) (A : Compressed) where
+  reading-small : Small (x .result)
+  reading-small = go (numberOf (x .result .outcome)) refl
+    where
+      go : (k : ℕ) → numberOf (x .result .outcome) ≡ k → Small (x .result)
+      go zero e =
+          let (a, b, c, states) = read-exactly text startsLength largestEntries largestEntries ownersLength (x .result) (x .starts) (x .columns) (x .values) (ownersRead text) as-call .0 e in
+          let held = holds-stated text startsLength largestEntries largestEntries ownersLength (x .result) (x .starts) (x .columns) (x .values) (ownersRead text) as-call refl refl refl states in
+          let good = read-good text startsLength largestEntries largestEntries ownersLength (x .result) (x .starts) (x .columns) (x .values) (ownersRead text) as-call e in
+          record { rows = good .few-rows; columns = good .few-columns; entries = omega (arith, held .entries-stored, good .few-entries) }
+      go (suc k) e =
+          let cleared = read-cleared text startsLength largestEntries largestEntries ownersLength (x .result) (x .starts) (x .columns) (x .values) (ownersRead text) as-call (λ z. omega (arith, e, z)) in
+          record {
+            rows = omega (arith, ap (λ (r : Reading). r .n) (cleared .result-is));
+            columns = omega (arith, ap (λ (r : Reading). r .m) (cleared .result-is));
+            entries = omega (arith, ap (λ (r : Reading). r .count) (cleared .result-is));
+          }
+
+module _ (text : List ℕ) (A₀ : Compressed) (large : Largest A₀) (k : ℕ) (long : k ≡ ownersLength) (r : Reading) (A : Compressed) (ow : List ℕ) where
   -- the call on lists of the largest lengths
-  pub as-reading : Gives (callOf text (length (A₀ .starts)) (length (A₀ .cols)) (length (A₀ .vals))) r (A .starts) (A .cols) (A .vals) → Gives (reading text) r (A .starts) (A .cols) (A .vals)
-  unfolding reading
+  pub as-reading : GivesText (textCallOf text (length (A₀ .starts)) (length (A₀ .cols)) (length (A₀ .vals)) k) r (A .starts) (A .cols) (A .vals) ow
+      → GivesText (readText text) r (A .starts) (A .cols) (A .vals) ow
+  unfolding readText
   as-reading g =
-      subst (λ (x : ReadAnswer). Gives x r (A .starts) (A .cols) (A .vals))
-      (λ t. callOf text (large .starts-length t) (large .columns-length t) (large .values-length t)) g
+      subst (λ (y : TextAnswer). GivesText y r (A .starts) (A .cols) (A .vals) ow)
+      (λ t. textCallOf text (large .starts-length t) (large .columns-length t) (large .values-length t) (long t)) g
 
 module _ (text : List ℕ) (r : Reading) (A : Compressed) (g : Gives (reading text) r (A .starts) (A .cols) (A .vals)) where
   pub small : Small r

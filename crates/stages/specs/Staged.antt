@@ -1,8 +1,9 @@
--- What the stages leave: A are the lists of the plan, h those of the set.
+-- What the stages leave: A are the lists of the plan, ow the owners, h the lists of the set.
 --   Fits s A h             the lists are at least as long as what stands in them
 --   heldSet s h            the set that stands in the lists
 --   FactorsHeld x s A h    after a reading x that passed: the plan, the outcome and the numbers of its factoring, and where that passed too, the set
 --   Staged text s A w₀ h   the contract: the reading, what stands in the lists after it, and the working row, which was w₀, left all zero
+--   StagedOwned ..         the same with the owners that were read
 use Prim.Native.Nat.{ℕ, _+_, _≤_}
 use mathlib.Core.Path.{_≡_}
 use mathlib.Core.List.{List}
@@ -15,7 +16,7 @@ use Rattle.sparse.specs.Set.{Set, setOf, Storage}
 use Rattle.text_plan.specs.Call.{ReadAnswer}
 use Rattle.limits.specs.Limits.{largestSize}
 use Rattle.stages.specs.declared.Stages.{Stages}
-use Rattle.stages.specs.Stages.{reading, factoredOf, setFactored}
+use Rattle.stages.specs.Stages.{reading, ownersRead, factoredOf, setFactored}
 use Rattle.text_plan.specs.Held.{heldPlan, planOf}
 use Rattle.stages.specs.Lists.{Held}
 
@@ -51,3 +52,7 @@ pub record Staged (text : List ℕ) (s : Stages) (A : Compressed) (w₀ : List �
   pub reading-is : s .reading ≡ reading text .result
   pub factors : s .reading .outcome ≡ Passed → FactorsHeld (reading text) s A h
   pub cleared : h .work ≡ zeros (length w₀)
+
+pub record StagedOwned (text : List ℕ) (s : Stages) (A : Compressed) (ow w₀ : List ℕ) (h : Storage) : Type 0 where
+  pub stages : Staged text s A w₀ h
+  pub owners-are : ow ≡ ownersRead text

@@ -1,10 +1,11 @@
 // A plan's text, read and then factored: the stages that the calls on a text begin with. They work in lists of the largest lengths.
-ghost use Rattle.sparse.specs.Views.{before, storedAt, storedBefore, storedAfter, storageAt, storageAfter};
-ghost use Rattle.stages.specs.Lists.{StageLists};
+ghost use Rattle.sparse.specs.Views.{before, after, storedAt, storedBefore, storedAfter, storageAt, storageAfter};
+ghost use Rattle.stages.specs.Lists.{StageLists, OwnedLists};
 ghost use Rattle.stages.specs.Needs.{Lendable, HeldFactored};
-ghost use Rattle.stages.specs.Staged.{Staged};
+ghost use Rattle.stages.specs.Staged.{Staged, StagedOwned};
 use call_factor::factor_accepted;
 use factor_all::factor::Factored;
+use limits::SIZE_CELLS;
 use lists::clear_row;
 use refusals::Outcome;
 use text_plan::Reading;
@@ -58,12 +59,13 @@ fn factor_held(
     )
 }
 
-// Reads a plan's text and factors the plan.
-pub fn factor_text(
+// Reads a plan's text with the owners of its words, and factors the plan.
+pub fn factor_owned(
     text: &[u8],
     starts: &mut [u32],
     cols: &mut [u32],
     vals: &mut [u32],
+    owners: &mut [u8],
     ro: &mut [u32],
     co: &mut [u32],
     ls: &mut [u32],
@@ -74,10 +76,10 @@ pub fn factor_text(
     uv: &mut [u32],
     work: &mut [u64],
 ) -> Stages
-    requires { ⌜ StageLists (storedAt starts cols vals) (storageAt ro co ls lc lv us uc uv work) ⌝ }
-    ensures { λ s. ⌜ Staged (before text) s (storedAfter starts cols vals) (before work) (storageAfter ro co ls lc lv us uc uv work) ⌝ }
+    requires { ⌜ OwnedLists (storedAt starts cols vals) (now owners) (storageAt ro co ls lc lv us uc uv work) ⌝ }
+    ensures { λ s. ⌜ StagedOwned (before text) s (storedAfter starts cols vals) (after owners) (before work) (storageAfter ro co ls lc lv us uc uv work) ⌝ }
 {
-    let reading = text_plan::read(text, starts, cols, vals);
+    let reading = text_owners::read(text, starts, cols, vals, owners);
     let read = reading.outcome;
     let Outcome::Passed = read else {
         clear_row(work);
@@ -116,4 +118,42 @@ pub fn factor_text(
         lower,
         upper,
     }
+}
+
+// The same for those who do not look at the owners.
+pub fn factor_text(
+    text: &[u8],
+    starts: &mut [u32],
+    cols: &mut [u32],
+    vals: &mut [u32],
+    ro: &mut [u32],
+    co: &mut [u32],
+    ls: &mut [u32],
+    lc: &mut [u32],
+    lv: &mut [u32],
+    us: &mut [u32],
+    uc: &mut [u32],
+    uv: &mut [u32],
+    work: &mut [u64],
+) -> Stages
+    requires { ⌜ StageLists (storedAt starts cols vals) (storageAt ro co ls lc lv us uc uv work) ⌝ }
+    ensures { λ s. ⌜ Staged (before text) s (storedAfter starts cols vals) (before work) (storageAfter ro co ls lc lv us uc uv work) ⌝ }
+{
+    let mut owners = [0u8; SIZE_CELLS];
+    factor_owned(
+        text,
+        starts,
+        cols,
+        vals,
+        &mut owners,
+        ro,
+        co,
+        ls,
+        lc,
+        lv,
+        us,
+        uc,
+        uv,
+        work,
+    )
 }

@@ -63,7 +63,7 @@ decimal-length (suc f) n = go (ltb n 10) (decimalIn f (n / 10)) (decimal-length 
     go false l h = simp length-append (omega arith)
 
 -- the first byte of a number that is not 0: a digit that is not `0`
-head-append : (l r : List ℕ) → 48 < getD l 0 0 → 48 < getD (l ++ r) 0 0
+pub head-append : (l r : List ℕ) → 48 < getD l 0 0 → 48 < getD (l ++ r) 0 0
 head-append [] r h = absurd (omega arith)
 head-append (x ∷ xs) r h = h
 

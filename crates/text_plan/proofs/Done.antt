@@ -131,7 +131,7 @@ read-numbered room text = go (ltb largestText (length text))
     go true = refl
     go false = first-numbered room (pieces 10 text)
 
-not-zero : (k : ℕ) → among k textFaults ≡ true → ¬ (k ≡ 0)
+pub not-zero : (k : ℕ) → among k textFaults ≡ true → ¬ (k ≡ 0)
 unfolding among
 not-zero k h z = true≢false (sym h ∙ ap (λ (i : ℕ). among i textFaults) z)
 

@@ -55,7 +55,7 @@ line-printed t hi hj r p =
     )
     (with-signed (t .row) (t .column) (t .value) p)
 
-free-triple : (t : StatedEntry) → Free 10 (tripleText t)
+pub free-triple : (t : StatedEntry) → Free 10 (tripleText t)
 unfolding tripleText joined
 free-triple t =
     free-append 10 (decimal (t .row)) _ (free-decimal 10 (t .row) (omega arith))
@@ -128,7 +128,7 @@ lines-back [] =
     pieces-line 10 (tripleText z) [] (free-triple z) ∙ ap (more (tripleText z)) (pieces-free 10 [] tt)
 lines-back (t ∷ ts) = pieces-line 10 (tripleText t) (joined 10 (tripleLines ts)) (free-triple t) ∙ ap (more (tripleText t)) (lines-back ts)
 
-free-sizes : (s : Sizes) → Free 10 (sizesText s)
+pub free-sizes : (s : Sizes) → Free 10 (sizesText s)
 unfolding sizesText joined
 free-sizes s =
     free-append 10 (decimal (s .n)) _ (free-decimal 10 (s .n) (omega arith))

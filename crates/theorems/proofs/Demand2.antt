@@ -22,7 +22,7 @@
 -- The set of the pivot rules, for every good plan:
 --   rules-right          has the published shape and the product A, and passes the check
 -- What the two programs print, for a text that states a plan whose factors fit:
---   report-right         the report has the plan's sizes, its rank, the number of structural pivots, the entries of L and U, its open words, and their totals
+--   report-right         the report has the plan's sizes, its rank, the number of structural pivots, the entries of L and U, its open words with their owners, and their totals
 --   ask-right            the line has the right verdict on a question of m residues, with the x or the z that `.. -x` and `.. -z` describe
 use Prim.Native.Nat.{ℕ, _+_, _<_}
 use mathlib.Core.Path.{_≡_}
@@ -48,7 +48,7 @@ use Rattle.elimination.specs.Rules.{FollowsRules}
 use Rattle.elimination.specs.Factoring.{factor}
 use Rattle.row_space.specs.Solve.{isOpen, solve, openColumns}
 use Rattle.certificate.specs.Reading.{setOfCertificate}
-use Rattle.text_plan.specs.Held.{StatesPlan}
+use Rattle.text_owners.specs.Stating.{StatesText}
 use Rattle.limits.specs.Limits.{largestEntries, workLength}
 use Rattle.call_plan.specs.Accepted.{GoodPlan}
 use Rattle.call_check.specs.Passing.{StoredPasses}
@@ -65,6 +65,8 @@ use Rattle.call_answer.proofs.Theorems as answers
 use Rattle.call_open.specs.Calls.{openFactorsOf, openCertificateOf, Lists}
 use Rattle.call_open.specs.Meaning.{MarksOpen}
 use Rattle.call_open.proofs.Theorems as columns
+use Rattle.call_owned.specs.Owned.{ownedFactors, ownedAnswer, ownedList}
+use Rattle.call_owned.proofs.Owned.{leaves-done, answers-done, lists-done}
 use Rattle.stages.specs.Stages.{reading, factoredOf}
 use Rattle.stages.specs.Meaning.{FitsAll}
 use Rattle.stages.proofs.Passing.{factors-pass}
@@ -82,73 +84,73 @@ use Rattle.ask_lib.proofs.Theorems as asks
 
 -- ---- factoring
 
-module _ (p n m : ℕ) (A : Compressed) (l : Lent) (o : Factored) (h : Storage) (call : Leaves (factorCallOf p n m A l) o h) (done : numberOf (o .outcome) ≡ 0) where
+module _ (p n m k : ℕ) (A : Compressed) (l : Lent) (o : Factored) (h : Storage) (call : Leaves (ownedFactors k m (factorCallOf p n m A l)) o h) (done : numberOf (o .outcome) ≡ 0) where
   -- the set that was left
   abbrev own : Set
   own = ownSet n m (o .rank) h
 
   pub factor-set : own ≡ factor p n m A
-  factor-set = factors.factored-set p n m A l o h call done
+  factor-set = factors.factored-set p n m A l o h (leaves-done k m _ o h call done) done
 
   pub factor-product : Factors p n m (o .rank) (matrix A) (vector (own .R)) (vector (own .C)) (matrix (own .L)) (matrix (own .U))
-  factor-product = factors.factored-passes p n m A l o h call done .factors
+  factor-product = factors.factored-passes p n m A l o h (leaves-done k m _ o h call done) done .factors
 
   pub factor-rank : Rank p n m (matrix A) (o .rank)
-  factor-rank = factors.factored-rank p n m A l o h call done
+  factor-rank = factors.factored-rank p n m A l o h (leaves-done k m _ o h call done) done
 
   pub factor-structural : o .structural ≡ length (structural A n m)
-  factor-structural = factors.factored-structural p n m A l o h call done
+  factor-structural = factors.factored-structural p n m A l o h (leaves-done k m _ o h call done) done
 
   pub factor-rules : FollowsRules p n m A
-  factor-rules = factors.factored-rules p n m A l o h call done
+  factor-rules = factors.factored-rules p n m A l o h (leaves-done k m _ o h call done) done
 
-  pub factor-diagonal : (k : ℕ) → k < o .structural → rowOf (own .L .starts) k (own .L .cols) ≡ k ∷ []
-  factor-diagonal = factors.factored-diagonal p n m A l o h call done
+  pub factor-diagonal : (i : ℕ) → i < o .structural → rowOf (own .L .starts) i (own .L .cols) ≡ i ∷ []
+  factor-diagonal = factors.factored-diagonal p n m A l o h (leaves-done k m _ o h call done) done
 
 pub make-set : (text : List ℕ) (z : ℕ) (b₀ b : List ℕ) → Makes text z b₀ b → z ≡ 0 → b ≡ filled (length b₀) (ownCertificate (reading text))
 make-set = texts.made-buffer
 
 -- ---- a question, from stored factors
 
-module _ (p n m : ℕ) (A : Compressed) (s : Set) (y : List ℕ) (r : Answer) (x₀ x z₀ z w₀ w : List ℕ)
-    (call : Answers (answerFactorsOf p n m A s y (length x₀) (length z₀) (length w₀)) r x₀ x z₀ z w₀ w) (done : answerNumber r ≡ 0) where
+module _ (p n m k : ℕ) (A : Compressed) (s : Set) (y : List ℕ) (r : Answer) (x₀ x z₀ z w₀ w : List ℕ)
+    (call : Answers (ownedAnswer k m (answerFactorsOf p n m A s y (length x₀) (length z₀) (length w₀))) r x₀ x z₀ z w₀ w) (done : answerNumber r ≡ 0) where
   pub stored-open : (r ≡ Answer.Open) ↔ InRowSpace p n m (matrix A) (vector y)
-  stored-open = answers.stored-right p n m A s y r x₀ x z₀ z w₀ w call done .open-exactly
+  stored-open = answers.stored-right p n m A s y r x₀ x z₀ z w₀ w (answers-done k m _ r x₀ x z₀ z w₀ w call done) done .open-exactly
 
   pub stored-closed : (r ≡ Answer.Closed) ↔ (¬ InRowSpace p n m (matrix A) (vector y))
-  stored-closed = answers.stored-right p n m A s y r x₀ x z₀ z w₀ w call done .closed-exactly
+  stored-closed = answers.stored-right p n m A s y r x₀ x z₀ z w₀ w (answers-done k m _ r x₀ x z₀ z w₀ w call done) done .closed-exactly
 
   pub stored-x : r ≡ Answer.Open → LeftOpen p n m A s y x z
-  stored-x = answers.stored-right p n m A s y r x₀ x z₀ z w₀ w call done .open-left
+  stored-x = answers.stored-right p n m A s y r x₀ x z₀ z w₀ w (answers-done k m _ r x₀ x z₀ z w₀ w call done) done .open-left
 
   pub stored-z : r ≡ Answer.Closed → LeftClosed p n m A s y x z
-  stored-z = answers.stored-right p n m A s y r x₀ x z₀ z w₀ w call done .closed-left
+  stored-z = answers.stored-right p n m A s y r x₀ x z₀ z w₀ w (answers-done k m _ r x₀ x z₀ z w₀ w call done) done .closed-left
 
 -- ---- a question, from a certificate
 
-module _ (p n m : ℕ) (A : Compressed) (cert y : List ℕ) (r : Answer) (x₀ x z₀ z w₀ w : List ℕ)
-    (call : Answers (answerCertificateOf p n m A cert y (length x₀) (length z₀) (length w₀)) r x₀ x z₀ z w₀ w) (done : answerNumber r ≡ 0) where
+module _ (p n m k : ℕ) (A : Compressed) (cert y : List ℕ) (r : Answer) (x₀ x z₀ z w₀ w : List ℕ)
+    (call : Answers (ownedAnswer k m (answerCertificateOf p n m A cert y (length x₀) (length z₀) (length w₀))) r x₀ x z₀ z w₀ w) (done : answerNumber r ≡ 0) where
   pub bytes-open : (r ≡ Answer.Open) ↔ InRowSpace p n m (matrix A) (vector y)
-  bytes-open = answers.bytes-right p n m A cert y r x₀ x z₀ z w₀ w call done .open-exactly
+  bytes-open = answers.bytes-right p n m A cert y r x₀ x z₀ z w₀ w (answers-done k m _ r x₀ x z₀ z w₀ w call done) done .open-exactly
 
   pub bytes-closed : (r ≡ Answer.Closed) ↔ (¬ InRowSpace p n m (matrix A) (vector y))
-  bytes-closed = answers.bytes-right p n m A cert y r x₀ x z₀ z w₀ w call done .closed-exactly
+  bytes-closed = answers.bytes-right p n m A cert y r x₀ x z₀ z w₀ w (answers-done k m _ r x₀ x z₀ z w₀ w call done) done .closed-exactly
 
   pub bytes-x : r ≡ Answer.Open → LeftOpen p n m A (setOfCertificate n m cert) y x z
-  bytes-x = answers.bytes-right p n m A cert y r x₀ x z₀ z w₀ w call done .open-left
+  bytes-x = answers.bytes-right p n m A cert y r x₀ x z₀ z w₀ w (answers-done k m _ r x₀ x z₀ z w₀ w call done) done .open-left
 
   pub bytes-z : r ≡ Answer.Closed → LeftClosed p n m A (setOfCertificate n m cert) y x z
-  bytes-z = answers.bytes-right p n m A cert y r x₀ x z₀ z w₀ w call done .closed-left
+  bytes-z = answers.bytes-right p n m A cert y r x₀ x z₀ z w₀ w (answers-done k m _ r x₀ x z₀ z w₀ w call done) done .closed-left
 
 -- ---- the open columns
 
-pub stored-columns : (p n m : ℕ) (A : Compressed) (s : Set) (r : Outcome) (l₀ l w₀ w : List ℕ) → Lists (openFactorsOf p n m A s (length l₀) (length w₀)) r l₀ l w₀ w
+pub stored-columns : (p n m k : ℕ) (A : Compressed) (s : Set) (r : Outcome) (l₀ l w₀ w : List ℕ) → Lists (ownedList k m (openFactorsOf p n m A s (length l₀) (length w₀))) r l₀ l w₀ w
     → numberOf r ≡ 0 → MarksOpen p n m A l
-stored-columns = columns.stored-marks
+stored-columns p n m k A s r l₀ l w₀ w call done = columns.stored-marks p n m A s r l₀ l w₀ w (lists-done k m _ r l₀ l w₀ w call done) done
 
-pub bytes-columns : (p n m : ℕ) (A : Compressed) (cert : List ℕ) (r : Outcome) (l₀ l w₀ w : List ℕ) → Lists (openCertificateOf p n m A cert (length l₀) (length w₀)) r l₀ l w₀ w
+pub bytes-columns : (p n m k : ℕ) (A : Compressed) (cert : List ℕ) (r : Outcome) (l₀ l w₀ w : List ℕ) → Lists (ownedList k m (openCertificateOf p n m A cert (length l₀) (length w₀))) r l₀ l w₀ w
     → numberOf r ≡ 0 → MarksOpen p n m A l
-bytes-columns = columns.bytes-marks
+bytes-columns p n m k A cert r l₀ l w₀ w call done = columns.bytes-marks p n m A cert r l₀ l w₀ w (lists-done k m _ r l₀ l w₀ w call done) done
 
 -- ---- the totals
 
@@ -176,10 +178,10 @@ rules-right = factors-pass
 
 -- ---- the programs: what is printed stands in the first `size` bytes of the buffer b
 
-pub report-right : (text : List ℕ) (size : ℕ) (b₀ b w₀ w : List ℕ) → Reports text size b₀ b w₀ w → StatesPlan largestEntries text → FitsAll (reading text)
-    → ReportsRight (reading text) (take size b)
+pub report-right : (text : List ℕ) (size : ℕ) (b₀ b w₀ w : List ℕ) → Reports text size b₀ b w₀ w → (states : StatesText largestEntries text) → FitsAll (reading text)
+    → ReportsRight (reading text) (states .owners) (take size b)
 report-right = reports.report-right
 
-pub ask-right : (text y : List ℕ) (size : ℕ) (b₀ b w₀ w : List ℕ) → Asks text y size b₀ b w₀ w → StatesPlan largestEntries text → FitsAll (reading text)
+pub ask-right : (text y : List ℕ) (size : ℕ) (b₀ b w₀ w : List ℕ) → Asks text y size b₀ b w₀ w → StatesText largestEntries text → FitsAll (reading text)
     → length y ≡ reading text .result .m → Below (reading text .result .p) y → AskRight (reading text) y (take size b)
 ask-right = asks.ask-right

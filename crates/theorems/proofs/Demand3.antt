@@ -1,4 +1,5 @@
 -- Demand 3: the checker trusts no one. Every statement speaks of what a call returned and left; a set is judged unless something tested earlier refuses the call.
+-- The calls on a stored plan take k owners, which are to be m: nothing else of the owners matters (Owners).
 -- A set is stored factors (`stored`) or a certificate (`bytes`); `text` is the call for C that checks a certificate against a plan's text.
 --   .. -judged           a set that is judged: none of 10 to 14 is returned exactly if it has the published shape and its product is A (a certificate: the
 --                        layout with the plan's p, n and m too); by the check, by writing (`write`), by an answer (`answer`) and by a list of open columns (`list`)
@@ -48,11 +49,15 @@ use Rattle.factor_all.specs.OwnSet.{ownSet}
 use Rattle.call_factor.specs.Calls.{factorCallOf}
 use Rattle.call_factor.specs.declared.Lent.{Lent}
 use Rattle.call_answer.specs.Calls.{answerNumber, answerFactorsOf, answerCertificateOf, Answers}
-use Rattle.call_answer.specs.Meaning.{Askable, AnswersRight, AnswerOf}
+use Rattle.call_answer.specs.Meaning.{Askable, AnswersRight}
 use Rattle.call_answer.specs.declared.Answer.{Answer}
 use Rattle.call_answer.proofs.Theorems as answers
 use Rattle.call_open.specs.Calls.{openFactorsOf, openCertificateOf, Lists}
 use Rattle.call_open.proofs.Theorems as columns
+use Rattle.call_owned.specs.Owned.{ownedOutcome, ownedFactors, ownedAnswer, ownedList}
+use Rattle.call_owned.specs.Meaning.{OwnedAnswerOf}
+use Rattle.call_owned.proofs.Owned.{checks-right, checks-done, writes-right, writes-done, leaves-done, answers-right, answers-done, lists-right}
+use Rattle.call_owned.proofs.Answers.{answer-without}
 use Rattle.stages.specs.Stages.{reading}
 use Rattle.plq.specs.Calls.{checkTextOf, packed, Makes}
 use Rattle.plq.specs.Meaning.{ownCertificate}
@@ -61,30 +66,30 @@ use Rattle.plq.proofs.Texts as texts
 
 -- ---- the check of stored factors
 
-module _ (p n m : ℕ) (A : Compressed) (s : Set) (r : Outcome) (w₀ w : List ℕ) (call : Checks (checkFactorsOf p n m A s (length w₀)) r w₀ w) where
-  pub stored-judged : GoodPlan p n m A → Sized n m s → length w₀ ≡ workLength → (among (numberOf r) setFaults ≡ false) ↔ Passes p n m A s
-  stored-judged = checks.stored-judged p n m A s r w₀ w call
+module _ (p n m k : ℕ) (A : Compressed) (s : Set) (r : Outcome) (w₀ w : List ℕ) (call : Checks (ownedOutcome k m (checkFactorsOf p n m A s (length w₀))) r w₀ w) where
+  pub stored-judged : k ≡ m → GoodPlan p n m A → Sized n m s → length w₀ ≡ workLength → (among (numberOf r) setFaults ≡ false) ↔ Passes p n m A s
+  stored-judged e = checks.stored-judged p n m A s r w₀ w (checks-right k m _ r w₀ w call e)
 
   pub stored-product : numberOf r ≡ 0 → Factors p n m (s .r) (matrix A) (vector (s .R)) (vector (s .C)) (matrix (s .L)) (matrix (s .U))
-  stored-product = checks.stored-product p n m A s r w₀ w call
+  stored-product done = checks.stored-product p n m A s r w₀ w (checks-done k m _ r w₀ w call done) done
 
   pub stored-rank : numberOf r ≡ 0 → Rank p n m (matrix A) (s .r)
-  stored-rank = checks.stored-rank p n m A s r w₀ w call
+  stored-rank done = checks.stored-rank p n m A s r w₀ w (checks-done k m _ r w₀ w call done) done
 
 -- ---- the check of a certificate
 
-module _ (p n m : ℕ) (A : Compressed) (cert : List ℕ) (r : Outcome) (w₀ w : List ℕ) (call : Checks (checkCertificateOf p n m A cert (length w₀)) r w₀ w) where
+module _ (p n m k : ℕ) (A : Compressed) (cert : List ℕ) (r : Outcome) (w₀ w : List ℕ) (call : Checks (ownedOutcome k m (checkCertificateOf p n m A cert (length w₀))) r w₀ w) where
   abbrev held : Set
   held = setOfCertificate n m cert
 
-  pub bytes-judged : GoodPlan p n m A → length w₀ ≡ workLength → (among (numberOf r) setFaults ≡ false) ↔ ((headerOk p n m cert ≡ true) × Passes p n m A held)
-  bytes-judged = checks.bytes-judged p n m A cert r w₀ w call
+  pub bytes-judged : k ≡ m → GoodPlan p n m A → length w₀ ≡ workLength → (among (numberOf r) setFaults ≡ false) ↔ ((headerOk p n m cert ≡ true) × Passes p n m A held)
+  bytes-judged e = checks.bytes-judged p n m A cert r w₀ w (checks-right k m _ r w₀ w call e)
 
   pub bytes-product : numberOf r ≡ 0 → Factors p n m (held .r) (matrix A) (vector (held .R)) (vector (held .C)) (matrix (held .L)) (matrix (held .U))
-  bytes-product = checks.bytes-product p n m A cert r w₀ w call
+  bytes-product done = checks.bytes-product p n m A cert r w₀ w (checks-done k m _ r w₀ w call done) done
 
   pub bytes-rank : numberOf r ≡ 0 → Rank p n m (matrix A) (held .r)
-  bytes-rank = checks.bytes-rank p n m A cert r w₀ w call
+  bytes-rank done = checks.bytes-rank p n m A cert r w₀ w (checks-done k m _ r w₀ w call done) done
 
 -- ---- the call for C that checks; that it returns 0 exactly if the certificate passes is `check-text-exactly` of Demand1
 
@@ -103,28 +108,30 @@ module _ (text cert : List ℕ) (z : ℕ) (call : z ≡ packed (checkTextOf text
 
 -- ---- the engine's own
 
-module _ (p n m : ℕ) (A : Compressed) (l : Lent) (o : Factored) (h : Storage) (call : Leaves (factorCallOf p n m A l) o h) (done : numberOf (o .outcome) ≡ 0) where
+module _ (p n m k : ℕ) (A : Compressed) (l : Lent) (o : Factored) (h : Storage) (call : Leaves (ownedFactors k m (factorCallOf p n m A l)) o h) (done : numberOf (o .outcome) ≡ 0) where
   abbrev own : Set
   own = ownSet n m (o .rank) h
 
-  pub own-passes : (r : Outcome) (w₀ w₁ : List ℕ) → Checks (checkFactorsOf p n m A own (length w₀)) r w₀ w₁ → length w₀ ≡ workLength → numberOf r ≡ 0
-  own-passes = owns.own-checked p n m A l o h call done
+  pub own-passes : (j : ℕ) (r : Outcome) (w₀ w₁ : List ℕ) → Checks (ownedOutcome j m (checkFactorsOf p n m A own (length w₀))) r w₀ w₁ → j ≡ m → length w₀ ≡ workLength → numberOf r ≡ 0
+  own-passes j r w₀ w₁ check e = owns.own-checked p n m A l o h (leaves-done k m _ o h call done) done r w₀ w₁ (checks-right j m _ r w₀ w₁ check e)
 
-  pub own-written : (z : Written) (b₀ b w₀ w₁ : List ℕ) → WritesCertificate (writeOutcome p n m A own (length w₀) (length b₀)) (certificateOf p n m own) z b₀ b w₀ w₁
-      → length w₀ ≡ workLength → (numberOf (z .outcome) ≡ 0) ↔ (length (certificateOf p n m own) ≤ length b₀)
-  own-written = owns.own-written p n m A l o h call done
+  pub own-written : (j : ℕ) (z : Written) (b₀ b w₀ w₁ : List ℕ) → WritesCertificate (ownedOutcome j m (writeOutcome p n m A own (length w₀) (length b₀))) (certificateOf p n m own) z b₀ b w₀ w₁
+      → j ≡ m → length w₀ ≡ workLength → (numberOf (z .outcome) ≡ 0) ↔ (length (certificateOf p n m own) ≤ length b₀)
+  own-written j z b₀ b w₀ w₁ write e = owns.own-written p n m A l o h (leaves-done k m _ o h call done) done z b₀ b w₀ w₁ (writes-right j m _ _ z b₀ b w₀ w₁ write e)
 
-  pub own-certificate : (r : Outcome) (w₀ w₁ : List ℕ) → Checks (checkCertificateOf p n m A (certificateOf p n m own) (length w₀)) r w₀ w₁ → length w₀ ≡ workLength → numberOf r ≡ 0
-  own-certificate = owns.own-certificate p n m A l o h call done
+  pub own-certificate : (j : ℕ) (r : Outcome) (w₀ w₁ : List ℕ) → Checks (ownedOutcome j m (checkCertificateOf p n m A (certificateOf p n m own) (length w₀))) r w₀ w₁ → j ≡ m → length w₀ ≡ workLength → numberOf r ≡ 0
+  own-certificate j r w₀ w₁ check e = owns.own-certificate p n m A l o h (leaves-done k m _ o h call done) done r w₀ w₁ (checks-right j m _ r w₀ w₁ check e)
 
-module _ (p n m : ℕ) (A : Compressed) (s : Set) (z : Written) (b₀ b w₀ w : List ℕ)
-    (call : WritesCertificate (writeOutcome p n m A s (length w₀) (length b₀)) (certificateOf p n m s) z b₀ b w₀ w) where
-  pub write-judged : GoodPlan p n m A → Sized n m s → length w₀ ≡ workLength → (among (numberOf (z .outcome)) setFaults ≡ false) ↔ Passes p n m A s
-  write-judged = writes.written-judged p n m A s z b₀ b w₀ w call
+module _ (p n m k : ℕ) (A : Compressed) (s : Set) (z : Written) (b₀ b w₀ w : List ℕ)
+    (call : WritesCertificate (ownedOutcome k m (writeOutcome p n m A s (length w₀) (length b₀))) (certificateOf p n m s) z b₀ b w₀ w) where
+  pub write-judged : k ≡ m → GoodPlan p n m A → Sized n m s → length w₀ ≡ workLength → (among (numberOf (z .outcome)) setFaults ≡ false) ↔ Passes p n m A s
+  write-judged e = writes.written-judged p n m A s z b₀ b w₀ w (writes-right k m _ _ z b₀ b w₀ w call e)
 
   -- the bytes that were written
-  pub written-passes : numberOf (z .outcome) ≡ 0 → (r : Outcome) (w₁ w₂ : List ℕ) → Checks (checkCertificateOf p n m A (take (z .length) b) (length w₁)) r w₁ w₂ → length w₁ ≡ workLength → numberOf r ≡ 0
-  written-passes = writes.written-checked p n m A s z b₀ b w₀ w call
+  pub written-passes : numberOf (z .outcome) ≡ 0 → (j : ℕ) (r : Outcome) (w₁ w₂ : List ℕ) → Checks (ownedOutcome j m (checkCertificateOf p n m A (take (z .length) b) (length w₁))) r w₁ w₂
+      → j ≡ m → length w₁ ≡ workLength → numberOf r ≡ 0
+  written-passes done j r w₁ w₂ check e =
+      writes.written-checked p n m A s z b₀ b w₀ w (writes-done k m _ _ z b₀ b w₀ w call done) done r w₁ w₂ (checks-right j m _ r w₁ w₂ check e)
 
 pub made-passes : (text : List ℕ) (z : ℕ) (b₀ b : List ℕ) → Makes text z b₀ b → z ≡ 0
     → (y : ℕ) → y ≡ packed (checkTextOf text (take (length (ownCertificate (reading text))) b)) → y ≡ 0
@@ -132,17 +139,17 @@ made-passes = texts.made-checked
 
 -- ---- questions to stored factors
 
-module _ (p n m : ℕ) (A : Compressed) (s : Set) (y : List ℕ) (r : Answer) (x₀ x z₀ z w₀ w : List ℕ)
-    (call : Answers (answerFactorsOf p n m A s y (length x₀) (length z₀) (length w₀)) r x₀ x z₀ z w₀ w) where
-  pub answer-stored-judged : GoodPlan p n m A → Sized n m s → length w₀ ≡ workLength → Askable p n m y (length x₀) (length z₀) → (among (answerNumber r) setFaults ≡ false) ↔ Passes p n m A s
-  answer-stored-judged = answers.stored-judged p n m A s y r x₀ x z₀ z w₀ w call
+module _ (p n m k : ℕ) (A : Compressed) (s : Set) (y : List ℕ) (r : Answer) (x₀ x z₀ z w₀ w : List ℕ)
+    (call : Answers (ownedAnswer k m (answerFactorsOf p n m A s y (length x₀) (length z₀) (length w₀))) r x₀ x z₀ z w₀ w) where
+  pub answer-stored-judged : k ≡ m → GoodPlan p n m A → Sized n m s → length w₀ ≡ workLength → Askable p n m y (length x₀) (length z₀) → (among (answerNumber r) setFaults ≡ false) ↔ Passes p n m A s
+  answer-stored-judged e = answers.stored-judged p n m A s y r x₀ x z₀ z w₀ w (answers-right k m _ r x₀ x z₀ z w₀ w call e)
 
-  pub stored-answered : (q : Outcome) (w₁ w₂ : List ℕ) → Checks (checkFactorsOf p n m A s (length w₁)) q w₁ w₂ → numberOf q ≡ 0
-      → length w₀ ≡ workLength → Askable p n m y (length x₀) (length z₀) → answerNumber r ≡ 0
-  stored-answered = answers.stored-after p n m A s y r x₀ x z₀ z w₀ w call
+  pub stored-answered : (j : ℕ) (q : Outcome) (w₁ w₂ : List ℕ) → Checks (ownedOutcome j m (checkFactorsOf p n m A s (length w₁))) q w₁ w₂ → numberOf q ≡ 0
+      → k ≡ m → length w₀ ≡ workLength → Askable p n m y (length x₀) (length z₀) → answerNumber r ≡ 0
+  stored-answered j q w₁ w₂ check passed e = answers.stored-after p n m A s y r x₀ x z₀ z w₀ w (answers-right k m _ r x₀ x z₀ z w₀ w call e) q w₁ w₂ (checks-done j m _ q w₁ w₂ check passed) passed
 
   pub stored-right : answerNumber r ≡ 0 → AnswersRight p n m A s y r x z
-  stored-right = answers.stored-right p n m A s y r x₀ x z₀ z w₀ w call
+  stored-right done = answers.stored-right p n m A s y r x₀ x z₀ z w₀ w (answers-done k m _ r x₀ x z₀ z w₀ w call done) done
 
   pub stored-one-value : r ≡ Answer.Open → Determined p n m (matrix A) (vector y)
   stored-one-value e = stored-right (rw e refl) .one-value e
@@ -152,18 +159,18 @@ module _ (p n m : ℕ) (A : Compressed) (s : Set) (y : List ℕ) (r : Answer) (x
 
 -- ---- questions to a certificate
 
-module _ (p n m : ℕ) (A : Compressed) (cert y : List ℕ) (r : Answer) (x₀ x z₀ z w₀ w : List ℕ)
-    (call : Answers (answerCertificateOf p n m A cert y (length x₀) (length z₀) (length w₀)) r x₀ x z₀ z w₀ w) where
-  pub answer-bytes-judged : GoodPlan p n m A → length w₀ ≡ workLength → Askable p n m y (length x₀) (length z₀)
+module _ (p n m k : ℕ) (A : Compressed) (cert y : List ℕ) (r : Answer) (x₀ x z₀ z w₀ w : List ℕ)
+    (call : Answers (ownedAnswer k m (answerCertificateOf p n m A cert y (length x₀) (length z₀) (length w₀))) r x₀ x z₀ z w₀ w) where
+  pub answer-bytes-judged : k ≡ m → GoodPlan p n m A → length w₀ ≡ workLength → Askable p n m y (length x₀) (length z₀)
       → (among (answerNumber r) setFaults ≡ false) ↔ ((headerOk p n m cert ≡ true) × Passes p n m A (setOfCertificate n m cert))
-  answer-bytes-judged = answers.bytes-judged p n m A cert y r x₀ x z₀ z w₀ w call
+  answer-bytes-judged e = answers.bytes-judged p n m A cert y r x₀ x z₀ z w₀ w (answers-right k m _ r x₀ x z₀ z w₀ w call e)
 
-  pub bytes-answered : (q : Outcome) (w₁ w₂ : List ℕ) → Checks (checkCertificateOf p n m A cert (length w₁)) q w₁ w₂ → numberOf q ≡ 0
-      → length w₀ ≡ workLength → Askable p n m y (length x₀) (length z₀) → answerNumber r ≡ 0
-  bytes-answered = answers.bytes-after p n m A cert y r x₀ x z₀ z w₀ w call
+  pub bytes-answered : (j : ℕ) (q : Outcome) (w₁ w₂ : List ℕ) → Checks (ownedOutcome j m (checkCertificateOf p n m A cert (length w₁))) q w₁ w₂ → numberOf q ≡ 0
+      → k ≡ m → length w₀ ≡ workLength → Askable p n m y (length x₀) (length z₀) → answerNumber r ≡ 0
+  bytes-answered j q w₁ w₂ check passed e = answers.bytes-after p n m A cert y r x₀ x z₀ z w₀ w (answers-right k m _ r x₀ x z₀ z w₀ w call e) q w₁ w₂ (checks-done j m _ q w₁ w₂ check passed) passed
 
   pub bytes-right : answerNumber r ≡ 0 → AnswersRight p n m A (setOfCertificate n m cert) y r x z
-  bytes-right = answers.bytes-right p n m A cert y r x₀ x z₀ z w₀ w call
+  bytes-right done = answers.bytes-right p n m A cert y r x₀ x z₀ z w₀ w (answers-done k m _ r x₀ x z₀ z w₀ w call done) done
 
   pub bytes-one-value : r ≡ Answer.Open → Determined p n m (matrix A) (vector y)
   bytes-one-value e = bytes-right (rw e refl) .one-value e
@@ -172,16 +179,16 @@ module _ (p n m : ℕ) (A : Compressed) (cert y : List ℕ) (r : Answer) (x₀ x
   bytes-every-value e = bytes-right (rw e refl) .every-value e
 
 -- r and r′ are what two calls answered to y, each from stored factors or from a certificate, whoever made them
-pub agree : (p n m : ℕ) (A : Compressed) (y : List ℕ) (r r′ : Answer) → AnswerOf p n m A y r → AnswerOf p n m A y r′
+pub agree : (p n m : ℕ) (A : Compressed) (y : List ℕ) (r r′ : Answer) → OwnedAnswerOf p n m A y r → OwnedAnswerOf p n m A y r′
     → ((r ≡ Answer.Open) ↔ (r′ ≡ Answer.Open)) × ((r ≡ Answer.Closed) ↔ (r′ ≡ Answer.Closed))
-agree = answers.answers-agree
+agree p n m A y r r′ a a′ = answers.answers-agree p n m A y r r′ (answer-without p n m A y r a) (answer-without p n m A y r′ a′)
 
 -- ---- the open columns
 
-pub list-stored-judged : (p n m : ℕ) (A : Compressed) (s : Set) (r : Outcome) (l₀ l w₀ w : List ℕ) → Lists (openFactorsOf p n m A s (length l₀) (length w₀)) r l₀ l w₀ w
-    → GoodPlan p n m A → Sized n m s → length w₀ ≡ workLength → length l₀ ≡ m → (among (numberOf r) setFaults ≡ false) ↔ Passes p n m A s
-list-stored-judged = columns.stored-judged
+pub list-stored-judged : (p n m k : ℕ) (A : Compressed) (s : Set) (r : Outcome) (l₀ l w₀ w : List ℕ) → Lists (ownedList k m (openFactorsOf p n m A s (length l₀) (length w₀))) r l₀ l w₀ w
+    → k ≡ m → GoodPlan p n m A → Sized n m s → length w₀ ≡ workLength → length l₀ ≡ m → (among (numberOf r) setFaults ≡ false) ↔ Passes p n m A s
+list-stored-judged p n m k A s r l₀ l w₀ w call e = columns.stored-judged p n m A s r l₀ l w₀ w (lists-right k m _ r l₀ l w₀ w call e)
 
-pub list-bytes-judged : (p n m : ℕ) (A : Compressed) (cert : List ℕ) (r : Outcome) (l₀ l w₀ w : List ℕ) → Lists (openCertificateOf p n m A cert (length l₀) (length w₀)) r l₀ l w₀ w
-    → GoodPlan p n m A → length w₀ ≡ workLength → length l₀ ≡ m → (among (numberOf r) setFaults ≡ false) ↔ ((headerOk p n m cert ≡ true) × Passes p n m A (setOfCertificate n m cert))
-list-bytes-judged = columns.bytes-judged
+pub list-bytes-judged : (p n m k : ℕ) (A : Compressed) (cert : List ℕ) (r : Outcome) (l₀ l w₀ w : List ℕ) → Lists (ownedList k m (openCertificateOf p n m A cert (length l₀) (length w₀))) r l₀ l w₀ w
+    → k ≡ m → GoodPlan p n m A → length w₀ ≡ workLength → length l₀ ≡ m → (among (numberOf r) setFaults ≡ false) ↔ ((headerOk p n m cert ≡ true) × Passes p n m A (setOfCertificate n m cert))
+list-bytes-judged p n m k A cert r l₀ l w₀ w call e = columns.bytes-judged p n m A cert r l₀ l w₀ w (lists-right k m _ r l₀ l w₀ w call e)

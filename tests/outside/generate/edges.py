@@ -4,6 +4,8 @@
     left_edges               plans that leave as much as the block holds, and more
     left_lower_edge          a plan whose L has an exact number of entries, also past the chain
     text_of_length           a text with an exact number of bytes
+    owned_text_of_length     the same with a line of owners, as long as any
+    owner_counts             as many owners as any plan has words, and one fewer or more
     most_lines               a text of as many lines as any can have
     edge_texts               all of them around each limit
 """
@@ -12,10 +14,17 @@ from itertools import product
 from random import Random
 
 from model.factors import factor
-from model.limits import GREATEST_ENTRIES, GREATEST_MODULUS, GREATEST_SIZE, GREATEST_TEXT
-from model.storage import Plan, store
+from model.limits import (
+    GREATEST_ENTRIES,
+    GREATEST_MODULUS,
+    GREATEST_OWNER,
+    GREATEST_SIZE,
+    GREATEST_TEXT,
+)
+from model.storage import plan_of, store
 
 from .left import BLOCK, Left, leaving, rows_leaving
+from .owners import owners_line
 from .plans import dense, empty, low_rank
 from .texts import plain_text, stated
 
@@ -40,7 +49,7 @@ def _padded(p, rows, missing):
     width = 1 + max(max(cells) for cells in rows)
     rows = rows + [{width + i: 1} for i in range(missing)]
     stored = store({j: v % p for j, v in cells.items()} for cells in rows)
-    return Plan(p, len(rows), width + missing, stored)
+    return plan_of(p, len(rows), width + missing, stored)
 
 
 def lower_edge(p, entries, chain=CHAIN):
@@ -146,6 +155,20 @@ def text_of_length(length, falls=False):
     return stated(7, GREATEST_SIZE, GREATEST_SIZE, triples[::-1] if falls else triples)
 
 
+def owned_text_of_length(length):
+    """Of the bytes the line of owners has 8,199: the plan alone is shorter than
+    the limit."""
+    line = owners_line([GREATEST_OWNER] * GREATEST_SIZE) + b"\n"
+    return text_of_length(length - len(line)) + line
+
+
+def owner_counts():
+    """Texts of 2,048 words, and of none, with about as many owners."""
+    for m in (0, GREATEST_SIZE):
+        for count in sorted({max(0, m - 1), m, m + 1}):
+            yield stated(2, 1, m, [(1, m, 1)] if m else [], [GREATEST_OWNER] * count)
+
+
 def most_lines():
     """A text of the shortest lines there are, so that all but one repeat a
     place."""
@@ -163,6 +186,8 @@ def edge_texts():
     for length in (GREATEST_TEXT - 1, GREATEST_TEXT, GREATEST_TEXT + 1):
         yield text_of_length(length)
         yield text_of_length(length, falls=True)
+        yield owned_text_of_length(length)
+    yield from owner_counts()
     yield most_lines()
     for n in (GREATEST_SIZE, GREATEST_SIZE + 1):
         for m in (0, 1, GREATEST_SIZE, GREATEST_SIZE + 1):

@@ -19,6 +19,7 @@ from typing import NamedTuple
 from model.storage import Plan, store
 from model.structure import structural
 
+from .owners import random_owners
 from .plans import (
     MODULI,
     SHORT_VALUES,
@@ -92,10 +93,11 @@ def _runner(cells, columns):
 
 
 def leaving(rng, p, content, width, chain=SHORTEST_CHAIN, pads=0):
-    """A plan of such rows, in random order."""
+    """A plan of such rows, in random order, with random owners."""
     rows = rows_leaving(rng, p, content, width, chain, pads)
     rng.shuffle(rows)
-    return Plan(p, len(rows), chain + width + pads, store(rows))
+    m = chain + width + pads
+    return Plan(p, len(rows), m, store(rows), random_owners(rng, m))
 
 
 CONTENTS = (dense, dense, dense, low_rank, cancelling, sparse, hidden_staircase, empty)

@@ -11,11 +11,13 @@ dictionaries from column to value.
 
 from model.storage import Plan, store
 
+from .owners import random_owners
+
 MODULI = (2, 3, 5, 7, 13, 251, 65_521, 65_537, 2_147_483_647, 4_294_967_291)
 SHORT_VALUES = 65_521  # up to this modulus values have five digits, above it ten
 SHORT_LINE = len("2048 2048 65520\n")
 LONG_LINE = len("2048 2048 -2147483648\n")
-ROOM = 64_000  # bytes for the lines of entries, so that the text stays within its limit
+ROOM = 57_000  # bytes for the lines of entries, so that a text with owners stays within its limit
 
 
 def _value(rng, p):
@@ -208,8 +210,9 @@ def tiny_plan(rng):
 
 
 def build(rng, kind, p, n, m):
-    """The plan of a kind, its rows in random order half of the time."""
+    """The plan of a kind, its rows in random order half of the time, with random
+    owners."""
     rows = kind(rng, p, n, m)
     if rng.random() < 0.5:
         rng.shuffle(rows)
-    return Plan(p, n, m, store(rows))
+    return Plan(p, n, m, store(rows), random_owners(rng, m))

@@ -1,8 +1,10 @@
 """Plan texts, plain, varied and damaged.
 
+    stated       the text of triples, with a line of owners or without
     plain_text   the text with each residue as its own value, or as that less p
     ORDERS       orders in which triples may stand, by name
-    varied_text  the same plan, by other values, with lines that store nothing and in any order
+    varied_text  the same plan, by other values, with lines that store nothing and in any order, and
+                 now and then with a line of owners that it need not have
     damaged_text a text with something changed
     random_question   m numbers, now and then one that is no residue
     question_text     such numbers as text, now and then with something changed
@@ -10,8 +12,11 @@
 
 import re
 
-from model.limits import GREATEST_TEXT, GREATEST_VALUE, LEAST_VALUE
+from model.limits import GREATEST_TEXT, GREATEST_VALUE, LEAST_VALUE, UNSTATED_OWNER
+from model.plan_text import OWNERS_WORD
 from model.storage import row
+
+from .owners import damaged_line, owners_line, random_owners
 
 ODD_FIELDS = (
     b"", b"0", b"00", b"01", b"+1", b"-1", b"-0", b"-", b"--1", b"-01", b"1-", b"a", b"m", b"M",
@@ -27,10 +32,11 @@ ODD_MODULI = (
 )
 
 
-def stated(p, n, m, triples):
-    """The text of triples (i, j, v), counted from 1."""
+def stated(p, n, m, triples, owners=None):
+    """The text of triples (i, j, v), counted from 1, and of owners if given."""
     lines = [f"{p}", f"{n} {m} M", *(f"{i} {j} {v}" for i, j, v in triples), "0 0 0"]
-    return "".join(line + "\n" for line in lines).encode()
+    text = "".join(line + "\n" for line in lines).encode()
+    return text if owners is None else text + owners_line(owners) + b"\n"
 
 
 def triples_of(plan):
@@ -43,9 +49,12 @@ def triples_of(plan):
     ]
 
 
-def plain_text(plan, triples=None):
-    """By its entries in their order, or by the triples given."""
-    return stated(plan.p, plan.n, plan.m, triples_of(plan) if triples is None else triples)
+def plain_text(plan, triples=None, states_owners=False):
+    """By its entries in their order, or by the triples given. The owners have
+    their line where one is not 1, and else where it is wanted."""
+    triples = triples_of(plan) if triples is None else triples
+    has_line = states_owners or set(plan.owners) - {UNSTATED_OWNER}
+    return stated(plan.p, plan.n, plan.m, triples, plan.owners if has_line else None)
 
 
 def rising(rng, triples):
@@ -87,7 +96,8 @@ def varied_text(rng, plan):
             place = (rng.randint(1, plan.n), rng.randint(1, plan.m))
             cells.setdefault(place, _other_value(rng, plan.p, 0))
     order = rng.choice((rising, rising, rising, *ORDERS.values()))
-    text = plain_text(plan, order(rng, [(i, j, v) for (i, j), v in cells.items()]))
+    triples = order(rng, [(i, j, v) for (i, j), v in cells.items()])
+    text = plain_text(plan, triples, states_owners=rng.random() < 0.2)
     return text if len(text) <= GREATEST_TEXT else plain_text(plan, order(rng, triples_of(plan)))
 
 
@@ -127,7 +137,8 @@ def _drop_last_feed(rng, text):
 
 
 def _append(rng, text):
-    return text + rng.choice((b"\n", b" ", b"0", b"0 0 0\n", b"1 1 1\n", b"\0", b"\r\n"))
+    odd = (b"\n", b" ", b"0", b"0 0 0\n", b"1 1 1\n", b"\0", b"\r\n", b"owners", b"owners\n")
+    return text + rng.choice(odd)
 
 
 def _with_lines(change):
@@ -220,10 +231,21 @@ def _odd_value(rng, lines):
     return [*lines[:place], b" ".join(fields), *lines[place + 1 :]]
 
 
+@_with_lines
+def _damage_owners(rng, lines):
+    """The line of owners changed, now and then with another after it; where there
+    is none, one for few words, which are seldom as many as the plan's."""
+    if lines[-1].split(b" ")[0] != OWNERS_WORD:
+        return [*lines, owners_line(random_owners(rng, rng.randint(0, 9)))]
+    more = [lines[-1]] if rng.random() < 0.2 else []
+    return [*lines[:-1], damaged_line(rng, lines[-1]), *more]
+
+
 DAMAGES = (
     _change_byte, _change_digit, _insert_byte, _delete_byte, _truncate, _drop_last_feed, _append,
     _swap_lines, _repeat_line, _repeat_place, _repeat_place, _drop_line, _insert_line, _odd_field,
     _odd_field, _nearby_field, _nearby_field, _odd_modulus, _odd_sizes, _odd_value, _odd_value,
+    _damage_owners, _damage_owners, _damage_owners, _damage_owners,
 )
 
 

@@ -1,7 +1,9 @@
-"""The question program's output (document 01, "Questions"; the form of the lines is the program's own).
+"""The question program's output (document 01, "Questions"; the form of the lines is the program's own; the
+line of owners, slip 4 of the change requests).
 
     ask          the output for a text and a question
     ask_by_text  the output for a text that the question follows
+    plan_end     where the plan's text ends in such a text
 """
 
 import re
@@ -12,6 +14,7 @@ from .report import printed, refused, stages
 
 NO_RESIDUE = 2**32 - 1  # stands for a value that is no number of 32 bits
 GREATEST_INPUT = 98_304  # bytes that are looked at
+PLAN_END = re.compile(rb"(?m)^0 0 0\n(owners( [^\n]*)?(\n|\Z))?")
 
 
 def ask(text, y):
@@ -30,11 +33,17 @@ def ask(text, y):
 
 
 def ask_by_text(text):
-    """The plan ends with its first line `0 0 0`; what follows is the question."""
+    """What follows the plan's text is the question."""
     text = text[:GREATEST_INPUT]
-    ending = re.search(rb"(?m)^0 0 0\n", text)
-    end = ending.end() if ending else len(text)
+    end = plan_end(text)
     return ask(text[:end], _values(text[end:]))
+
+
+def plan_end(text):
+    """After the first line `0 0 0`, or after the line that follows it where the
+    first field of that one is the word `owners`."""
+    ending = PLAN_END.search(text)
+    return ending.end() if ending else len(text)
 
 
 def _values(text):

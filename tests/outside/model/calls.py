@@ -1,4 +1,5 @@
-"""The two calls for C programs (document 01, "What the library returns", last sentences).
+"""The two calls for C programs (document 01, "What the library returns", last sentences). Owners are read with
+the plan, and alter nothing else (slip 4 of the change requests).
 
     make_certificate    reading, then factoring and writing
     check_certificate   reading, then checking

@@ -1,4 +1,5 @@
-"""The limits of a plan (document 01, "The product", the paragraph "Limits"; the moduli by slip 10).
+"""The limits of a plan (document 01, "The product", the paragraph "Limits"; the moduli by slip 10, the
+owners by slip 4).
 
     is_modulus   a prime from 2 to 4,294,967,291
 """
@@ -11,6 +12,8 @@ GREATEST_ENTRIES = 16_384
 GREATEST_TEXT = 65_536
 LEAST_VALUE = -2_147_483_648
 GREATEST_VALUE = 2_147_483_647
+GREATEST_OWNER = 255
+UNSTATED_OWNER = 1
 
 
 @lru_cache(maxsize=4_096)

@@ -1,5 +1,5 @@
 """Reading a plan text (document 01, "Plan text"; order of refusals, "What the library returns"; triples
-in any order, slip 2 of the change requests).
+in any order and the line of owners, slips 2 and 4 of the change requests).
 
     read_plan    the stored plan that a text states, or the first refusal
 """
@@ -8,10 +8,12 @@ import re
 from functools import lru_cache
 
 from .limits import (
+    GREATEST_OWNER,
     GREATEST_SIZE,
     GREATEST_TEXT,
     GREATEST_VALUE,
     LEAST_VALUE,
+    UNSTATED_OWNER,
     is_modulus,
 )
 from .refusals import (
@@ -19,6 +21,7 @@ from .refusals import (
     MALFORMED,
     NOT_PRIME,
     OUTSIDE,
+    OWNER_RANGE,
     REPEATED,
     ROOM,
     VALUE_RANGE,
@@ -32,6 +35,8 @@ MODULUS_LINE = re.compile(NUMBER)
 SIZE_LINE = re.compile(NUMBER + rb" " + NUMBER + rb" M")
 TRIPLE_LINE = re.compile(NUMBER + rb" " + NUMBER + rb" " + SIGNED)
 LAST_LINE = b"0 0 0"
+OWNERS_WORD = b"owners"
+OWNER = re.compile(NUMBER)
 
 
 @lru_cache(maxsize=128)  # many cases have the same text, and follow one another
@@ -53,9 +58,8 @@ def read_plan(text, room):
         return cells
 
     last = 2 + lines[2:].index(LAST_LINE) + 1
-    if len(lines) > last or unterminated:
-        return Refusal(MALFORMED, last + 1)
-    return Plan(p, n, m, store(cells))
+    owners = _owners(lines, unterminated, last, m)
+    return owners if isinstance(owners, Refusal) else Plan(p, n, m, store(cells), owners)
 
 
 def _fields(lines, number, form):
@@ -108,3 +112,27 @@ def _triples(lines, p, n, m, room):
         taken.add((i, j))
         number += 1
     return cells
+
+
+def _owners(lines, unterminated, last, m):
+    """What follows the last line: nothing, and every word belongs to customer 1,
+    or one line, on which 3 and then 16 are judged. Whatever follows that is 3."""
+    if len(lines) == last and not unterminated:
+        return (UNSTATED_OWNER,) * m
+    owners = _owner_numbers(lines, last + 1, m)
+    if isinstance(owners, Refusal):
+        return owners
+    if max(owners, default=0) > GREATEST_OWNER:
+        return Refusal(OWNER_RANGE, last + 1)
+    if len(lines) > last + 1 or unterminated:
+        return Refusal(MALFORMED, last + 2)
+    return owners
+
+
+def _owner_numbers(lines, number, m):
+    """The word `owners` and m numbers, one space before each, or 3 for the whole
+    line."""
+    word, *fields = lines[number - 1].split(b" ") if number <= len(lines) else [b""]
+    if word != OWNERS_WORD or len(fields) != m or not all(map(OWNER.fullmatch, fields)):
+        return Refusal(MALFORMED, number)
+    return tuple(map(int, fields))

@@ -1,4 +1,5 @@
-"""The numbers that calls return (document 01, table in "What the library returns").
+"""The numbers that calls return (document 01, table in "What the library returns"; 16 by slip 4 of the
+change requests).
 
     Refusal      a number of the table with its detail
     encoded      the one number that a C call returns for a number and detail
@@ -22,10 +23,11 @@ RANK_BOUND = 12
 FACTOR_FORM = 13
 PRODUCT = 14
 QUESTION_VALUE = 15
+OWNER_RANGE = 16
 
 
 class Refusal(NamedTuple):
-    """A number from 1 to 15; the detail is 0 where the table names none."""
+    """A number from 1 to 16; the detail is 0 where the table names none."""
 
     number: int
     detail: int = 0

@@ -1,6 +1,7 @@
 """The report program's output (document 01, "Report and cases").
 
     report       the output for a text
+    open_line    the line of an open word (document 02, slip 4)
     totals       its last line (document 02, slip 1)
     stages       reading, then factoring, with the rooms that the program lends
     printed      lines as a program prints them
@@ -25,9 +26,14 @@ def report(text):
     return printed(
         f"modulus {plan.p} slots {plan.n} words {plan.m} entries {len(plan.rows.columns)}",
         f"rank {factors.r} structural {structural} L {lower} U {upper}",
-        *(f"open {column + 1}" for column in opened),
+        *(open_line(plan, column) for column in opened),
         totals(plan, factors, opened),
     )
+
+
+def open_line(plan, column):
+    """The word, and whose it is; a pad is nobody's, and its owner is 0."""
+    return f"open {column + 1} owner {plan.owners[column]}"
 
 
 def totals(plan, factors, opened):

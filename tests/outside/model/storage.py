@@ -1,16 +1,18 @@
-"""Stored rows, of a plan and of factors alike (document 01, "The product", "Stored form").
+"""Stored rows, of a plan and of factors alike (document 01, "The product", "Stored form"; the owners of
+words, slip 4 of the change requests).
 
     Rows         row starts, columns and values
     has_form     the stored form holds for a width and a modulus
     row          one row as a dictionary from column to value
     store        dictionaries as stored rows
-    Plan         a modulus, the sizes and the stored rows
+    Plan         a modulus, the sizes, the stored rows and the owner of each word
+    plan_of      the plan whose owners nobody stated
     plan_refusal what a call that takes a stored plan answers before its own tests
 """
 
 from typing import NamedTuple
 
-from .limits import GREATEST_ENTRIES, GREATEST_SIZE, is_modulus
+from .limits import GREATEST_ENTRIES, GREATEST_SIZE, UNSTATED_OWNER, is_modulus
 from .refusals import LENGTH, LIMIT, NOT_PRIME, PLAN_FORM, Refusal
 
 
@@ -23,12 +25,19 @@ class Rows(NamedTuple):
 
 
 class Plan(NamedTuple):
-    """An n by m matrix modulo p, stored by rows."""
+    """An n by m matrix modulo p, stored by rows, and a byte for each word: 0
+    for a pad, 1 to 255 for a customer."""
 
     p: int
     n: int
     m: int
     rows: Rows
+    owners: tuple
+
+
+def plan_of(p, n, m, rows):
+    """Every word belongs to customer 1."""
+    return Plan(p, n, m, rows, (UNSTATED_OWNER,) * m)
 
 
 def has_form(rows, p, width):
@@ -73,6 +82,8 @@ def plan_refusal(plan):
     """9, 1, 2 and 8, in this order, or None."""
     starts, columns, values = plan.rows
     if len(starts) != plan.n + 1 or len(columns) != len(values):
+        return Refusal(LENGTH)
+    if len(plan.owners) != plan.m:
         return Refusal(LENGTH)
     if not is_modulus(plan.p):
         return Refusal(NOT_PRIME)

@@ -1,62 +1,21 @@
--- `plan_end` meets its contract; the loop's invariant is `Walking`, the measure what is left. Assumes nothing.
-use mathlib.Core.Path.{sym, _∙_}
-use Prim.Native.Nat.{_-_}
+-- `plan_end` meets its contract. Assumes nothing.
 use native.Mathlib.Omega.{arith}
-use lib.ListN.{length}
-use Rattle.ask.proofs.Ends.{Walking, walking-starts, walking-ends, line-inside, no-feed, found, walking-turn}
+use Rattle.ask.proofs.Ends.{ends}
 use borrow.Author.Needs.{needs}
 use Rattle.ask.proofs.text.plan_end.Statement.{statement}
 use Rattle.ask.proofs.text.plan_end.Tie as tie
 
-abbrev Inv-loop : tie.InvT-loop
-Inv-loop text at₀ at = Walking text at
+end-in-requires : tie.Need-end-in-requires
+end-in-requires c κs = search needs
 
-abbrev μ-loop : tie.MeasureT-loop
-μ-loop text at₀ at = length text - at
+owners-end-requires : tie.Need-owners-end-requires
+owners-end-requires c κs = search needs
 
-loop-holds : tie.Need-loop-holds Inv-loop μ-loop
-loop-holds c = walking-starts _
+add-result : tie.Need-add-result
+add-result c = let s = c .before .before .before in omega (arith, ends _ _ _ (c .before .end-in .ensures .end-is) (c .before .end-in .ensures .inside) (c .owners-end .ensures) .inside, s .pre)
 
-piece-requires : tie.Need-piece-requires Inv-loop μ-loop
-piece-requires c κs = c .before .loop .inv .inside
-
-add-end : tie.Need-add-end Inv-loop μ-loop
-add-end c = omega (arith, line-inside _ _ (c .before .before .loop .inv) _ (c .piece .ensures))
-
-returns : tie.Need-returns Inv-loop μ-loop
-returns c = no-feed _ _ (c .before .before .before .loop .inv) _ (c .before .piece .ensures) (c .if1 .taken)
-
-add-at : tie.Need-add-at Inv-loop μ-loop
-add-at c = omega (arith, line-inside _ _ (c .before .before .before .loop .inv) _ (c .before .piece .ensures))
-
-is-last-requires : tie.Need-is-last-requires Inv-loop μ-loop
-is-last-requires c κs = search needs
-
-returns-2 : tie.Need-returns-2 Inv-loop μ-loop
-returns-2 c = found _ _ (c .before .before .before .before .before .loop .inv) _ (c .before .before .before .piece .ensures) (c .before .before .if1 .left) (sym (c .if2 .taken) ∙ c .before .is-last .ensures)
-
-loop-less : tie.Need-loop-less Inv-loop μ-loop
-loop-less c = omega (arith, line-inside _ _ (c .before .before .before .before .before .loop .inv) _ (c .before .before .before .piece .ensures))
-
-loop-again : tie.Need-loop-again Inv-loop μ-loop
-loop-again c = walking-turn _ _ (c .before .before .before .before .before .loop .inv) _ (c .before .before .before .piece .ensures) (c .before .before .if1 .left) (sym (c .if2 .left) ∙ c .before .is-last .ensures)
-
-returns-3 : tie.Need-returns-3 Inv-loop μ-loop
-returns-3 c = walking-ends _ _ (c .before .loop .inv) (omega arith)
+returns : tie.Need-returns
+returns c = ends _ _ _ (c .before .end-in .ensures .end-is) (c .before .end-in .ensures .inside) (c .owners-end .ensures)
 
 pub plan-end-spec : {M : Type 1} → statement M
-plan-end-spec =
-    tie.close
-    (tie.spec
-    Inv-loop
-    μ-loop
-    loop-holds
-    piece-requires
-    add-end
-    returns
-    add-at
-    is-last-requires
-    returns-2
-    loop-less
-    loop-again
-    returns-3)
+plan-end-spec = tie.close (tie.spec end-in-requires owners-end-requires add-result returns)

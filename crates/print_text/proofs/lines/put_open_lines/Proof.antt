@@ -9,27 +9,34 @@ use Rattle.print_text.proofs.lines.put_open_lines.Statement.{statement}
 use Rattle.print_text.proofs.lines.put_open_lines.Tie as tie
 
 abbrev Inv-loop : tie.InvT-loop
-Inv-loop cells out₀ at next₀ j₀ out next j = Turns (length cells) (linesFrom cells) out₀ at out next j
+Inv-loop owners cells out₀ at next₀ j₀ out next j = Turns (length cells) (linesFrom owners cells) out₀ at out next j
 
 abbrev μ-loop : tie.MeasureT-loop
-μ-loop cells out₀ at next₀ j₀ out next j = length cells - j
+μ-loop owners cells out₀ at next₀ j₀ out next j = length cells - j
+
+abbrev start : tie.At-loop Inv-loop μ-loop → tie.Start Inv-loop μ-loop
+start l = l .before .before .before .before
 
 loop-holds : tie.Need-loop-holds Inv-loop μ-loop
-loop-holds c = turns-start _ _ _ _ (c .before .before .pre .room)
+loop-holds c = turns-start _ _ _ _ (c .before .before .before .pre .room)
 
 cast-put-word-line : tie.Need-cast-put-word-line Inv-loop μ-loop
-cast-put-word-line c = omega (arith, c .before .before .before .before .pre .columns)
+cast-put-word-line c = omega (arith, start (c .before) .pre .columns)
+
+-- each column has an owner
+shared-slice-read-put-word-line : tie.Need-shared-slice-read-put-word-line Inv-loop μ-loop
+shared-slice-read-put-word-line c = omega (arith, start (c .before .before) .pre .owned, c .before .loop-test .taken)
 
 mul-put-word-line : tie.Need-mul-put-word-line Inv-loop μ-loop
 mul-put-word-line c = omega arith
 
-shared-slice-read-put-word-line : tie.Need-shared-slice-read-put-word-line Inv-loop μ-loop
-shared-slice-read-put-word-line c = omega arith
+shared-slice-read-put-word-line-2 : tie.Need-shared-slice-read-put-word-line-2 Inv-loop μ-loop
+shared-slice-read-put-word-line-2 c = omega arith
 
 put-word-line-requires : tie.Need-put-word-line-requires Inv-loop μ-loop
-put-word-line-requires c κs = let i = c .before .before in let s = c .before .before .before .before .before .before in record {
+put-word-line-requires c κs = let i = c .before .before .before in let j = i .before .loop .j in let s = start (i .before) in record {
   column = omega (arith, s .pre .columns, i .loop-test .taken);
-  room = turn-room (i .before .loop .inv) (wordLine (i .before .loop .j) (getD (s .args .cells .now) (i .before .loop .j) 0)) (lines-step _ _ (i .loop-test .taken));
+  room = turn-room (i .before .loop .inv) (wordLine j (getD (s .args .owners .now) j 0) (getD (s .args .cells .now) j 0)) (lines-step _ _ _ (i .loop-test .taken));
 }
 
 add-j : tie.Need-add-j Inv-loop μ-loop
@@ -39,13 +46,13 @@ loop-less : tie.Need-loop-less Inv-loop μ-loop
 loop-less c = omega arith
 
 loop-again : tie.Need-loop-again Inv-loop μ-loop
-loop-again c = let i = c .before .before .before .before .before in turns-after (i .before .loop .inv) (i .loop-test .taken) (lines-step _ _ (i .loop-test .taken)) (c .before .before .put-word-line .ensures)
+loop-again c = let i = c .before .before .before .before .before .before in turns-after (i .before .loop .inv) (i .loop-test .taken) (lines-step _ _ _ (i .loop-test .taken)) (c .before .before .put-word-line .ensures)
 
 same-length : tie.Need-same-length Inv-loop μ-loop
 same-length c = c .before .loop .inv .remains .long
 
 returns : tie.Need-returns Inv-loop μ-loop
-returns c = turns-end (c .before .loop .inv) (lines-end _ _ (c .loop-test .left))
+returns c = turns-end (c .before .loop .inv) (lines-end _ _ _ (c .loop-test .left))
 
 pub put-open-lines-spec : {M : Type 1} → statement M
 put-open-lines-spec =
@@ -55,8 +62,9 @@ put-open-lines-spec =
     μ-loop
     loop-holds
     cast-put-word-line
-    mul-put-word-line
     shared-slice-read-put-word-line
+    mul-put-word-line
+    shared-slice-read-put-word-line-2
     put-word-line-requires
     add-j
     loop-less

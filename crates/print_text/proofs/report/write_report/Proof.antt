@@ -9,13 +9,13 @@ clear-bytes-requires : tie.Need-clear-bytes-requires
 clear-bytes-requires c κs = search needs
 
 put-report-requires : tie.Need-put-report-requires
-put-report-requires c κs = let s = c .before .before .before .before .before .before .before in record { columns = s .pre .columns; room = omega (arith, s .pre .room, c .before .before .before .clear-bytes .kept .0) }
+put-report-requires c κs = let s = c .before .before .before .before .before .before .before .before in record { columns = s .pre .columns; owned = s .pre .owned; room = omega (arith, s .pre .room, c .before .before .before .clear-bytes .kept .0) }
 
 same-length : tie.Need-same-length
 same-length c = search needs
 
 returns : tie.Need-returns
-returns c = stored-fills (c .before .before .before .before .before .before .before .before .before .before .pre .room) (c .before .before .before .before .before .before .clear-bytes .ensures) (c .before .before .put-report .ensures)
+returns c = stored-fills (c .before .before .before .before .before .before .before .before .before .before .before .pre .room) (c .before .before .before .before .before .before .clear-bytes .ensures) (c .before .before .put-report .ensures)
 
 pub write-report-spec : {M : Type 1} → statement M
 write-report-spec =

@@ -1,0 +1,3 @@
+pub mod Owned
+pub mod Ways
+pub mod Answers

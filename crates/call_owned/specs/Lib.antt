@@ -1,0 +1,2 @@
+pub mod Owned
+pub mod Meaning

@@ -1,0 +1,5 @@
+pub mod Ending
+pub mod Owners
+pub mod Call
+pub mod Stating
+pub mod Needs
