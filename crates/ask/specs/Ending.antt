@@ -1,6 +1,6 @@
 -- Where a plan's text ends that a question may follow: with its first line `0 0 0`, and with the line after it where that one begins with the word
 -- `owners`.
---   ownersEnd foot       how many bytes of what follows the line `0 0 0` belong to the plan: the line of owners with its line feed, or none
+--   ownersEnd foot       how many bytes of what follows the line `0 0 0` belong to the plan: the line of owners, with its line feed where it has one, or none
 --   textEnd text         that place of a text
 --   PlanTextEnds ..      the contract: r is that place, and within the text
 use Prim.Native.Nat.{ℕ, _+_, _≤_}

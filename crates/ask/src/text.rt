@@ -1,8 +1,7 @@
 // A plan's text that a question may follow.
 ghost use Prim.Native.Nat.{_+_, _≤_, _<_, _^_};
-ghost use lib.ListN.{length};
+ghost use lib.ListN.{length, drop};
 ghost use mathlib.Core.Path.{_≡_};
-ghost use lib.ListN.{drop};
 ghost use Rattle.ask.specs.Ending.{ownersEnd, PlanTextEnds};
 use text_fields::pieces::piece;
 use text_owners::ending::end_in;

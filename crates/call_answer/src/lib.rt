@@ -1,4 +1,4 @@
-// The public calls that answer a question from a set of factors, which is checked first.
+// The calls that answer a question from a set of factors, which is checked first, without owners; `call_owned` has the public ones.
 ghost use mathlib.Core.Path.{_≡_};
 ghost use Rattle.call_answer.specs.Calls.{answerOf};
 use row_space::Verdict;

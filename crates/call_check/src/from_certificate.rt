@@ -1,4 +1,4 @@
-// The public call that checks a certificate against a stored plan. Any content of the working row is accepted.
+// The call that checks a certificate against a stored plan. Any content of the working row is accepted.
 ghost use mathlib.Core.Path.{_≡_};
 ghost use Rattle.call_check.specs.Calls.{certificateOutcome, checkCertificateOf, ChecksIn};
 ghost use Rattle.sparse.specs.Views.{before, storedBefore};

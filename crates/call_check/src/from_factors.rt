@@ -1,4 +1,4 @@
-// The public call that checks stored factors against a stored plan. Any content of the working row is accepted.
+// The call that checks stored factors against a stored plan. Any content of the working row is accepted.
 ghost use mathlib.Core.Path.{_≡_};
 ghost use Rattle.call_check.specs.Calls.{factorsOutcome, checkFactorsOf, ChecksIn};
 ghost use Rattle.sparse.specs.Views.{storedBefore, setBefore};

@@ -1,4 +1,4 @@
-// The public call that factors a stored plan.
+// The call that factors a stored plan, without owners; `call_owned` has the public one.
 ghost use mathlib.Core.Path.{_≡_};
 ghost use Rattle.factor_all.specs.Factorization.{Leaves};
 ghost use Rattle.call_factor.specs.Lengths.{lentLengths, lentOutcome, lentOf};

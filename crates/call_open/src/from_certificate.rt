@@ -1,4 +1,4 @@
-// The public call that lists the open columns from a certificate. Any content of the list and of the working row is accepted.
+// The call that lists the open columns from a certificate. Any content of the list and of the working row is accepted.
 ghost use lib.ListN.{length};
 ghost use Rattle.row_space.specs.Solve.{openColumns};
 ghost use Rattle.answer_open.specs.Opening.{ColumnsListed};

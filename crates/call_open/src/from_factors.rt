@@ -1,4 +1,4 @@
-// The public call that lists the open columns from stored factors. Any content of the list and of the working row is accepted.
+// The call that lists the open columns from stored factors. Any content of the list and of the working row is accepted.
 ghost use Rattle.call_open.specs.Calls.{openFactorsOf, ListsIn};
 ghost use Rattle.sparse.specs.Views.{storedBefore, setBefore};
 use answer_open::pivots::open_columns;

@@ -4,8 +4,8 @@
 --   Owned k m P number          P holds of what the test of the owners comes to, and where it refuses, the number of the call is 9
 -- For each contract, of a check (`checks`), a certificate's writing (`writes`), factoring (`leaves`), a question (`answers`) and a list of open columns (`lists`):
 --   .. -right                   m owners: the contract without owners
---   .. -other                   the number is not 9: the contract without owners
---   .. -count                   the number is 0: there are m owners
+--   leaves-other                the number is not 9: the contract without owners
+--   .. -unowned                 there are not m owners: the number is 9
 --   .. -done                    the number is 0: the contract without owners
 --   .. -exactly                 what the number is 0 exactly for, by what it is 0 exactly for without owners
 --   .. -by                      the numbers by which the call refuses are those without owners, if 9 is one of them (`nine-first`: it is, where it stands first)
@@ -93,6 +93,9 @@ module _ (k m : ℕ) (P : Outcome → Type 0) (number : ℕ) (h : Owned k m P nu
   count : number ≡ 0 → k ≡ m
   count z = cases (k ≡ m) (λ e c. e) (λ c. absurd (let q : number ≡ wrongLength = h .nine c in omega arith))
 
+  unowned : ¬ (k ≡ m) → number ≡ wrongLength
+  unowned f = cases (number ≡ wrongLength) (λ e c. absurd (f e)) (λ c. h .nine c)
+
   done : number ≡ 0 → P Passed
   done z = right (count z)
 
@@ -114,11 +117,8 @@ module _ (k m : ℕ) (o r : Outcome) (w₀ w : List ℕ) (call : Checks (ownedOu
   pub checks-right : k ≡ m → Checks o r w₀ w
   checks-right = right k m _ _ checked
 
-  pub checks-other : ¬ (numberOf r ≡ wrongLength) → Checks o r w₀ w
-  checks-other = other k m _ _ checked
-
-  pub checks-count : numberOf r ≡ 0 → k ≡ m
-  checks-count = count k m _ _ checked
+  pub checks-unowned : ¬ (k ≡ m) → numberOf r ≡ wrongLength
+  checks-unowned = unowned k m _ _ checked
 
   pub checks-done : numberOf r ≡ 0 → Checks o r w₀ w
   checks-done = done k m _ _ checked
@@ -138,11 +138,8 @@ module _ (k m : ℕ) (o : Outcome) (cert : List ℕ) (z : Written) (b₀ b w₀ 
   pub writes-right : k ≡ m → WritesCertificate o cert z b₀ b w₀ w
   writes-right = right k m _ _ written
 
-  pub writes-other : ¬ (numberOf (z .outcome) ≡ wrongLength) → WritesCertificate o cert z b₀ b w₀ w
-  writes-other = other k m _ _ written
-
-  pub writes-count : numberOf (z .outcome) ≡ 0 → k ≡ m
-  writes-count = count k m _ _ written
+  pub writes-unowned : ¬ (k ≡ m) → numberOf (z .outcome) ≡ wrongLength
+  writes-unowned = unowned k m _ _ written
 
   pub writes-done : numberOf (z .outcome) ≡ 0 → WritesCertificate o cert z b₀ b w₀ w
   writes-done = done k m _ _ written
@@ -169,8 +166,8 @@ module _ (k m : ℕ) (g : Factorization) (o : Factored) (h : Storage) (call : Le
   pub leaves-other : ¬ (numberOf (o .outcome) ≡ wrongLength) → Leaves g o h
   leaves-other = other k m _ _ factored
 
-  pub leaves-count : numberOf (o .outcome) ≡ 0 → k ≡ m
-  leaves-count = count k m _ _ factored
+  pub leaves-unowned : ¬ (k ≡ m) → numberOf (o .outcome) ≡ wrongLength
+  leaves-unowned = unowned k m _ _ factored
 
   pub leaves-done : numberOf (o .outcome) ≡ 0 → Leaves g o h
   leaves-done = done k m _ _ factored
@@ -193,11 +190,8 @@ module _ (k m : ℕ) (g : Given) (r : Answer) (x₀ x z₀ z w₀ w : List ℕ) 
   pub answers-right : k ≡ m → Answers g r x₀ x z₀ z w₀ w
   answers-right = right k m _ _ answered
 
-  pub answers-other : ¬ (answerNumber r ≡ wrongLength) → Answers g r x₀ x z₀ z w₀ w
-  answers-other = other k m _ _ answered
-
-  pub answers-count : answerNumber r ≡ 0 → k ≡ m
-  answers-count = count k m _ _ answered
+  pub answers-unowned : ¬ (k ≡ m) → answerNumber r ≡ wrongLength
+  answers-unowned = unowned k m _ _ answered
 
   pub answers-done : answerNumber r ≡ 0 → Answers g r x₀ x z₀ z w₀ w
   answers-done = done k m _ _ answered
@@ -223,11 +217,8 @@ module _ (k m : ℕ) (g : Listed) (r : Outcome) (l₀ l w₀ w : List ℕ) (call
   pub lists-right : k ≡ m → Lists g r l₀ l w₀ w
   lists-right = right k m _ _ listed
 
-  pub lists-other : ¬ (numberOf r ≡ wrongLength) → Lists g r l₀ l w₀ w
-  lists-other = other k m _ _ listed
-
-  pub lists-count : numberOf r ≡ 0 → k ≡ m
-  lists-count = count k m _ _ listed
+  pub lists-unowned : ¬ (k ≡ m) → numberOf r ≡ wrongLength
+  lists-unowned = unowned k m _ _ listed
 
   pub lists-done : numberOf r ≡ 0 → Lists g r l₀ l w₀ w
   lists-done = done k m _ _ listed

@@ -3,6 +3,7 @@
 --   ownersOutcome k m        9 unless k, the number of owners, is m
 --   ownedOutcome k m o       a check or a certificate's writing, whose outcome without owners is o
 --   ownedFactors k m g       factoring that gives g without them
+--   givenAfter, listedAfter  what is given, or listed, where the outcome is passed; else its refusal, with no list
 --   ownedAnswer k m g        a question that is given g without them
 --   ownedList k m g          a list of open columns that is g without them
 --   ChecksOwned, WritesOwned, LeavesOwned, AnswersOwned, ListsOwned

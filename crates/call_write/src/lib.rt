@@ -1,4 +1,4 @@
-// The public call that writes a certificate.
+// The call that writes a certificate, without owners; `call_owned` has the public one.
 ghost use Rattle.certificate.specs.Layout.{certificateOf};
 ghost use Rattle.call_write.specs.Call.{writeOutcome, WritesIn};
 ghost use Rattle.sparse.specs.Views.{storedBefore, setBefore};

@@ -1,4 +1,4 @@
-// The library. For programs in Rattle: the calls on stored plans, each proved in a crate of its own. For planning programs in C
+// The library. For programs in Rattle: reading a plan's text, and the calls on stored plans with the owners of their words. For planning programs in C
 // (include/plq.h): two calls that take a plan as its text and need no storage of the caller's.
 pub use call_owned::answer::answer_from_certificate;
 pub use call_owned::answer::answer_from_factors;

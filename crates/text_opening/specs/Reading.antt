@@ -1,4 +1,4 @@
--- The reading of a whole plan text. 10 is the byte of the line feed.
+-- The reading of a plan's own text, which ends with the line `0 0 0`. 10 is the byte of the line feed.
 --   Entry                                            a triple of the text: row and column count from 1, the value is a residue
 --   kept seen                                        what is stored of the triples seen, in the text's order: those whose value is not 0
 --   fresh seen i j                                   no triple seen stands at i and j, zeros included

@@ -2,22 +2,16 @@
 --   passed-refused              passing is no refusal
 --   owners-wrong                the owners have the wrong length
 --   plan-refused                the plan's own text is refused: no list is left with anything in it
---   plan-few, text-short        it passed: the plan has few enough words, and the whole text is short enough
 --   foot-refused, foot-passed   what follows the plan is refused, or says the owners
 use mathlib.Core.Path.{_≡_, refl, sym, ap, _∙_, subst}
 use mathlib.Core.List.{List}
-use mathlib.Core.Bool.{Bool, true, false, cond}
-use Prim.Native.Nat.{ℕ, _≤_}
+use Prim.Native.Nat.{ℕ}
 use native.Mathlib.Omega.{arith}
-use lib.Dec.{ltb}
-use lib.ListN.{length, take, drop}
-use lib.Seq.{take-all}
-use borrow.Author.Tests.{eq-eqb, ne-eqb, ltb-false}
+use lib.ListN.{take, drop}
+use borrow.Author.Tests.{eq-eqb, ne-eqb}
 use Rattle.lists.specs.Filled.{zeros, filled}
 use Rattle.lists.specs.Tests.{among}
-use Rattle.limits.specs.Limits.{largestSize, largestText}
 use Rattle.refusals.specs.Table.{textFaults}
-use Rattle.refusals.specs.Refusals.{numberOf}
 use Rattle.refusals.proofs.Refusals.{zero-passed}
 use Rattle.refusals.specs.declared.Outcome.{Outcome}
 use Rattle.refusals.specs.declared.Outcome.the-variants.{Passed, Refused}
@@ -25,10 +19,10 @@ use Rattle.text_fields.specs.Pieces.{pieces}
 use Rattle.text_lines.specs.declared.Place.{Place}
 use Rattle.text_plan.specs.Call.{ReadAnswer, refusalOf, callOf, Gives}
 use Rattle.text_plan.specs.declared.Reading.{Reading}
-use Rattle.text_plan.proofs.Done.{done-exactly, read-good, refused-by, read-cleared}
-use Rattle.text_owners.specs.Ending.{endIn, planEnd, planPart, footLine, PlanEnds}
+use Rattle.text_plan.proofs.Done.{refused-by, read-cleared}
+use Rattle.text_owners.specs.Ending.{planPart, PlanEnds}
 use Rattle.text_owners.specs.Owners.{OwnersRead, notRead, owned, ownersIn}
-use Rattle.text_owners.specs.Needs.{FootReady, Owns}
+use Rattle.text_owners.specs.Needs.{Owns}
 use Rattle.text_owners.specs.Call.{ownersLength, TextAnswer, refusesText, footOf, afterPlan, answerWith, textCallOf, GivesText}
 
 pub passed-refused : {n d : ℕ} → Passed ≡ Refused n d → ⊥
@@ -79,29 +73,6 @@ module _ (text : List ℕ) (a b c k : ℕ) where
 
     -- it passed
     module _ (q : r .outcome ≡ Passed) where
-      pub plan-few : r .m ≤ largestSize
-      plan-few = read-good (take (from .at) text) a b c r st co va call (ap numberOf q) .few-columns
-
-      part-short : length (take (from .at) text) ≤ largestText
-      part-short =
-          let h = done-exactly (take (from .at) text) a b c r st co va call .0 (ap numberOf q) .2 in
-          omega (arith, ap length (h .text-is), h .plan .short)
-
-      -- a text above the limit would have been read whole, and refused
-      pub text-short : length text ≤ largestText
-      unfolding planEnd
-      text-short = go (ltb largestText (length text)) refl
-        where
-          go : (t : Bool) → ltb largestText (length text) ≡ t → length text ≤ largestText
-          go false e = ltb-false largestText (length text) e
-          go true e =
-              let at-end : from .at ≡ length text = ends .end-is ∙ ap (λ (t : Bool). cond t (length text) (endIn (pieces 10 text))) e in
-              let all : take (from .at) text ≡ text = take-all (from .at) text (omega arith) in
-              omega (arith, part-short, ap length all)
-
-      pub foot-ready : (owners : List ℕ) → owners ≡ zeros k → FootReady text from (r .m) owners
-      foot-ready owners w = record { place = ends .inside; numbered = ends .numbered; short = text-short; few = plan-few; cleared = w ∙ ap zeros long }
-
       module _ (o : Outcome) (left : List ℕ) (h : Owns (ownersIn (r .m) (from .line) (pieces 10 (drop (from .at) text))) o left) where
         foot-owns : Owns (footOf text (r .m)) o left
         unfolding footOf

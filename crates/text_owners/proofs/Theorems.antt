@@ -12,7 +12,6 @@
 --   read-rising-as-before     a text that was accepted while triples had to rise is read as it was, and leaves what it left
 --   owner-too-large           a plan with the line of owners of which one is above 255 is refused by 16 with that line
 --   owners-alone              owners change nothing of the plan that is read
---   no-line, no-line-owners   a plan's text without the line states that every word belongs to customer 1
 use mathlib.Core.Path.{_≡_, refl, sym, ap, _∙_, subst}
 use mathlib.Core.Logic.{_↔_, _⊎_, inl, inr}
 use mathlib.Core.List.{List, [], _∷_, _++_, append-nil}
@@ -183,12 +182,6 @@ without-line room text h =
       text-is = h .text-is ∙ sym (append-nil (planText (h .sizes) (h .triples)));
       short = subst (λ (l : List ℕ). length l ≤ largestText) (sym (h .text-is)) (h .plan .short);
     }
-
-abbrev pub no-line : (s : Sizes) (room : ℕ) (ts : List StatedEntry) → Plan room s ts → StatesText room (planText s ts)
-no-line s room ts h = without-line room (planText s ts) (record { sizes = s; triples = ts; plan = h; text-is = refl })
-
-pub no-line-owners : (s : Sizes) (room : ℕ) (ts : List StatedEntry) (h : Plan room s ts) → no-line s room ts h .owners ≡ replicate (s .m) 1
-no-line-owners s room ts h = refl
 
 -- ---- of a call: its text, the lengths of the lists that it was lent, its result and the lists as it left them
 

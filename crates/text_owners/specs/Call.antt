@@ -3,6 +3,7 @@
 --   TextAnswer                 what is returned and left of the plan, and the owners as left
 --   refusesText c d ..         the answer that is a refusal: its number and detail, and all lists cleared
 --   footOf text m              the owners that follow the plan in its text
+--   afterPlan o f              what follows the plan, f, where the plan's outcome o is passed; else the plan's refusal
 --   answerWith .. x f          the answer where the plan is read as x and what follows it as f: the first refusal counts
 --   textCallOf text a b c k    the answer for starts, columns, values and owners of the lengths a, b, c and k: 9 where one is wrong
 --   GivesText x r ..           the result and the lists are what the answer x says

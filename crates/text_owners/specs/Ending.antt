@@ -1,10 +1,10 @@
 -- Where the plan's own text ends: with its first line `0 0 0`. Owners may follow it, and in the question program a question too.
 --   isLastLine l          a line is `0 0 0`
 --   endIn t               the place after the first line `0 0 0` of the lines t; the text's end where there is none
---   linesIn t             how many lines stand before that place
+--   linesIn t             how many lines end before that place, each with its line feed
 --   planEnd text          that place of a text; a text above the limit is not looked through: its end
 --   planPart, footPart    the text before that place, and from it on
---   footLine text         the number of the line there
+--   footLine text         the number of the line there; 1 of a text above the limit
 --   EndsIn text r         the contract of looking for the line: r is the place after it with the number of the line there, and within the text
 --   PlanEnds text r       the same of a text that may be above the limit
 use Prim.Native.Nat.{ℕ, _+_, _≤_}

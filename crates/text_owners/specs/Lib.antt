@@ -3,3 +3,4 @@ pub mod Owners
 pub mod Call
 pub mod Stating
 pub mod Needs
+pub mod Cut

@@ -4,9 +4,8 @@
 --   PutsOwner word v bytes r ..      what storing one owner v returns and leaves, where `bytes` says whether all before it are bytes: the same with v
 --   StoredBytes b vs r owners        what the line of the numbers vs comes to, where b says whether each is a byte
 --   LineOwns o r owners              what reading the line returns and leaves, where its numbers are o
---   QuickEnd text r                  the place at which a text is cut before it is read: within the text, and at its end where the text is above the limit
 --   Owns f r owners                  what reading all that follows the plan returns and leaves, where it is read as f
-use Prim.Native.Nat.{ℕ, _+_, _≤_, _<_}
+use Prim.Native.Nat.{ℕ, _+_, _≤_}
 use mathlib.Core.Path.{_≡_}
 use mathlib.Core.Bool.{Bool, true, false, _&&_}
 use mathlib.Core.List.{List}
@@ -38,10 +37,6 @@ pub record OwnersLineReady (l : List ℕ) (m : ℕ) (owners : List ℕ) : Type 0
 pub record PutsOwner (word v : ℕ) (bytes r : Bool) (owners owners′ : List ℕ) : Type 0 where
   pub bytes-are : r ≡ (leb v 255 && bytes)
   pub stored : leb v 255 ≡ true → owners′ ≡ set owners word v
-
-pub record QuickEnd (text : List ℕ) (r : ℕ) : Type 0 where
-  pub inside : r ≤ length text
-  pub short : r < length text → length text ≤ largestText
 
 abbrev pub StoredBytes : Bool → List ℕ → OwnersLine → List ℕ → Type 0
 StoredBytes true vs r owners = (r ≡ Stated) × (owners ≡ filled ownersLength vs)

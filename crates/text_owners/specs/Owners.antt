@@ -3,6 +3,9 @@
 --   isOwnersWord w       a field is the word `owners`
 --   fieldsIn t           the fields that the pieces t of a line are
 --   fieldNumbers fs      the numbers that the fields say; none where one says no number
+--   withNumber x vs      the number that a field says, before the numbers vs; none where one of the two is none
+--   ofLength m vs        the numbers vs where they are m, else none
+--   afterWord m fs       the numbers of the fields fs after the first, which is the word `owners`
 --   ownersLine m l       the numbers of the line l of m owners; none where it is no such line
 --   allBytes vs          each of the numbers is at most 255
 --   OwnersRead           a refusal with its line, or the owners

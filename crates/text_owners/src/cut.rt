@@ -1,21 +1,19 @@
-// Reads a plan text with its owners, from the first line on: the plan's own text ends with its first line `0 0 0`, which is looked for first. So every
-// refusal has the number of its line.
+// Reads a plan text that is cut at a place: the plan before it, the owners of its words from it on.
 ghost use mathlib.Core.Path.{_≡_};
 ghost use lib.ListN.{length};
 ghost use Rattle.text_plan.specs.Call.{refusalOf};
-ghost use Rattle.text_owners.specs.Call.{textCallOf, GivesText};
+ghost use Rattle.text_owners.specs.Call.{textCallOf};
+ghost use Rattle.text_owners.specs.Cut.{CutReady, ReadsCut};
 ghost use Rattle.sparse.specs.Views.{before, after};
-use crate::ending::plan_end;
 use crate::foot::read_foot;
-use limits::SIZE_CELLS;
 use lists::clear;
 use lists::clear_bytes;
 use refusals::Outcome;
-use refusals::numbers::WRONG_LENGTH;
+use text_lines::Place;
 use text_plan::Reading;
 
 // A refusal: every number 0.
-fn refusal(outcome: Outcome) -> Reading
+pub fn refusal(outcome: Outcome) -> Reading
     ensures { λ r. ⌜ r ≡ refusalOf outcome ⌝ }
 {
     Reading {
@@ -27,24 +25,19 @@ fn refusal(outcome: Outcome) -> Reading
     }
 }
 
-// The whole call: it promises what `read` does.
+// What is read counts where the text is cut at the plan's end, and wherever it passes: then that is the plan's end.
 pub fn read_cut(
     text: &[u8],
+    end: Place,
     starts: &mut [u32],
     cols: &mut [u32],
     vals: &mut [u32],
     owners: &mut [u8],
 ) -> Reading
-    ensures { λ r. ⌜ GivesText (textCallOf (before text) (length (before starts)) (length (before cols)) (length (before vals)) (length (before owners))) r (after starts) (after cols) (after vals) (after owners) ⌝ }
+    requires { ⌜ CutReady (now text) end (length (now owners)) ⌝ }
+    ensures { λ r. ⌜ ReadsCut (before text) end (textCallOf (before text) (length (before starts)) (length (before cols)) (length (before vals)) (length (before owners))) r (after starts) (after cols) (after vals) (after owners) ⌝ }
 {
     clear_bytes(owners);
-    if owners.len() != SIZE_CELLS {
-        clear(starts);
-        clear(cols);
-        clear(vals);
-        return refusal(Outcome::Refused(WRONG_LENGTH, 0));
-    }
-    let end = plan_end(text);
     let at = end.at;
     let r = text_plan::read(&text[..at], starts, cols, vals);
     let read = r.outcome;

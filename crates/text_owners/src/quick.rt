@@ -1,7 +1,7 @@
 // Where the plan's own text ends if the text is accepted, looked for from the text's end. It is a guess: only what is read with it counts.
 ghost use Prim.Native.Nat.{_≤_};
 ghost use lib.ListN.{length};
-ghost use Rattle.text_owners.specs.Needs.{QuickEnd};
+ghost use Rattle.text_owners.specs.Cut.{QuickEnd};
 use crate::line::begins_owners;
 use limits::LARGEST_TEXT;
 

@@ -1,4 +1,4 @@
--- What a call that reads a text returns and leaves.
+-- What the call that reads a plan's own text returns and leaves; with the owners that may follow it: `text_owners/specs/Call`.
 --   ReadAnswer                what a call returns and leaves in the lent lists
 --   refusalOf o               what a call returns whose outcome o is a refusal: 0 for all else
 --   refuses c d ..            the answer that is a refusal: its number and detail, and all lists cleared

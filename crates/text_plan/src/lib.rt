@@ -1,4 +1,5 @@
-// Reads a plan text (document 01, "Plan text"; triples in any order, document 02, slip 2) into lent lists.
+// Reads a plan's own text, which ends with the line `0 0 0` (document 01, "Plan text"; triples in any order, document 02, slip 2), into lent lists.
+// `text_owners` has the public call, which reads what may follow it too.
 ghost use mathlib.Core.Path.{_≡_};
 ghost use mathlib.Core.List.{[]};
 ghost use lib.ListN.{length, drop};
@@ -100,7 +101,7 @@ fn fill(text: &[u8], starts: &mut [u32], cols: &mut [u32], vals: &mut [u32]) -> 
     }
 }
 
-// Takes: a plan text, its triples in any order; 2,049 row starts, and columns and values of one length, all lent.
+// Takes: a plan's own text, its triples in any order; 2,049 row starts, and columns and values of one length, all lent.
 // Gives: the modulus, the sizes and the number of entries, and the plan in the lent lists, zero past its end.
 // Refuses with: 9 for a wrong length; 2 for a longer text; then the first line at fault: 3, then 1, 2, or 4, 5, 6, 7.
 // Leaves: after a refusal every number 0 and every lent list all zero. The text never changes.

@@ -13,7 +13,7 @@
 --   list-stored, list-bytes        the open columns (document 01's open words) listed
 --   make                           the call for C that makes a certificate; `make-seven`, `make-row`, `make-nine`, `make-numbers`: after a text that is accepted
 --   check-text                     the call for C that checks one; `check-text-judged`: after a text that is accepted
--- The calls on a stored plan take k owners: every one is refused by 9 unless k is m, whatever else is right.
+-- The calls on a stored plan take k owners: `-owners`, each is refused by 9 unless k is m, whatever else is right or wrong.
 -- What the two programs print where there is no plan to report and no question to answer: the line of the first refusal, its row or index counted from 1.
 --   report, ask                    `-refused`: the text states no plan; `-storage`: its factors overflow; `ask-length`, `ask-value`: the question is no
 --                                  list of m residues
@@ -90,7 +90,7 @@ use Rattle.call_answer.proofs.Theorems as answers
 use Rattle.call_open.specs.Calls.{openFactorsOf, openCertificateOf, Lists}
 use Rattle.call_open.proofs.Theorems as columns
 use Rattle.call_owned.specs.Owned.{ownedOutcome, ownedFactors, ownedAnswer, ownedList}
-use Rattle.call_owned.proofs.Owned.{nine-first, checks-exactly, checks-by, writes-exactly, writes-by, writes-cleared, leaves-right, leaves-other, leaves-exactly, leaves-by, leaves-cleared, answers-exactly, answers-by, answers-cleared, lists-exactly, lists-by, lists-cleared}
+use Rattle.call_owned.proofs.Owned.{nine-first, checks-unowned, checks-exactly, checks-by, writes-unowned, writes-exactly, writes-by, writes-cleared, leaves-right, leaves-unowned, leaves-other, leaves-exactly, leaves-by, leaves-cleared, answers-unowned, answers-exactly, answers-by, answers-cleared, lists-unowned, lists-exactly, lists-by, lists-cleared}
 use Rattle.stages.specs.Stages.{reading}
 use Rattle.stages.specs.Meaning.{FitsAll, OverflowsAt}
 use Rattle.plq.specs.Calls.{checkTextOf, packed, Makes}
@@ -163,6 +163,9 @@ module _ (p n m k : ℕ) (A : Compressed) (l : Lent) (o : Factored) (h : Storage
   pub factor-exactly : (numberOf (o .outcome) ≡ 0) ↔ ((k ≡ m) × Factorable p n m A l)
   factor-exactly = leaves-exactly k m _ o h call _ (factors.factored-exactly p n m A l o h)
 
+  pub factor-owners : ¬ (k ≡ m) → numberOf (o .outcome) ≡ wrongLength
+  factor-owners = leaves-unowned k m _ o h call
+
   pub factor-seven : k ≡ m → GoodPlan p n m A → LentRight n m l → (numberOf (o .outcome) ≡ storageTooShort) ↔ (¬ FactorsFit p n m A l)
   factor-seven e = factors.factored-seven p n m A l o h (leaves-right k m _ o h call e)
 
@@ -181,12 +184,18 @@ module _ (p n m k : ℕ) (A : Compressed) (s : Set) (r : Outcome) (w₀ w : List
   pub check-stored-exactly : (numberOf r ≡ 0) ↔ ((k ≡ m) × StoredPasses p n m A s (length w₀))
   check-stored-exactly = checks-exactly k m _ r w₀ w call _ (checks.stored-passes p n m A s r w₀ w)
 
+  pub check-stored-owners : ¬ (k ≡ m) → numberOf r ≡ wrongLength
+  check-stored-owners = checks-unowned k m _ r w₀ w call
+
   pub check-stored-by : NumberFrom (planFaults ++ setFaults) (numberOf r)
   check-stored-by = checks-by k m _ r w₀ w call _ (nine-first _) (checks.stored-by p n m A s r w₀ w)
 
 module _ (p n m k : ℕ) (A : Compressed) (cert : List ℕ) (r : Outcome) (w₀ w : List ℕ) (call : Checks (ownedOutcome k m (checkCertificateOf p n m A cert (length w₀))) r w₀ w) where
   pub check-bytes-exactly : (numberOf r ≡ 0) ↔ ((k ≡ m) × CertificatePasses p n m A cert (length w₀))
   check-bytes-exactly = checks-exactly k m _ r w₀ w call _ (checks.bytes-pass p n m A cert r w₀ w)
+
+  pub check-bytes-owners : ¬ (k ≡ m) → numberOf r ≡ wrongLength
+  check-bytes-owners = checks-unowned k m _ r w₀ w call
 
   pub check-bytes-by : NumberFrom (planFaults ++ setFaults) (numberOf r)
   check-bytes-by = checks-by k m _ r w₀ w call _ (nine-first _) (checks.bytes-by p n m A cert r w₀ w)
@@ -197,6 +206,9 @@ module _ (p n m k : ℕ) (A : Compressed) (s : Set) (z : Written) (b₀ b w₀ w
     (call : WritesCertificate (ownedOutcome k m (writeOutcome p n m A s (length w₀) (length b₀))) (certificateOf p n m s) z b₀ b w₀ w) where
   pub write-exactly : (numberOf (z .outcome) ≡ 0) ↔ ((k ≡ m) × CanWrite p n m A s (length w₀) (length b₀))
   write-exactly = writes-exactly k m _ _ z b₀ b w₀ w call _ (writes.written-exactly p n m A s z b₀ b w₀ w)
+
+  pub write-owners : ¬ (k ≡ m) → numberOf (z .outcome) ≡ wrongLength
+  write-owners = writes-unowned k m _ _ z b₀ b w₀ w call
 
   pub write-by : NumberFrom ((planFaults ++ setFaults) ++ (wrongLength ∷ [])) (numberOf (z .outcome))
   write-by = writes-by k m _ _ z b₀ b w₀ w call _ (nine-first _) (writes.written-by p n m A s z b₀ b w₀ w)
@@ -211,6 +223,9 @@ module _ (p n m k : ℕ) (A : Compressed) (s : Set) (y : List ℕ) (r : Answer) 
   pub answer-stored-exactly : (answerNumber r ≡ 0) ↔ ((k ≡ m) × (StoredPasses p n m A s (length w₀) × Askable p n m y (length x₀) (length z₀)))
   answer-stored-exactly = answers-exactly k m _ r x₀ x z₀ z w₀ w call _ (answers.stored-answered p n m A s y r x₀ x z₀ z w₀ w)
 
+  pub answer-stored-owners : ¬ (k ≡ m) → answerNumber r ≡ wrongLength
+  answer-stored-owners = answers-unowned k m _ r x₀ x z₀ z w₀ w call
+
   pub answer-stored-by : NumberFrom ((wrongLength ∷ []) ++ ((planFaults ++ setFaults) ++ (questionTooLarge ∷ []))) (answerNumber r)
   answer-stored-by = answers-by k m _ r x₀ x z₀ z w₀ w call _ (nine-first _) (answers.stored-by p n m A s y r x₀ x z₀ z w₀ w)
 
@@ -221,6 +236,9 @@ module _ (p n m k : ℕ) (A : Compressed) (cert y : List ℕ) (r : Answer) (x₀
     (call : Answers (ownedAnswer k m (answerCertificateOf p n m A cert y (length x₀) (length z₀) (length w₀))) r x₀ x z₀ z w₀ w) where
   pub answer-bytes-exactly : (answerNumber r ≡ 0) ↔ ((k ≡ m) × (CertificatePasses p n m A cert (length w₀) × Askable p n m y (length x₀) (length z₀)))
   answer-bytes-exactly = answers-exactly k m _ r x₀ x z₀ z w₀ w call _ (answers.bytes-answered p n m A cert y r x₀ x z₀ z w₀ w)
+
+  pub answer-bytes-owners : ¬ (k ≡ m) → answerNumber r ≡ wrongLength
+  answer-bytes-owners = answers-unowned k m _ r x₀ x z₀ z w₀ w call
 
   pub answer-bytes-by : NumberFrom ((wrongLength ∷ []) ++ ((planFaults ++ setFaults) ++ (questionTooLarge ∷ []))) (answerNumber r)
   answer-bytes-by = answers-by k m _ r x₀ x z₀ z w₀ w call _ (nine-first _) (answers.bytes-by p n m A cert y r x₀ x z₀ z w₀ w)
@@ -235,6 +253,9 @@ module _ (p n m k : ℕ) (A : Compressed) (s : Set) (r : Outcome) (l₀ l w₀ w
   pub list-stored-exactly : (numberOf r ≡ 0) ↔ ((k ≡ m) × (StoredPasses p n m A s (length w₀) × (length l₀ ≡ m)))
   list-stored-exactly = lists-exactly k m _ r l₀ l w₀ w call _ (columns.stored-listed p n m A s r l₀ l w₀ w)
 
+  pub list-stored-owners : ¬ (k ≡ m) → numberOf r ≡ wrongLength
+  list-stored-owners = lists-unowned k m _ r l₀ l w₀ w call
+
   pub list-stored-by : NumberFrom ((wrongLength ∷ []) ++ (planFaults ++ setFaults)) (numberOf r)
   list-stored-by = lists-by k m _ r l₀ l w₀ w call _ (nine-first _) (columns.stored-by p n m A s r l₀ l w₀ w)
 
@@ -245,6 +266,9 @@ module _ (p n m k : ℕ) (A : Compressed) (cert : List ℕ) (r : Outcome) (l₀ 
     (call : Lists (ownedList k m (openCertificateOf p n m A cert (length l₀) (length w₀))) r l₀ l w₀ w) where
   pub list-bytes-exactly : (numberOf r ≡ 0) ↔ ((k ≡ m) × (CertificatePasses p n m A cert (length w₀) × (length l₀ ≡ m)))
   list-bytes-exactly = lists-exactly k m _ r l₀ l w₀ w call _ (columns.bytes-listed p n m A cert r l₀ l w₀ w)
+
+  pub list-bytes-owners : ¬ (k ≡ m) → numberOf r ≡ wrongLength
+  list-bytes-owners = lists-unowned k m _ r l₀ l w₀ w call
 
   pub list-bytes-by : NumberFrom ((wrongLength ∷ []) ++ (planFaults ++ setFaults)) (numberOf r)
   list-bytes-by = lists-by k m _ r l₀ l w₀ w call _ (nine-first _) (columns.bytes-by p n m A cert r l₀ l w₀ w)

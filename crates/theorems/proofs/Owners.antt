@@ -3,7 +3,8 @@
 --   check-alike, write-alike, factor-alike, answer-alike, list-alike
 --                        checking, writing, factoring, answering and listing the open columns, from stored factors and from a certificate
 -- Of the text of one plan, with any owners after it or with none: T and T′ are two such texts within the limit.
---   read-alike           they are read as the same plan; only the owners differ, and those are the ones that are stated
+--   read-call-alike      the call that reads the one returns and leaves of the plan what it returns and leaves for the other, whatever room it is lent
+--   read-alike           in lists of the largest lengths; only the owners differ, and those are the ones that are stated
 --   factors-alike        the factors are the same
 --   certificate-alike    and so is their certificate
 --   make-alike           the call for C that makes a certificate returns the same number and leaves the same bytes
@@ -17,8 +18,10 @@ use Rattle.lists.specs.Filled.{filled}
 use Rattle.refusals.specs.declared.Outcome.{Outcome}
 use Rattle.sparse.specs.Set.{Storage}
 use Rattle.text_judge.specs.declared.judge.Sizes.{Sizes}
+use Rattle.text_plan.specs.Call.{ReadAnswer, Gives}
 use Rattle.text_plan.specs.Stating.{StatedEntry, Plan, planText}
-use Rattle.limits.specs.Limits.{largestEntries, largestText}
+use Rattle.text_plan.specs.declared.Reading.{Reading}
+use Rattle.limits.specs.Limits.{startsLength, largestEntries, largestText}
 use Rattle.factor_all.specs.Factorization.{Factorization, Leaves}
 use Rattle.factor_all.specs.declared.factor.Factored.{Factored}
 use Rattle.call_check.specs.Calls.{Checks}
@@ -29,8 +32,9 @@ use Rattle.call_answer.specs.declared.Answer.{Answer}
 use Rattle.call_open.specs.Calls.{Listed, Lists}
 use Rattle.call_owned.specs.Owned.{ownedOutcome, ownedFactors, ownedAnswer, ownedList}
 use Rattle.call_owned.proofs.Owned.{outcomes-alike, factors-alike as factorings-alike, givens-alike, lists-alike}
-use Rattle.text_owners.specs.Call.{ownersLength}
+use Rattle.text_owners.specs.Call.{ownersLength, textCallOf, GivesText}
 use Rattle.text_owners.specs.Stating.{StatesOwners}
+use Rattle.text_owners.proofs.Theorems.{owners-alone}
 use Rattle.stages.specs.Stages.{reading, ownersRead, factoredOf}
 use Rattle.stages.proofs.ReadText.{reading-alike, owners-of}
 use Rattle.plq.specs.Calls.{checkTextOf, certificateFor, packed, Makes}
@@ -58,6 +62,13 @@ module _ (m : ℕ) (os os′ : List ℕ) (long : length os ≡ m) (long′ : len
   list-alike g r l₀ l w₀ w = subst (λ (x : Listed). Lists x r l₀ l w₀ w) (lists-alike (length os) (length os′) m long long′ g)
 
 -- ---- the text of a plan
+
+pub read-call-alike : (s : Sizes) (room : ℕ) (ts : List StatedEntry) (foot foot′ vs vs′ : List ℕ) → Plan room s ts → StatesOwners (s .m) foot vs → StatesOwners (s .m) foot′ vs′
+    → length (planText s ts ++ foot) ≤ largestText → length (planText s ts ++ foot′) ≤ largestText
+    → (r : Reading) (starts columns values owners : List ℕ) → GivesText (textCallOf (planText s ts ++ foot) startsLength room room ownersLength) r starts columns values owners
+    → Gives (textCallOf (planText s ts ++ foot′) startsLength room room ownersLength .plan) r starts columns values
+read-call-alike s room ts foot foot′ vs vs′ plan states states′ short short′ r starts columns values owners call =
+    subst (λ (x : ReadAnswer). Gives x r starts columns values) (owners-alone s room ts foot foot′ vs vs′ plan states states′ short short′) (call .plan)
 
 module _ (s : Sizes) (ts : List StatedEntry) (foot foot′ vs vs′ : List ℕ) (plan : Plan largestEntries s ts) (states : StatesOwners (s .m) foot vs) (states′ : StatesOwners (s .m) foot′ vs′)
     (short : length (planText s ts ++ foot) ≤ largestText) (short′ : length (planText s ts ++ foot′) ≤ largestText) where

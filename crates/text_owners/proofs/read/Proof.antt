@@ -1,148 +1,110 @@
--- `read` meets its contract: the text is cut from its end, and read anew where that does not lead to a plan with its owners. Assumes nothing.
-use mathlib.Core.Path.{sym, _∙_}
-use lib.Seq.{length-take-le}
+-- `read` meets its contract; the loop's invariant is `Trying`, the measure how many times the text may be read once more. Assumes nothing.
+use mathlib.Core.Path.{_∙_}
 use borrow.Author.Needs.{needs}
-use Rattle.text_owners.proofs.FromEnd.{quick-ready, quick-passed, anew}
+use Rattle.text_owners.proofs.Answers.{owners-wrong}
+use Rattle.text_owners.proofs.FromEnd.{Trying, trying-starts, trying-turn, trying-counts, triesLeft, trying-less}
 use Rattle.text_owners.proofs.read.Statement.{statement}
 use Rattle.text_owners.proofs.read.Tie as tie
 
-read-cut-requires : tie.Need-read-cut-requires
-read-cut-requires c κs = search needs
+abbrev Inv-loop : tie.InvT-loop
+Inv-loop text starts₀ cols₀ vals₀ owners₀ end₀ exact₀ starts cols vals owners end exact = Trying text end exact starts₀ starts cols₀ cols vals₀ vals owners₀ owners
 
-same-length : tie.Need-same-length
-same-length c = c .before .before .before .before .before .before .before .before .read-cut .kept .1 .0
+abbrev μ-loop : tie.MeasureT-loop
+μ-loop text starts₀ cols₀ vals₀ owners₀ end₀ exact₀ starts cols vals owners end exact = triesLeft exact
 
-same-length-2 : tie.Need-same-length-2
-same-length-2 c = c .before .before .before .before .before .before .before .before .read-cut .kept .1 .1 .0
+clear-requires : tie.Need-clear-requires Inv-loop μ-loop
+clear-requires c κs = search needs
 
-same-length-3 : tie.Need-same-length-3
-same-length-3 c = c .before .before .before .before .before .before .before .before .read-cut .kept .1 .1 .1 .0
+clear-requires-2 : tie.Need-clear-requires-2 Inv-loop μ-loop
+clear-requires-2 c κs = search needs
 
-same-length-4 : tie.Need-same-length-4
-same-length-4 c = c .before .before .before .before .before .before .before .before .read-cut .kept .1 .1 .1 .1 .0
+clear-requires-3 : tie.Need-clear-requires-3 Inv-loop μ-loop
+clear-requires-3 c κs = search needs
 
-returns : tie.Need-returns
-returns c = c .before .before .before .before .before .before .before .before .read-cut .ensures
-
-clear-bytes-requires : tie.Need-clear-bytes-requires
+clear-bytes-requires : tie.Need-clear-bytes-requires Inv-loop μ-loop
 clear-bytes-requires c κs = search needs
 
-quick-end-requires : tie.Need-quick-end-requires
+refusal-requires : tie.Need-refusal-requires Inv-loop μ-loop
+refusal-requires c κs = search needs
+
+same-length : tie.Need-same-length Inv-loop μ-loop
+same-length c = c .before .before .before .before .before .before .before .before .before .before .before .before .before .before .before .clear .kept .0
+
+same-length-2 : tie.Need-same-length-2 Inv-loop μ-loop
+same-length-2 c = c .before .before .before .before .before .before .before .before .before .before .before .clear2 .kept .0
+
+same-length-3 : tie.Need-same-length-3 Inv-loop μ-loop
+same-length-3 c = c .before .before .before .before .before .before .before .clear3 .kept .0
+
+same-length-4 : tie.Need-same-length-4 Inv-loop μ-loop
+same-length-4 c = c .before .before .before .clear-bytes .kept .0
+
+returns : tie.Need-returns Inv-loop μ-loop
+returns c = owners-wrong _ _ _ _ _ (c .before .before .before .before .before .before .before .before .before .before .before .before .before .before .before .before .before .if1 .taken) _ _ _ _ _ (c .refusal .ensures) (c .before .before .before .before .before .before .before .before .before .before .before .before .before .before .before .clear .ensures) (c .before .before .before .before .before .before .before .before .before .before .before .clear2 .ensures) (c .before .before .before .before .before .before .before .clear3 .ensures) (c .before .before .before .clear-bytes .ensures)
+
+quick-end-requires : tie.Need-quick-end-requires Inv-loop μ-loop
 quick-end-requires c κs = search needs
 
-slice-aggregate-read : tie.Need-slice-aggregate-read
-slice-aggregate-read c = sym (length-take-le _ _ (c .before .quick-end .ensures .inside))
+loop-holds : tie.Need-loop-holds Inv-loop μ-loop
+loop-holds c = trying-starts _ _ _ _ _ _ (c .quick-end .ensures) (c .before .if1 .left)
 
-read-requires : tie.Need-read-requires
-read-requires c κs = search needs
+read-cut-requires : tie.Need-read-cut-requires Inv-loop μ-loop
+read-cut-requires c κs = c .before .before .before .before .loop .inv .ready
 
-enum-told : tie.Need-enum-told
-enum-told c = search needs
+does-count-requires : tie.Need-does-count-requires Inv-loop μ-loop
+does-count-requires c κs = search needs
 
-enum-told-2 : tie.Need-enum-told-2
-enum-told-2 c = search needs
+same-length-5 : tie.Need-same-length-5 Inv-loop μ-loop
+same-length-5 c = c .before .before .before .before .before .before .before .before .before .before .read-cut .kept .1 .1 .0 ∙ c .before .before .before .before .before .before .before .before .before .before .before .before .before .before .before .loop .inv .starts-long
 
-read-cut-requires-2 : tie.Need-read-cut-requires-2
-read-cut-requires-2 c κs = search needs
+same-length-6 : tie.Need-same-length-6 Inv-loop μ-loop
+same-length-6 c = c .before .before .before .before .before .before .before .before .before .before .read-cut .kept .1 .1 .1 .0 ∙ c .before .before .before .before .before .before .before .before .before .before .before .before .before .before .before .loop .inv .columns-long
 
-same-length-5 : tie.Need-same-length-5
-same-length-5 c = c .before .before .before .before .before .before .before .before .read-cut2 .kept .1 .0 ∙ c .before .before .before .before .before .before .before .before .before .before .before .before .before .before .before .before .before .before .before .before .before .read .kept .1 .0
+same-length-7 : tie.Need-same-length-7 Inv-loop μ-loop
+same-length-7 c = c .before .before .before .before .before .before .before .before .before .before .read-cut .kept .1 .1 .1 .1 .0 ∙ c .before .before .before .before .before .before .before .before .before .before .before .before .before .before .before .loop .inv .values-long
 
-same-length-6 : tie.Need-same-length-6
-same-length-6 c = c .before .before .before .before .before .before .before .before .read-cut2 .kept .1 .1 .0 ∙ c .before .before .before .before .before .before .before .before .before .before .before .before .before .before .before .before .before .before .before .before .before .read .kept .1 .1 .0
+same-length-8 : tie.Need-same-length-8 Inv-loop μ-loop
+same-length-8 c = c .before .before .before .before .before .before .before .before .before .before .read-cut .kept .1 .1 .1 .1 .1 .0 ∙ c .before .before .before .before .before .before .before .before .before .before .before .before .before .before .before .loop .inv .owners-long
 
-same-length-7 : tie.Need-same-length-7
-same-length-7 c = c .before .before .before .before .before .before .before .before .read-cut2 .kept .1 .1 .1 .0 ∙ c .before .before .before .before .before .before .before .before .before .before .before .before .before .before .before .before .before .before .before .before .before .read .kept .1 .1 .1 .0
+returns-2 : tie.Need-returns-2 Inv-loop μ-loop
+returns-2 c = trying-counts (c .before .before .before .before .before .before .before .before .before .before .before .before .before .before .before .loop .inv) _ _ _ _ _ (c .before .before .before .before .before .before .before .before .before .before .read-cut .ensures) _ (c .before .does-count .ensures) (c .if2 .taken)
 
-same-length-8 : tie.Need-same-length-8
-same-length-8 c = c .before .before .before .before .before .before .before .before .read-cut2 .kept .1 .1 .1 .1 .0 ∙ c .before .before .before .before .before .before .before .before .before .before .before .before .before .before .before .before .before .before .before .before .before .before .before .before .before .before .before .before .before .clear-bytes .kept .0
+plan-end-requires : tie.Need-plan-end-requires Inv-loop μ-loop
+plan-end-requires c κs = search needs
 
-returns-2 : tie.Need-returns-2
-returns-2 c =
-    let r = c .before .before .before .before .before .before .before .before .before .before .before .before .before .before .before .before .before .before .before .before .before in
-    anew _ (r .read .kept .1 .0) (r .read .kept .1 .1 .0) (r .read .kept .1 .1 .1 .0) (r .before .before .before .before .before .before .before .before .clear-bytes .kept .0) _ _ _ _ _ (c .before .before .before .before .before .before .before .before .read-cut2 .ensures)
+loop-less : tie.Need-loop-less Inv-loop μ-loop
+loop-less c = trying-less (c .before .before .before .before .before .before .before .before .before .before .before .before .before .before .before .before .loop .exact) (c .before .before .before .before .before .before .before .before .before .before .before .read-cut .result .outcome) _ (c .before .before .does-count .ensures) (c .before .if2 .left)
 
-read-foot-requires : tie.Need-read-foot-requires
-read-foot-requires c κs =
-    let r = c .before .before .before .before .before .before .before .before .before in
-    quick-ready _ _ _ _ _ (r .before .before .before .before .before .before .before .before .before .before .if1 .left) _ (r .before .before .before .before .before .quick-end .ensures) _ _ _ _ (r .read .ensures) (c .before .enum-told .given .1) _ (r .before .before .before .before .before .before .before .before .clear-bytes .ensures)
-
-enum-told-3 : tie.Need-enum-told-3
-enum-told-3 c = search needs
-
-enum-told-4 : tie.Need-enum-told-4
-enum-told-4 c = search needs
-
-read-cut-requires-3 : tie.Need-read-cut-requires-3
-read-cut-requires-3 c κs = search needs
-
-same-length-9 : tie.Need-same-length-9
-same-length-9 c = c .before .before .before .before .before .before .before .before .read-cut3 .kept .1 .0 ∙ c .before .before .before .before .before .before .before .before .before .before .before .before .before .before .before .before .before .before .before .before .before .before .before .before .before .before .before .read .kept .1 .0
-
-same-length-10 : tie.Need-same-length-10
-same-length-10 c = c .before .before .before .before .before .before .before .before .read-cut3 .kept .1 .1 .0 ∙ c .before .before .before .before .before .before .before .before .before .before .before .before .before .before .before .before .before .before .before .before .before .before .before .before .before .before .before .read .kept .1 .1 .0
-
-same-length-11 : tie.Need-same-length-11
-same-length-11 c = c .before .before .before .before .before .before .before .before .read-cut3 .kept .1 .1 .1 .0 ∙ c .before .before .before .before .before .before .before .before .before .before .before .before .before .before .before .before .before .before .before .before .before .before .before .before .before .before .before .read .kept .1 .1 .1 .0
-
-same-length-12 : tie.Need-same-length-12
-same-length-12 c = c .before .before .before .before .before .before .before .before .read-cut3 .kept .1 .1 .1 .1 .0 ∙ c .before .before .before .before .before .before .before .before .before .before .before .before .before .before .before .before .before .read-foot .kept .1 .1 .1 .0 ∙ c .before .before .before .before .before .before .before .before .before .before .before .before .before .before .before .before .before .before .before .before .before .before .before .before .before .before .before .before .before .before .before .before .before .before .before .clear-bytes .kept .0
-
-returns-3 : tie.Need-returns-3
-returns-3 c =
-    let r = c .before .before .before .before .before .before .before .before .before .before .before .before .before .before .before .before .before .before .before .before .before .before .before .before .before .before .before in
-    anew _ (r .read .kept .1 .0) (r .read .kept .1 .1 .0) (r .read .kept .1 .1 .1 .0) (c .before .before .before .before .before .before .before .before .before .before .before .before .before .before .before .before .before .read-foot .kept .1 .1 .1 .0 ∙ r .before .before .before .before .before .before .before .before .clear-bytes .kept .0) _ _ _ _ _ (c .before .before .before .before .before .before .before .before .read-cut3 .ensures)
-
-same-length-13 : tie.Need-same-length-13
-same-length-13 c = c .before .before .before .before .before .before .before .before .before .before .before .before .before .before .read .kept .1 .0
-
-same-length-14 : tie.Need-same-length-14
-same-length-14 c = c .before .before .before .before .before .before .before .before .before .before .before .before .before .before .read .kept .1 .1 .0
-
-same-length-15 : tie.Need-same-length-15
-same-length-15 c = c .before .before .before .before .before .before .before .before .before .before .before .before .before .before .read .kept .1 .1 .1 .0
-
-same-length-16 : tie.Need-same-length-16
-same-length-16 c = c .before .before .before .before .read-foot .kept .1 .1 .1 .0 ∙ c .before .before .before .before .before .before .before .before .before .before .before .before .before .before .before .before .before .before .before .before .before .before .clear-bytes .kept .0
-
-returns-4 : tie.Need-returns-4
-returns-4 c =
-    let r = c .before .before .before .before .before .before .before .before .before .before .before .before .before .before in
-    quick-passed _ _ _ _ _ (r .before .before .before .before .before .before .before .before .before .before .if1 .left) _ (r .before .before .before .before .before .quick-end .ensures) _ _ _ _ (r .read .ensures) (c .before .before .before .before .before .before .enum-told .given .1) _ _ (c .before .before .before .before .read-foot .ensures) (c .enum-told3 .given .1)
+loop-again : tie.Need-loop-again Inv-loop μ-loop
+loop-again c =
+    let k = c .before .before .before .before .before .before .before .before .before .before .before .read-cut .kept in
+    trying-turn (c .before .before .before .before .before .before .before .before .before .before .before .before .before .before .before .before .loop .inv) _ _ _ _ (k .1 .1 .0) (k .1 .1 .1 .0) (k .1 .1 .1 .1 .0) (k .1 .1 .1 .1 .1 .0) _ (c .plan-end .ensures)
 
 pub read-spec : {M : Type 1} → statement M
 read-spec =
     tie.close
     (tie.spec
-    read-cut-requires
+    Inv-loop
+    μ-loop
+    clear-requires
+    clear-requires-2
+    clear-requires-3
+    clear-bytes-requires
+    refusal-requires
     same-length
     same-length-2
     same-length-3
     same-length-4
     returns
-    clear-bytes-requires
     quick-end-requires
-    slice-aggregate-read
-    read-requires
-    enum-told
-    enum-told-2
-    read-cut-requires-2
+    loop-holds
+    read-cut-requires
+    does-count-requires
     same-length-5
     same-length-6
     same-length-7
     same-length-8
     returns-2
-    read-foot-requires
-    enum-told-3
-    enum-told-4
-    read-cut-requires-3
-    same-length-9
-    same-length-10
-    same-length-11
-    same-length-12
-    returns-3
-    same-length-13
-    same-length-14
-    same-length-15
-    same-length-16
-    returns-4)
+    plan-end-requires
+    loop-less
+    loop-again)
