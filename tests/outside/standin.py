@@ -9,9 +9,11 @@ tells nothing.
 """
 
 import sys
+from random import Random
 from typing import NamedTuple
 
 from generate.left import BLOCK, Side, side
+from generate.sets import foreign_set
 from model import (
     ask,
     calls,
@@ -26,9 +28,10 @@ from model import (
 from model.factors import Factored, Factors, factor, reduce, schedule
 from model.limits import GREATEST_OWNER, GREATEST_TEXT
 from model.plan_text import LAST_LINE, OWNERS_WORD, read_plan
-from model.questions import Answer
+from model.questions import Answer, answer
 from model.refusals import Refusal
 from model.storage import row, store
+from model.sums import mixed
 from programs import REQUEST, RESPONSE
 
 
@@ -242,6 +245,34 @@ def closed_always():
 
 def same_x_always():
     _spoil_answers(lambda plan, factors, y: Answer(True, (0,) * plan.n, (0,) * plan.m))
+
+
+def answers_from_two_sets():
+    """Where the values have an odd sum, the answer is that of a set with other
+    pivots: right by itself, but its x does not add up with the others."""
+
+    def wrong(plan, factors, y):
+        other = foreign_set(Random("two sets"), plan)
+        return answer(plan, other if sum(y) % 2 else factors, y)
+
+    _spoil_answers(wrong)
+
+
+def z_adds_up():
+    """Every column where something remains gives its z, as many times as there
+    remains: so z adds up as x does, and is another for a multiple of a question."""
+
+    def wrong(plan, factors, y):
+        found = answer(plan, factors, y)
+        upper = [row(factors.U, k) for k in range(factors.r)]
+        cells = {j: value for j, value in enumerate(y) if value}
+        _, remainder = reduce(cells, upper, factors.C[: factors.r], plan.p)
+        z = found.z if found.is_open else (0,) * plan.m
+        for free, times in remainder.items():
+            z = mixed(plan.p, 1, z, times, questions._kernel(plan, factors, upper, free))
+        return found._replace(z=z)
+
+    _spoil_answers(wrong)
 
 
 def blank_factors():
@@ -475,6 +506,8 @@ DEFECTS = {
         storage_one_too_short,
         closed_always,
         same_x_always,
+        answers_from_two_sets,
+        z_adds_up,
         blank_factors,
         rank_made_up,
         totals_by_pivots,

@@ -26,6 +26,7 @@ from model.refusals import REPEATED
 from programs import FILLER, Ask, Calls, Crash, Report, compile_driver
 from samples import PLAN
 from standin import DEFECTS
+from sums import found_lines, law_differences, model_differences, random_sums, worked_sums
 from sweeps import EMPTY, modulus_cases
 from worked import (
     AFTER_D,
@@ -85,6 +86,8 @@ SHOWN_BY = {
     "storage_one_too_short": ("calls", "report"),
     "closed_always": ("report", "ask"),
     "same_x_always": ("report", "ask"),
+    "answers_from_two_sets": ("ask",),
+    "z_adds_up": ("ask",),
     "blank_factors": ("calls",),
     "rank_made_up": ("report",),
     "totals_by_pivots": ("report",),
@@ -175,6 +178,28 @@ class Notices(unittest.TestCase):
             for program in programs:
                 with self.subTest(defect=defect, program=program):
                     self.assertTrue(notices(cases, standin(program, defect)))
+
+    def test_sums_show_what_does_not_add_up(self):
+        """By the program's own answers, without the model's, on plan D and on two
+        plans with dependent rows and closed words; the right program shows no
+        difference."""
+        several = [worked_sums(), random_sums("noticed", 0), random_sums("noticed", 8)]
+        for sums in several:
+            for defect in ("answers_from_two_sets", "z_adds_up"):
+                lines = found_lines(sums, standin("ask", defect))
+                self.assertTrue(any(law_differences(sums, lines)), (defect, sums[0].origin))
+        for sums in several[:2]:
+            lines = found_lines(sums, standin("ask"))
+            self.assertEqual([*model_differences(lines), *law_differences(sums, lines)], [])
+
+    def test_sums_take_any_line(self):
+        """A line that is no answer is a difference from the model alone."""
+        sums = worked_sums()
+        right = {case: expected(case) for case in found_lines(sums, standin("ask"))}
+        for line in (b"", b"open\n", b"closed 1\n", b"open 1 x\n", Crash("signal 6")):
+            lines = dict.fromkeys(right, line)
+            self.assertEqual(len(list(model_differences(lines))), len(right))
+            self.assertEqual(list(law_differences(sums, lines)), [])
 
     def test_small_plans_show_another_order_and_longer_cycles(self):
         """The worked plans without plan D."""

@@ -9,7 +9,6 @@ from model import enumeration
 from model.certificate import write
 from model.questions import answer, answer_from_certificate, answer_from_factors, open_words
 from model.refusals import Refusal
-from model.storage import Rows, plan_of
 from samples import FACTORS, PLAN, factors_of, plans, sets_that_pass, small_plans
 
 
@@ -72,12 +71,6 @@ class Questions(unittest.TestCase):
                     answer_from_factors(plan, factors, y),
                     answer_from_certificate(plan, write(plan, factors), y),
                 )
-
-    def test_two_closed_questions_may_add_up_to_an_open_one(self):
-        plan = plan_of(7, 1, 2, Rows((0, 2), (0, 1), (1, 1)))
-        factors = factors_of(plan)
-        verdicts = [answer(plan, factors, y).is_open for y in ((1, 0), (0, 1), (1, 1))]
-        self.assertEqual(verdicts, [False, False, True])
 
 
 if __name__ == "__main__":

@@ -14,6 +14,7 @@ from model.plan_text import read_plan
 from model.questions import answer
 from model.refusals import DONE, NOT_PRIME, Refusal
 from model.report import refused, report
+from model.sums import mixed
 from samples import FACTORS, PLAN, factors_of
 from sweeps import AMPLE, modulus_cases, sieve
 from worked import (
@@ -29,6 +30,7 @@ from worked import (
     REFUSALS,
     REPORTS,
     ROOMS,
+    SUMS,
 )
 
 EXAMPLES = Path(__file__).resolve().parents[2] / "examples"
@@ -64,6 +66,11 @@ class WorkedCases(unittest.TestCase):
             self.assertEqual(ask(PLAN_D, y), output)
             self.assertEqual(ask(OWNED_D, y), output)
             self.assertEqual(answer(PLAN, EARLIER_D, y), answer(PLAN, FACTORS, y))
+
+    def test_sums(self):
+        for a, y, line, b, other, other_line, sum_line in SUMS:
+            lines = [ask(PLAN_D, asked) for asked in (y, other, mixed(7, a, y, b, other))]
+            self.assertEqual(lines, [line, other_line, sum_line])
 
     def test_questions_by_text(self):
         for text, output in ASKED:

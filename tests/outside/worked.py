@@ -1,5 +1,6 @@
 """The worked cases of document 01 with their results, letter by letter (document 01, "Report and cases").
-Those of the structural pivots are worked by slip 9 of the change requests, those of owners by slip 4.
+Those of the structural pivots are worked by slip 9 of the change requests, those of owners by slip 4,
+sums by slip 14.
 
     PLAN_D        the text of plan D; FALLING_D and BY_COLUMN_D, the same plan in other orders
     OWNED_D       the same with a line of owners
@@ -12,6 +13,7 @@ Those of the structural pivots are worked by slip 9 of the change requests, thos
     LARGEST_VALUES   a plan modulo the largest modulus, with values near it
     LARGE_PRIMES, NO_LARGE_MODULI   moduli past the table of divisors, accepted and refused
     QUESTIONS     questions on plan D with what the question program prints
+    SUMS          weights and questions on plan D, with what it prints for each and for their sum
     ASKED         texts with a question after the plan, and what it prints
     EDITED        plan D's set with one number changed, and the refusal
     ROOMS         rooms for L and U on plan D, and the refusal, or None where they suffice
@@ -481,6 +483,32 @@ QUESTIONS = (
     ((0, 0, 0, 0, 1), b"open 0 0 0 0 5\n"),
     ((0, 0, 1, 6, 0), b"open 0 6 0 3 0\n"),
     ((1, 0, 0, 0, 0), b"closed 3 2 1 1 0\n"),
+)
+
+SUMS = (
+    # Two closed questions that add up to an open one.
+    (
+        *(1, (0, 0, 1, 0, 0), b"closed 3 2 1 1 0\n"),
+        *(1, (0, 0, 0, 6, 0), b"closed 3 2 1 1 0\n"),
+        b"open 0 6 0 3 0\n",
+    ),
+    # Two open ones: x adds up modulo 7.
+    (
+        *(3, (0, 0, 0, 0, 1), b"open 0 0 0 0 5\n"),
+        *(2, (0, 0, 1, 6, 0), b"open 0 6 0 3 0\n"),
+        b"open 0 5 0 6 1\n",
+    ),
+    # An open one and a closed one, whichever comes first: z stays.
+    (
+        *(3, (0, 0, 0, 0, 1), b"open 0 0 0 0 5\n"),
+        *(2, (1, 0, 0, 0, 0), b"closed 3 2 1 1 0\n"),
+        b"closed 3 2 1 1 0\n",
+    ),
+    (
+        *(5, (1, 0, 0, 0, 0), b"closed 3 2 1 1 0\n"),
+        *(1, (0, 0, 1, 6, 0), b"open 0 6 0 3 0\n"),
+        b"closed 3 2 1 1 0\n",
+    ),
 )
 
 ASKED = (

@@ -4,6 +4,7 @@ pub mod Dot
 pub mod Triangular
 pub mod Finite
 pub mod Reduction
+pub mod Mixed
 pub mod Verdict
 pub mod Settings
 pub mod Rank

@@ -21,7 +21,7 @@ module _ (p : ℕ) (pos : 0 < p) (m r : ℕ) (C : ℕ → ℕ) (U : Matrix) (ins
   reduced-small (suc k) j h = mod-lt (reduced p C U k y j + (p - reduced p C U k y (C k)) * U k j) pos
 
   -- one step
-  reduced-step : (k : ℕ) → k < r → (j : ℕ) → reduced p C U (suc k) y j + taken k * U k j ≈⟨ p ⟩ reduced p C U k y j
+  pub reduced-step : (k : ℕ) → k < r → (j : ℕ) → reduced p C U (suc k) y j + taken k * U k j ≈⟨ p ⟩ reduced p C U k y j
   unfolding reduced taken
   reduced-step k h j =
       same-mod (reduced p C U k y j + (p - taken k) * U k j) ⊕ same-refl (taken k * U k j)

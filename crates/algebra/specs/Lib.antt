@@ -6,5 +6,6 @@ pub mod Rank
 pub mod RowSpace
 pub mod Factors
 pub mod Reduction
+pub mod Mixed
 pub mod Answer
 pub mod Settings

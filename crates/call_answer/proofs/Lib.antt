@@ -1,3 +1,4 @@
 pub mod Lengths
 pub mod Ways
 pub mod Theorems
+pub mod Sums

@@ -3,6 +3,7 @@
 --   stored-after, bytes-after          so every question of m residues is answered where a call that checks the set has returned 0
 --   stored-right, bytes-right          and then the answer is right (`AnswersRight`): open exactly if some x has x A = y, with the x or z described; one value
 --                                      where it is open, every value where it is closed
+--   stored-solved, bytes-solved        what was returned and left is what `solve` gives, from a set that passed (`SolvedFrom`)
 --   stored-judged, bytes-judged        after the tests of lengths and plan, none of 10 to 14 is returned exactly if shape and product are right
 --   stored-by, bytes-by                the numbers of the table by which it refuses
 --   stored-cleared, bytes-cleared      a refusal leaves x and z all zero
@@ -30,13 +31,15 @@ use Rattle.algebra.specs.RowSpace.{InRowSpace}
 use Rattle.algebra.specs.Answer.{OpenAnswer, ClosedAnswer}
 use Rattle.algebra.specs.Congruence.{_≈⟨_⟩_}
 use Rattle.algebra.specs.Sum.{dot}
+use Rattle.algebra.specs.Prime.{Prime}
 use Rattle.sparse.specs.Row.{Below}
 use Rattle.sparse.specs.Matrix.{Compressed, matrix}
 use Rattle.sparse.specs.Set.{Set}
-use Rattle.pluq.specs.Judge.{Passes}
+use Rattle.pluq.specs.Judge.{judge, Passes}
 use Rattle.row_space.specs.Question.{questionOutcome}
 use Rattle.row_space.specs.Solve.{Solved, solve, remainder, lowestOf}
 use Rattle.row_space.specs.declared.Verdict.{Verdict}
+use Rattle.row_space.proofs.Solutions.{solve-lengths}
 use Rattle.row_space.proofs.Theorems as sets
 use Rattle.certificate.specs.Layout.{Sized}
 use Rattle.certificate.specs.Reading.{headerOk, setOfCertificate}
@@ -93,6 +96,20 @@ askable-lengths p n m y a b h = and-both (eqb (length y) m) (eqb a n && eqb b m)
 -- the numbers by which a call with a question refuses
 abbrev faults : List ℕ
 faults = (wrongLength ∷ []) ++ ((planFaults ++ setFaults) ++ (questionTooLarge ∷ []))
+
+-- ---- what `solve` gives, as it was returned and left
+
+-- the set s passed, y holds m residues, and the answer r with the lists x and z is that of `solve`
+pub record SolvedFrom (p n m : ℕ) (A : Compressed) (s : Set) (y : List ℕ) (r : Answer) (x z : List ℕ) : Type 0 where
+  pub prime : Prime p
+  pub sized : Sized n m s
+  pub judged : judge p n m A s ≡ Outcome.Passed
+  pub residues : (j : ℕ) → j < m → vector y j < p
+  pub answer : r ≡ answerOf (solve p n m s (vector y) .verdict)
+  pub opened : r ≡ Answer.Open → solve p n m s (vector y) .verdict ≡ Verdict.Open
+  pub closed : r ≡ Answer.Closed → solve p n m s (vector y) .verdict ≡ Verdict.Closed
+  pub x-is : x ≡ solve p n m s (vector y) .x
+  pub z-is : z ≡ solve p n m s (vector y) .z
 
 -- ---- for any check of a set, which passes exactly X
 
@@ -182,6 +199,21 @@ module _ (X : Type 0) (p n m : ℕ) (A : Compressed) (s : Set) (y : List ℕ) (r
     z-left : length (solved .z) ≡ m → z ≡ solved .z
     z-left long = call .z-is ∙ ap (λ (o : Outcome). filled (length z₀) (given o solved .z)) passed ∙ filled-whole (length z₀) (solved .z) (long ∙ sym (ask .columns))
 
+    solved-from : SolvedFrom p n m A s y r x z
+    solved-from =
+        let (long-x, long-z) = solve-lengths p n m s (vector y) in
+        record {
+          prime = c .prime;
+          sized = c .sized;
+          judged = c .judged;
+          residues = inside;
+          answer = answer-is;
+          opened = opened;
+          closed = closed;
+          x-is = x-left long-x;
+          z-is = z-left long-z;
+        }
+
     open-left : r ≡ Answer.Open → LeftOpen p n m A s y x z
     open-left e =
         let (long, right, none) = sets.open-answer (c .prime) n m A s (c .sized .row-order) (c .sized .column-order) (c .judged) y inside (opened e) in
@@ -238,6 +270,11 @@ module _ (p n m : ℕ) (A : Compressed) (s : Set) (y : List ℕ) (r : Answer) (x
   stored-right =
       right _ p n m A s y r x₀ x z₀ z w₀ w (stored-test p n m A s (length w₀)) call
 
+  pub stored-solved : answerNumber r ≡ 0 → SolvedFrom p n m A s y r x z
+  unfolding answerFactorsOf
+  stored-solved =
+      solved-from _ p n m A s y r x₀ x z₀ z w₀ w (stored-test p n m A s (length w₀)) call
+
   pub stored-by : NumberFrom faults (answerNumber r)
   unfolding answerFactorsOf
   stored-by = by _ p n m A s y r x₀ x z₀ z w₀ w (stored-test p n m A s (length w₀)) call
@@ -275,6 +312,11 @@ module _ (p n m : ℕ) (A : Compressed) (cert y : List ℕ) (r : Answer) (x₀ x
   unfolding answerCertificateOf
   bytes-right =
       right _ p n m A set y r x₀ x z₀ z w₀ w (bytes-test p n m A cert (length w₀)) call
+
+  pub bytes-solved : answerNumber r ≡ 0 → SolvedFrom p n m A set y r x z
+  unfolding answerCertificateOf
+  bytes-solved =
+      solved-from _ p n m A set y r x₀ x z₀ z w₀ w (bytes-test p n m A cert (length w₀)) call
 
   pub bytes-by : NumberFrom faults (answerNumber r)
   unfolding answerCertificateOf

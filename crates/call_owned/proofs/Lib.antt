@@ -1,3 +1,4 @@
 pub mod Owned
 pub mod Ways
 pub mod Answers
+pub mod Sums

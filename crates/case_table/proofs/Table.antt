@@ -1,5 +1,6 @@
--- The joint table of the proved cases of document 01 ("Report and cases"), those of plan D as slip 9 works them anew, and of the owners
--- that may follow it (slip 4), each by computing the definitions that the contracts cite. D's pairs, factors and rooms are computed beside the rule, in elimination's Example.
+-- The joint table of the proved cases of document 01 ("Report and cases"), those of plan D as slip 9 works them anew, of the owners that may follow it (slip 4) and of
+-- questions that add up (slip 14), each by computing the definitions that the contracts cite. D's pairs, factors and rooms are computed beside the rule, in
+-- elimination's Example.
 use Prim.Native.Nat.{ℕ}
 use mathlib.Core.Path.{_≡_, refl}
 use mathlib.Core.List.{List, [], _∷_, _++_}
@@ -15,6 +16,7 @@ use Rattle.algebra.specs.Prime.{Prime}
 use Rattle.algebra.specs.Matrix.{vector}
 use Rattle.algebra.specs.Rank.{Rank}
 use Rattle.algebra.specs.Reduction.{reduced, multiples}
+use Rattle.algebra.specs.Mixed.{mixedList}
 use Rattle.residue.specs.Inverse.{invMod, inverseBelow}
 use Rattle.residue.specs.Primality.{isPrime, dividedBelow}
 use Rattle.residue.specs.Range.{isModulus}
@@ -85,6 +87,15 @@ pub record Table : Type 0 where
   pub D-word : solve 7 5 5 (setD 3 1) (vector (0 ∷ 0 ∷ 0 ∷ 0 ∷ 1 ∷ [])) ≡ record { verdict = Open; x = 0 ∷ 0 ∷ 0 ∷ 0 ∷ 5 ∷ []; z = 0 ∷ 0 ∷ 0 ∷ 0 ∷ 0 ∷ [] }
   pub D-sum : solve 7 5 5 (setD 3 1) (vector (0 ∷ 0 ∷ 1 ∷ 6 ∷ 0 ∷ [])) ≡ record { verdict = Open; x = 0 ∷ 6 ∷ 0 ∷ 3 ∷ 0 ∷ []; z = 0 ∷ 0 ∷ 0 ∷ 0 ∷ 0 ∷ [] }
   pub D-hidden : solve 7 5 5 (setD 3 1) (vector (1 ∷ 0 ∷ 0 ∷ 0 ∷ 0 ∷ [])) ≡ record { verdict = Closed; x = 0 ∷ 0 ∷ 0 ∷ 0 ∷ 0 ∷ []; z = 3 ∷ 2 ∷ 1 ∷ 1 ∷ 0 ∷ [] }
+  -- questions that add up: two closed ones to the open one above, and 3 times the open word with 2 times that open one
+  pub D-third : solve 7 5 5 (setD 3 1) (vector (0 ∷ 0 ∷ 1 ∷ 0 ∷ 0 ∷ [])) ≡ record { verdict = Closed; x = 0 ∷ 0 ∷ 0 ∷ 0 ∷ 0 ∷ []; z = 3 ∷ 2 ∷ 1 ∷ 1 ∷ 0 ∷ [] }
+  pub D-fourth : solve 7 5 5 (setD 3 1) (vector (0 ∷ 0 ∷ 0 ∷ 6 ∷ 0 ∷ [])) ≡ record { verdict = Closed; x = 0 ∷ 0 ∷ 0 ∷ 0 ∷ 0 ∷ []; z = 3 ∷ 2 ∷ 1 ∷ 1 ∷ 0 ∷ [] }
+  pub D-pair : mixedList 5 7 1 1 (0 ∷ 0 ∷ 1 ∷ 0 ∷ 0 ∷ []) (0 ∷ 0 ∷ 0 ∷ 6 ∷ 0 ∷ []) ≡ 0 ∷ 0 ∷ 1 ∷ 6 ∷ 0 ∷ []
+  pub D-pair-opens : solve 7 5 5 (setD 3 1) (vector (mixedList 5 7 1 1 (0 ∷ 0 ∷ 1 ∷ 0 ∷ 0 ∷ []) (0 ∷ 0 ∷ 0 ∷ 6 ∷ 0 ∷ [])))
+      ≡ record { verdict = Open; x = 0 ∷ 6 ∷ 0 ∷ 3 ∷ 0 ∷ []; z = 0 ∷ 0 ∷ 0 ∷ 0 ∷ 0 ∷ [] }
+  pub D-mixed : solve 7 5 5 (setD 3 1) (vector (mixedList 5 7 3 2 (0 ∷ 0 ∷ 0 ∷ 0 ∷ 1 ∷ []) (0 ∷ 0 ∷ 1 ∷ 6 ∷ 0 ∷ [])))
+      ≡ record { verdict = Open; x = 0 ∷ 5 ∷ 0 ∷ 6 ∷ 1 ∷ []; z = 0 ∷ 0 ∷ 0 ∷ 0 ∷ 0 ∷ [] }
+  pub D-mixed-x : mixedList 5 7 3 2 (0 ∷ 0 ∷ 0 ∷ 0 ∷ 5 ∷ []) (0 ∷ 6 ∷ 0 ∷ 3 ∷ 0 ∷ []) ≡ 0 ∷ 5 ∷ 0 ∷ 6 ∷ 1 ∷ []
   -- what may follow D's text, from line 15 on: nothing; `owners 1 1 2 2 0`; 256 among them, and a malformed number after it; no words and the bare word `owners`
   pub D-unowned : ownersIn 5 15 (pieces 10 []) ≡ owned (1 ∷ 1 ∷ 1 ∷ 1 ∷ 1 ∷ [])
   pub D-owners : ownersIn 5 15 (pieces 10 (111 ∷ 119 ∷ 110 ∷ 101 ∷ 114 ∷ 115 ∷ 32 ∷ 49 ∷ 32 ∷ 49 ∷ 32 ∷ 50 ∷ 32 ∷ 50 ∷ 32 ∷ 48 ∷ 10 ∷ [])) ≡ owned (1 ∷ 1 ∷ 2 ∷ 2 ∷ 0 ∷ [])
@@ -131,4 +142,10 @@ table =
       D-owner-256 = refl;
       D-owner-malformed = refl;
       no-owners = refl;
+      D-third = refl;
+      D-fourth = refl;
+      D-pair = refl;
+      D-pair-opens = refl;
+      D-mixed = refl;
+      D-mixed-x = refl;
     }

@@ -2,6 +2,7 @@ pub mod Substitutions
 pub mod Solutions
 pub mod UnitQuestions
 pub mod Theorems
+pub mod Sums
 pub mod Diagonal
 pub mod RowParts
 pub mod LowerLoop

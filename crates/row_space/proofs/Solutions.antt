@@ -7,11 +7,12 @@ use Prim.Native.Nat.{ℕ, _≤_, _<_}
 use native.Mathlib.Decide.{ℕ-discrete, decLt}
 use native.Mathlib.Omega.{arith}
 use lib.Dec.{eqb, leb}
+use lib.ListN.{length}
 use borrow.Author.Tests.{eqb-true, eqb-false, le-leb, lt-leb}
 use Rattle.lists.specs.Filled.{zeros}
 use Rattle.lists.specs.Tabulate.{tabulate}
 use Rattle.lists.specs.Tests.{first}
-use Rattle.lists.proofs.Filled.{zeros-replicate}
+use Rattle.lists.proofs.Filled.{length-zeros, zeros-replicate}
 use Rattle.lists.proofs.Tabulate.{length-tabulate, tabulate-at}
 use Rattle.lists.proofs.Tests.{first-before, first-here}
 use Rattle.algebra.specs.Sum.{δ, place}
@@ -75,6 +76,14 @@ solve-cases p n m s y = go (lowest-cases m (remainder p s y))
         → (AllZero m (remainder p s y) × (pick (leb m j) ≡ opened m (openX p n s y))) ⊎ (Lowest m (remainder p s y) j × (pick (leb m j) ≡ closed n (closedZ p m s y)))
     go (inl (h, none)) = inl (none, ap pick (le-leb m j h))
     go (inr (h, low)) = inr (low, ap pick (lt-leb m j h))
+
+-- x and z have their lengths in both
+pub solve-lengths : (p n m : ℕ) (s : Set) (y : Vector) → (length (solve p n m s y .x) ≡ n) × (length (solve p n m s y .z) ≡ m)
+solve-lengths p n m s y =
+    elim (solve-cases p n m s y) [
+      | inl c ↦ (ap (λ (a : Solved). length (a .x)) (c .1) ∙ length-tabulate n _, ap (λ (a : Solved). length (a .z)) (c .1) ∙ length-zeros m)
+      | inr c ↦ (ap (λ (a : Solved). length (a .x)) (c .1) ∙ length-zeros n, ap (λ (a : Solved). length (a .z)) (c .1) ∙ length-tabulate m _)
+    ]
 
 module _ {p : ℕ} (prime : Prime p) {n m : ℕ} {A : Compressed} {s : Set} (ok : Passes p n m A s) (y : List ℕ) (small : (j : ℕ) → j < m → vector y j < p) where
   pos : 0 < p

@@ -2,6 +2,7 @@
 line of owners, slip 4 of the change requests).
 
     ask          the output for a text and a question
+    answer_line  the line of an answer
     ask_by_text  the output for a text that the question follows
     plan_end     where the plan's text ends in such a text
 """
@@ -28,6 +29,10 @@ def ask(text, y):
     if isinstance(answer, Refusal):
         counted = answer.detail + (answer.number == QUESTION_VALUE)
         return refused(Refusal(answer.number, counted))
+    return answer_line(answer)
+
+
+def answer_line(answer):
     verdict, cells = ("open", answer.x) if answer.is_open else ("closed", answer.z)
     return printed(" ".join([verdict, *map(str, cells)]))
 
