@@ -2,6 +2,7 @@
 
     output        what a command prints
     stage_times   factoring and the whole report within one process
+    words_time    the words from slot values within one process
     call_times    the C calls within one process
 """
 
@@ -24,6 +25,12 @@ def stage_times(program, runs, file):
         "factoring": (int(found), float(factoring)),
         "in process": (int(reported), float(whole)),
     }
+
+
+def words_time(program, runs, file):
+    """The rank and the seconds, by `words` on a plan text."""
+    rank, seconds = output([program, runs, file]).split()
+    return {"words": (int(rank), float(seconds))}
 
 
 def call_times(program, runs, file):

@@ -11,7 +11,7 @@ from rattle import Source
 
 LIBRARY = "plq"
 PROGRAMS = ("report", "ask")
-PROGRAM_CALLS = (("report_lib", "report"), ("ask_lib", "ask"))
+PROGRAM_CALLS = (("report_lib", "report"), ("ask_lib", "ask"), ("ask_words", "words"))
 THEOREMS = "theorems"
 TYPE_NAME = re.compile(r"(?:\w+::)*[A-Z]\w*[a-z]\w*")
 

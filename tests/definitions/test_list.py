@@ -89,6 +89,7 @@ FILES = {
     "plq/src/lib.rt": "pub use calls::call as first_call;\n",
     "report_lib/src/lib.rt": "pub fn report() {\n}\n",
     "ask_lib/src/lib.rt": "pub fn ask() {\n}\n",
+    "ask_words/src/lib.rt": "pub fn words() {\n}\n",
     "report/src/main.rt": "fn main() {\n}\n",
     "ask/src/main.rt": "fn main() {\n}\n",
     "theorems/proofs/Demand.antt": "",

@@ -10,16 +10,19 @@ import json
 from pathlib import Path
 from typing import NamedTuple
 
-from model.ask import ask, ask_by_text
+from model.ask import ask, ask_by_text, ask_words, ask_words_by_text
 from model.calls import check_certificate, make_certificate
 from model.report import report
 
 KEPT = Path(__file__).parent / "kept"
+# The calls that take values, as arguments and after the text.
+VALUES_TAKEN = {"ask": (ask, ask_by_text), "words": (ask_words, ask_words_by_text)}
 
 
 class Case(NamedTuple):
-    """`call` is report, ask, make or check; the other fields as it needs them.
-    A question that is not given as arguments may follow the plan in `text`."""
+    """`call` is report, ask, words, make or check; the other fields as it needs
+    them. For words the question is slot values. One that is not given as arguments
+    may follow the plan in `text`."""
 
     call: str
     text: bytes
@@ -34,8 +37,9 @@ def expected(case):
     bytes as the call leaves them."""
     if case.call == "report":
         return report(case.text)
-    if case.call == "ask":
-        return ask(case.text, case.question) if case.question else ask_by_text(case.text)
+    if case.call in VALUES_TAKEN:
+        by_arguments, by_text = VALUES_TAKEN[case.call]
+        return by_arguments(case.text, case.question) if case.question else by_text(case.text)
     if case.call == "make":
         return make_certificate(case.text, case.buffer_length)
     return check_certificate(case.text, case.certificate), case.certificate

@@ -1,8 +1,9 @@
 """Programs beside the model on worked, kept and random cases.
 
     plan_cases       all cases of one random plan
-    tiny_cases       every question on one tiny plan
+    tiny_cases       every question and all slot values on one tiny plan
     asked_cases      questions that follow a plan and its owners
+    words_cases      the worked slot values
     fixed_cases      worked cases, limits, sweeps and damages of plan D
     differences      the cases on which a program and the model differ
 """
@@ -21,9 +22,17 @@ from generate.certificates import (
 )
 from generate.edges import edge_texts, lower_edge, upper_edge
 from generate.left import plan_in_turn
-from generate.plans import build, dense, tiny_plan
+from generate.plans import EDGES, build, dense, tiny_plan
 from generate.sets import with_value
-from generate.texts import damaged_text, plain_text, question_text, random_question, varied_text
+from generate.slots import every_slots, given_slots, longest_lines, slot_values
+from generate.texts import (
+    damaged_text,
+    plain_text,
+    question_text,
+    random_question,
+    values_text,
+    varied_text,
+)
 from model.certificate import write
 from model.factors import factor
 from model.limits import GREATEST_ENTRIES
@@ -44,6 +53,8 @@ from worked import (
     QUESTIONS,
     REFUSALS,
     REPORTS,
+    WORDS,
+    WORDS_ASKED,
 )
 
 SMALL = 1_500  # cells of a plan up to which its sets are varied at length
@@ -84,6 +95,22 @@ def _printed_cases(rng, plan, text, origin):
         yield Case("ask", damaged + question_text(rng, plan), origin=origin)
 
 
+def _words_case(rng, text, h, origin):
+    """Slot values as arguments, or after the plan."""
+    if rng.random() < 0.7:
+        return Case("words", text, question=h, origin=origin)
+    return Case("words", text + values_text(rng, h), origin=origin)
+
+
+def _words_cases(rng, plan, text, origin):
+    """Slot values of every sort, and now and then with a damaged text."""
+    for h in slot_values(rng, plan):
+        yield _words_case(rng, text, h, origin)
+    if rng.random() < 0.15:
+        damaged = damaged_text(rng, text)
+        yield _words_case(rng, damaged, given_slots(rng, plan), origin)
+
+
 def _certificates(rng, plan, factors):
     """Certificates to be checked for a plan; fewer for a large one."""
     own = write(plan, factors)
@@ -118,16 +145,21 @@ def plan_cases(seed, index):
     text = varied_text(rng, plan)
     yield from _printed_cases(rng, plan, text, origin)
     yield from _call_cases(rng, plan, text, origin)
+    yield from _words_cases(rng, plan, text, origin)
 
 
 def tiny_cases(seed, index, most):
-    """Up to `most` questions on a tiny plan, spread over all of them."""
+    """Up to `most` questions on a tiny plan, spread over all of them, and as many
+    slot values."""
     rng = Random(f"tiny {seed} {index}")
+    origin = f"seed {seed} tiny {index}"
     plan = tiny_plan(rng)
     text = varied_text(rng, plan)
     questions = list(product(range(plan.p), repeat=plan.m))
     for y in rng.sample(questions, min(most, len(questions))):
-        yield Case("ask", text, question=y, origin=f"seed {seed} tiny {index}")
+        yield Case("ask", text, question=y, origin=origin)
+    for h in every_slots(rng, plan, most):
+        yield Case("words", text, question=h, origin=origin)
 
 
 def _plan_d_cases():
@@ -143,6 +175,7 @@ def _plan_d_cases():
         for certificate in (own, write(plan, EARLIER_D)):
             yield Case("check", text, certificate=certificate, origin="plan D")
     yield from asked_cases()
+    yield from words_cases()
     for which, place, value, _ in EDITED:
         edited = with_value(factors, which, place, value)
         yield Case("check", PLAN_D, certificate=write(plan, edited), origin="plan D edited")
@@ -159,6 +192,34 @@ def asked_cases():
         yield Case("ask", text, origin="question by text")
     for after, _ in AFTER_D:
         yield Case("ask", PLAN_D + after + b"0 0 0 0 1\n", origin="question by text")
+
+
+def words_cases():
+    """As arguments, and after the plan."""
+    for text, h, _ in WORDS:
+        yield Case("words", text, question=h, origin="worked words")
+    for text, _ in WORDS_ASKED:
+        yield Case("words", text, origin="words by text")
+
+
+def _words_edge_cases(rng):
+    """Slot values of plan D with owners, and after each line that may follow it; on
+    small plans; with the longest lines; and where the rooms are too short, which
+    comes before another number of values."""
+    for h in (h for text, h, _ in WORDS if text == PLAN_D):
+        yield Case("words", OWNED_D, question=h, origin="words with owners")
+    for after, _ in AFTER_D:
+        yield Case("words", PLAN_D + after + b"1 2 4 3 5\n", origin="words by text")
+    for p, n, m in EDGES:
+        plan = build(rng, dense, p, n, m)
+        yield from _words_cases(rng, plan, varied_text(rng, plan), f"words {p} {n} {m}")
+    (plan, h), (other, values) = longest_lines(rng)
+    after = b" ".join(b"%d" % value for value in values)
+    yield Case("words", plain_text(plan), question=h, origin="longest line")
+    yield Case("words", plain_text(other) + after, origin="longest line by text")
+    plan = lower_edge(65_521, GREATEST_ENTRIES + 1)
+    for values in (plan.n, plan.n - 1):
+        yield Case("words", plain_text(plan), question=(0,) * values, origin="words, no room")
 
 
 def _changed_values(factors, p):
@@ -181,6 +242,8 @@ def _large_modulus_cases():
         yield Case("check", LARGEST_VALUES, certificate=write(plan, held), origin="largest modulus")
     for y in product((0, 1, plan.p - 1, plan.p), repeat=plan.m):
         yield Case("ask", LARGEST_VALUES, question=y, origin="largest modulus")
+    for h in product((0, 1, plan.p - 1), repeat=plan.n):
+        yield Case("words", LARGEST_VALUES, question=h, origin="largest modulus")
 
 
 def _large_set_cases():
@@ -210,6 +273,7 @@ def fixed_cases(seed):
     for p, n, m in ((7, 0, 0), (2, 3, 0), (65_521, 4, 5), (251, 9, 6)):
         text = plain_text(build(rng, dense, p, n, m))
         yield from buffer_cases(text, f"buffers {p} {n} {m}")
+    yield from _words_edge_cases(rng)
     yield from modulus_cases(range(MODULI))
 
 

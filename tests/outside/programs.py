@@ -71,12 +71,14 @@ class Report(Program):
 
 
 class Ask(Program):
-    """Takes the question as arguments, or after the plan where there are none."""
+    """Takes the question as arguments, or after the plan where there are none; and
+    after the verb `words` slot values in the same way."""
 
-    calls = ("ask",)
+    calls = ("ask", "words")
 
     def arguments(self, case):
-        return map(str, case.question)
+        verb = ("words",) if case.call == "words" else ()
+        return (*verb, *map(str, case.question))
 
 
 class Calls:

@@ -1,6 +1,6 @@
 """Stand-ins for the programs, made of the model, right or wrong on purpose.
 
-    python3 standin.py report|ask|calls [DEFECT] [question...]
+    python3 standin.py report|ask|calls [DEFECT] [words] [value...]
 
 The wrong ones show that the comparison would notice: a test that cannot fail
 tells nothing.
@@ -22,6 +22,7 @@ from model import (
     plan_text,
     questions,
     report,
+    slots,
     storage,
     structure,
 )
@@ -30,6 +31,7 @@ from model.limits import GREATEST_OWNER, GREATEST_TEXT
 from model.plan_text import LAST_LINE, OWNERS_WORD, read_plan
 from model.questions import Answer, answer
 from model.refusals import Refusal
+from model.slots import SlotSolution, contradictions, setting, slots_from_factors, solve_slots
 from model.storage import row, store
 from model.sums import mixed
 from programs import REQUEST, RESPONSE
@@ -50,6 +52,10 @@ def _spoil_answers(function):
         for j in range(plan.m)
         if function(plan, factors, [int(i == j) for i in range(plan.m)]).is_open
     ]
+
+
+def _spoil_slots(function):
+    slots.solve_slots = function
 
 
 def passes_all():
@@ -273,6 +279,87 @@ def z_adds_up():
         return found._replace(z=z)
 
     _spoil_answers(wrong)
+
+
+def contradiction_always():
+    _spoil_slots(lambda plan, factors, h: SlotSolution(False, (0,) * plan.m, (0,) * plan.n))
+
+
+def pivot_slots_only():
+    """What the other slots have is not looked at, and all is solved."""
+    _spoil_slots(
+        lambda plan, factors, h: SlotSolution(True, setting(plan, factors, h), (0,) * plan.n)
+    )
+
+
+def lower_diagonal_of_one():
+    """Nothing is divided by the diagonal of L: the slots are those of another plan."""
+
+    def wrong(plan, factors, h):
+        rows = {}
+        for i, slot in enumerate(factors.R):
+            lower = {**row(factors.L, i), **({i: 1} if i < factors.r else {})}
+            rows[slot] = total = {}
+            for k, factor in lower.items():
+                for j, value in row(factors.U, k).items():
+                    total[j] = (total.get(j, 0) + factor * value) % plan.p
+        other = plan._replace(rows=store(rows[slot] for slot in range(plan.n)))
+        return solve_slots(other, factors, h)
+
+    _spoil_slots(wrong)
+
+
+def other_word_set():
+    """The first word that is no pivot is 1 and not 0; the slots are the same."""
+
+    def wrong(plan, factors, h):
+        found = solve_slots(plan, factors, h)
+        if not found.solved or factors.r == plan.m:
+            return found
+        upper = [row(factors.U, k) for k in range(factors.r)]
+        z = questions._kernel(plan, factors, upper, factors.C[factors.r])
+        return found._replace(s=mixed(plan.p, 1, found.s, 1, z))
+
+    _spoil_slots(wrong)
+
+
+def highest_slot():
+    """Of the slots that contradict others the highest-numbered is told."""
+
+    def wrong(plan, factors, h):
+        found = solve_slots(plan, factors, h)
+        if found.solved:
+            return found
+        *_, (_, w) = contradictions(plan, factors, h)
+        return found._replace(w=w)
+
+    _spoil_slots(wrong)
+
+
+def opposite_contradiction():
+    """w has -1 at its slot, and is right but for this."""
+
+    def wrong(plan, factors, h):
+        found = solve_slots(plan, factors, h)
+        return found._replace(w=tuple(-value % plan.p for value in found.w))
+
+    _spoil_slots(wrong)
+
+
+def as_many_values_as_words():
+    """As many are wanted; those that are missing for the slots are 0."""
+
+    def wrong(plan, factors, h):
+        if len(h) != plan.m:
+            return Refusal(9)
+        return slots_from_factors(plan, factors, (*h, *(0,) * plan.n)[: plan.n])
+
+    ask.slots_from_factors = wrong
+
+
+def verb_forgotten_after_the_plan():
+    """Where slot values follow the plan they are taken for a question."""
+    ask.ask_words_by_text = ask.ask_by_text
 
 
 def blank_factors():
@@ -508,6 +595,14 @@ DEFECTS = {
         same_x_always,
         answers_from_two_sets,
         z_adds_up,
+        contradiction_always,
+        pivot_slots_only,
+        lower_diagonal_of_one,
+        other_word_set,
+        highest_slot,
+        opposite_contradiction,
+        as_many_values_as_words,
+        verb_forgotten_after_the_plan,
         blank_factors,
         rank_made_up,
         totals_by_pivots,
@@ -546,6 +641,15 @@ def _answer_calls(source, sink):
         sink.write(RESPONSE.pack(number, 1) + lent)
 
 
+def _answer_asked(text, words):
+    """By the verb, if there is one, and by the values, or by what follows the plan."""
+    if words and words[0] == "words":
+        values = tuple(map(int, words[1:]))
+        return ask.ask_words(text, values) if values else ask.ask_words_by_text(text)
+    values = tuple(map(int, words))
+    return ask.ask(text, values) if values else ask.ask_by_text(text)
+
+
 def main(program, *words):
     if words and words[0] in DEFECTS:
         DEFECTS[words[0]]()
@@ -554,8 +658,7 @@ def main(program, *words):
     if program == "report":
         sink.write(report.report(source.read()))
     elif program == "ask":
-        text = source.read()
-        sink.write(ask.ask(text, tuple(map(int, words))) if words else ask.ask_by_text(text))
+        sink.write(_answer_asked(source.read(), words))
     else:
         _answer_calls(source, sink)
 

@@ -14,7 +14,7 @@ from random import Random
 
 from cases import Case, expected
 from compare import Difference
-from generate.plans import build, dense
+from generate.plans import EDGES, build, dense
 from generate.sums import Sum, sum_plan, sums_of_plan
 from model.ask import answer_line
 from model.limits import GREATEST_ENTRIES
@@ -22,10 +22,6 @@ from model.plan_text import read_plan
 from model.questions import Answer
 from model.sums import told
 from worked import PLAN_D, SUMS
-
-# The modulus, the slots and the words: without slots, without words, modulo 2, and modulo
-# the largest.
-EDGES = ((7, 0, 0), (7, 0, 3), (2, 0, 2), (7, 3, 0), (2, 4, 5), (2, 5, 3), (4_294_967_291, 4, 5))
 
 
 def worked_sums():

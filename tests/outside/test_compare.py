@@ -17,6 +17,7 @@ from compare import (
     in_groups,
     plan_cases,
     tiny_cases,
+    words_cases,
 )
 from generate.edges import edge_texts, left_edges, owned_text_of_length
 from generate.left import BLOCK
@@ -88,6 +89,14 @@ SHOWN_BY = {
     "same_x_always": ("report", "ask"),
     "answers_from_two_sets": ("ask",),
     "z_adds_up": ("ask",),
+    "contradiction_always": ("ask",),
+    "pivot_slots_only": ("ask",),
+    "lower_diagonal_of_one": ("ask",),
+    "other_word_set": ("ask",),
+    "highest_slot": ("ask",),
+    "opposite_contradiction": ("ask",),
+    "as_many_values_as_words": ("ask",),
+    "verb_forgotten_after_the_plan": ("ask",),
     "blank_factors": ("calls",),
     "rank_made_up": ("report",),
     "totals_by_pivots": ("report",),
@@ -134,8 +143,8 @@ def owner_cases():
 
 def given_cases():
     """Plan D and the other plans whose factors are worked, plan D in other words,
-    with owners, plans at the edge of the block, repeated places, plans at the edge
-    of the rooms, some moduli, and random plans."""
+    slot values, plan D with owners, plans at the edge of the block, repeated places,
+    plans at the edge of the rooms, some moduli, and random plans."""
     texts = [text for text, _, _ in FACTORED]
     texts += [varied_text(Random(f"varied {index}"), PLAN) for index in range(3)]
     for text in texts:
@@ -144,6 +153,7 @@ def given_cases():
     for y, _ in QUESTIONS:
         yield Case("ask", PLAN_D, question=y)
         yield Case("ask", texts[-1], question=y)
+    yield from words_cases()
     yield from owner_cases()
     yield from block_cases()
     for text in (text for text, refusal in REFUSALS if refusal.number == REPEATED):
@@ -213,7 +223,7 @@ class Reaches(unittest.TestCase):
 
     @classmethod
     def setUpClass(cls):
-        cls.results = {"report": [], "ask": [], "make": [], "check": []}
+        cls.results = {"report": [], "ask": [], "words": [], "make": [], "check": []}
         cases = chain(fixed_cases("reach"), *(plan_cases("reach", i) for i in range(30)))
         for case in cases:
             cls.results[case.call].append(expected(case))
@@ -227,6 +237,12 @@ class Reaches(unittest.TestCase):
         refusals = [b"refused %d at " % number for number in (1, 2, 3, 4, 5, 6, 7, 15, 16)]
         for opening in (*refusals, b"modulus", b"open", b"closed"):
             self.assertTrue(any(line.startswith(opening) for line in printed), opening)
+
+    def test_lines_of_the_words(self):
+        refusals = [b"refused %d at " % number for number in (3, 7, 9, 15, 16)]
+        for opening in (*refusals, b"words", b"contradiction"):
+            found = [line for line in self.results["words"] if line.startswith(opening)]
+            self.assertTrue(found, opening)
 
     def test_a_seed_gives_the_same_cases(self):
         self.assertEqual(*(list(plan_cases("same", 3)) for _ in range(2)))

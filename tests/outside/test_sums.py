@@ -4,7 +4,7 @@ import unittest
 from itertools import chain, product
 from random import Random
 
-from generate.plans import build, dense, tiny_plan
+from generate.plans import EDGES, build, dense, tiny_plan
 from generate.sets import foreign_set
 from generate.sums import sums_of_plan
 from model import enumeration
@@ -14,7 +14,7 @@ from model.questions import answer, answer_from_certificate, answer_from_factors
 from model.storage import Rows, plan_of, store
 from model.sums import mixed, told
 from samples import factors_of, plans, sets_that_pass, small_plans
-from sums import EDGES, fixed_sums, random_sums
+from sums import fixed_sums, random_sums
 
 
 def tall_plan():

@@ -6,7 +6,7 @@ from pathlib import Path
 from cases import expected
 from compare import MODULI
 from generate.sets import with_value
-from model.ask import ask, ask_by_text
+from model.ask import ask, ask_by_text, ask_words, ask_words_by_text
 from model.certificate import write
 from model.check import check_certificate
 from model.factors import factor
@@ -14,6 +14,7 @@ from model.plan_text import read_plan
 from model.questions import answer
 from model.refusals import DONE, NOT_PRIME, Refusal
 from model.report import refused, report
+from model.slots import solve_slots
 from model.sums import mixed
 from samples import FACTORS, PLAN, factors_of
 from sweeps import AMPLE, modulus_cases, sieve
@@ -31,6 +32,8 @@ from worked import (
     REPORTS,
     ROOMS,
     SUMS,
+    WORDS,
+    WORDS_ASKED,
 )
 
 EXAMPLES = Path(__file__).resolve().parents[2] / "examples"
@@ -75,6 +78,23 @@ class WorkedCases(unittest.TestCase):
     def test_questions_by_text(self):
         for text, output in ASKED:
             self.assertEqual(ask_by_text(text), output, text)
+
+    def test_words(self):
+        for text, h, output in WORDS:
+            self.assertEqual(ask_words(text, h), output, (text, h))
+
+    def test_words_of_plan_d(self):
+        """Owners alter nothing, nor does the set that was made before slip 9: it has
+        the same pivot slots and words."""
+        for text, h, output in WORDS:
+            if text == PLAN_D:
+                self.assertEqual(ask_words(OWNED_D, h), output)
+            if text == PLAN_D and not output.startswith(b"refused"):
+                self.assertEqual(solve_slots(PLAN, EARLIER_D, h), solve_slots(PLAN, FACTORS, h))
+
+    def test_words_by_text(self):
+        for text, output in WORDS_ASKED:
+            self.assertEqual(ask_words_by_text(text), output, text)
 
     def test_empty_questions(self):
         none, word = (read_plan(b"7\n0 %d M\n0 0 0\n" % m, 0) for m in (0, 1))

@@ -1,6 +1,6 @@
 """The worked cases of document 01 with their results, letter by letter (document 01, "Report and cases").
 Those of the structural pivots are worked by slip 9 of the change requests, those of owners by slip 4,
-sums by slip 14.
+sums by slip 14, slot values by slip 6.
 
     PLAN_D        the text of plan D; FALLING_D and BY_COLUMN_D, the same plan in other orders
     OWNED_D       the same with a line of owners
@@ -15,6 +15,8 @@ sums by slip 14.
     QUESTIONS     questions on plan D with what the question program prints
     SUMS          weights and questions on plan D, with what it prints for each and for their sum
     ASKED         texts with a question after the plan, and what it prints
+    WORDS         texts and slot values, with what it prints by its verb `words`
+    WORDS_ASKED   texts with slot values after the plan, and what it prints so
     EDITED        plan D's set with one number changed, and the refusal
     ROOMS         rooms for L and U on plan D, and the refusal, or None where they suffice
 """
@@ -534,6 +536,70 @@ ASKED = (
     (PLAN_D + b"owners\t 0 0 0 1\n", b"refused 15 at 1\n"),
     (PLAN_D + b"0 owners 0 0 1\n", b"refused 15 at 2\n"),
     (PLAN_D + b"0 0 0 0 1\nowners 1 1 2 2 0\n", b"refused 9 at 0\n"),
+)
+
+NO_WORDS = b"7\n2 0 M\n0 0 0\n"
+# Slots that hear one word: every two of them contradict each other unless they are the same.
+ONE_WORD = b"7\n3 1 M\n1 1 1\n2 1 1\n3 1 1\n0 0 0\n"
+
+WORDS = (
+    # Of plan D slot 3 is twice slot 1 and slot 2, and word 4 is no pivot.
+    (PLAN_D, (1, 2, 4, 3, 5), b"words 4 3 0 0 4\n"),
+    (PLAN_D, (1, 2, 5, 3, 5), b"contradiction 5 6 1 0 0\n"),
+    (PLAN_D, (0, 0, 0, 0, 0), b"words 0 0 0 0 0\n"),
+    (PLAN_D, (0, 0, 0, 0, 1), b"words 0 0 0 0 5\n"),
+    (PLAN_D, (1, 0, 0, 0, 0), b"contradiction 5 6 1 0 0\n"),
+    (PLAN_D, (0, 0, 6, 0, 0), b"contradiction 5 6 1 0 0\n"),
+    # What word 4 alone gives: less (3, 2, 1, 1, 0), which gives nothing, it is 0 there.
+    (PLAN_D, (0, 1, 1, 0, 0), b"words 4 5 6 0 0\n"),
+    # Slot 5 is 4 times slot 1, 3 times slot 2, and twice slots 3 and 4; slot 6 is slot 1 less
+    # slot 2; slot 8 hears nothing.
+    (EIGHT_LEFT, (0, 0, 0, 0, 1, 0, 0, 0, 0, 0), b"contradiction 3 4 5 5 1 0 0 0 0 0\n"),
+    (EIGHT_LEFT, (0, 0, 0, 0, 1, 2, 0, 3, 0, 0), b"contradiction 3 4 5 5 1 0 0 0 0 0\n"),
+    (EIGHT_LEFT, (1, 0, 0, 0, 4, 2, 0, 3, 0, 0), b"contradiction 6 1 0 0 0 1 0 0 0 0\n"),
+    (EIGHT_LEFT, (1, 0, 0, 0, 4, 1, 0, 3, 0, 0), b"contradiction 0 0 0 0 0 0 0 1 0 0\n"),
+    (ONE_WORD, (4, 4, 4), b"words 4\n"),
+    (ONE_WORD, (1, 2, 3), b"contradiction 6 1 0\n"),
+    (ONE_WORD, (1, 1, 3), b"contradiction 6 0 1\n"),
+    # No word: a slot has nothing but 0.
+    (NO_WORDS, (0, 0), b"words\n"),
+    (NO_WORDS, (0, 2), b"contradiction 0 1\n"),
+    (NO_WORDS, (3, 2), b"contradiction 1 0\n"),
+    # Another number of values than slots, and values that are no residues.
+    (PLAN_D, (1, 2, 4, 3), b"refused 9 at 0\n"),
+    (PLAN_D, (1, 2, 4, 3, 5, 0), b"refused 9 at 0\n"),
+    (PLAN_D, (7, 2, 4, 3), b"refused 9 at 0\n"),
+    (PLAN_D, (7, 2, 4, 3, 5), b"refused 15 at 1\n"),
+    (PLAN_D, (1, 2, 4, 9, 7), b"refused 15 at 4\n"),
+    (PLAN_D, (1, 2, 4, 3, 2**32 + 5), b"refused 15 at 5\n"),
+    (PLAN_D, (1, 2, 4, 3, 2**64 + 5), b"refused 15 at 5\n"),
+    (ONE_WORD, (3,), b"refused 9 at 0\n"),
+    (b"7\n0 3 M\n0 0 0\n", (0,), b"refused 9 at 0\n"),
+)
+
+WORDS_ASKED = (
+    (PLAN_D + b"1 2 4 3 5\n", b"words 4 3 0 0 4\n"),
+    (PLAN_D + b"1\n2\n5\n3\n5", b"contradiction 5 6 1 0 0\n"),
+    (OWNED_D + b"1 2 4 3 5", b"words 4 3 0 0 4\n"),
+    (OWNED_D + b"1 2 5 3 5\n", b"contradiction 5 6 1 0 0\n"),
+    (b"7\n0 0 M\n0 0 0\n", b"words\n"),
+    (b"7\n0 3 M\n0 0 0\n", b"words 0 0 0\n"),
+    (b"7\n0 3 M\n0 0 0\nowners 1 0 2\n", b"words 0 0 0\n"),
+    (b"7\n0 3 M\n0 0 0\n0\n", b"refused 9 at 0\n"),
+    (NO_WORDS + b"0 0\n", b"words\n"),
+    (NO_WORDS + b"owners\n0 2\n", b"contradiction 0 1\n"),
+    (PLAN_D, b"refused 9 at 0\n"),
+    (OWNED_D, b"refused 9 at 0\n"),
+    (PLAN_D + b"1 2 4 3\n", b"refused 9 at 0\n"),
+    (PLAN_D + b"1 2 4 3 5 \n", b"refused 9 at 0\n"),
+    (PLAN_D + b"1 2 4 3 05\n", b"refused 15 at 5\n"),
+    (PLAN_D + b"1 -2 4 3 5\n", b"refused 15 at 2\n"),
+    (PLAN_D + b"1 2 4294967298 3 5\n", b"refused 15 at 3\n"),
+    (PLAN_D + b"owners 1 1 2 2 0 1 2 4 3 5\n", b"refused 3 at 15\n"),
+    (PLAN_D + b"owners 1 1 2 2 256\n1 2 4 3 5\n", b"refused 16 at 15\n"),
+    # The verb does not stand in the text: five values, or six.
+    (PLAN_D + b"words 2 4 3 5\n", b"refused 15 at 1\n"),
+    (PLAN_D + b"words 1 2 4 3 5\n", b"refused 9 at 0\n"),
 )
 
 # Which factor, the place in its list of values, the new value, the refusal.

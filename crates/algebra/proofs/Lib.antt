@@ -11,3 +11,6 @@ pub mod Rank
 pub mod Unique
 pub mod Answer
 pub mod Substitution
+pub mod Transpose
+pub mod Kernel
+pub mod Slots

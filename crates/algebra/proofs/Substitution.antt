@@ -12,8 +12,8 @@ use Rattle.algebra.specs.Matrix.{Vector, Matrix}
 use Rattle.algebra.specs.RowSpace.{InKernel}
 use Rattle.algebra.specs.Factors.{Factors}
 use Rattle.algebra.proofs.Congruence.{exact, turn, _⊙_, _⊕_, same-refl, by-multiples}
-use Rattle.algebra.proofs.Dot.{dot-eq, dot-none, dot-comm, dot-add-right, dot-scale-right, dot-δ, δ-same, δ-other}
-use Rattle.algebra.proofs.Verdict.{kernel-from-U}
+use Rattle.algebra.proofs.Dot.{dot-eq, dot-right, dot-none, dot-comm, dot-add-right, dot-scale-right, dot-δ, δ-same, δ-other}
+use Rattle.algebra.proofs.Verdict.{row-times, kernel-from-U}
 
 -- v stored at place k, where 0 stood
 pub record Stores (k v : ℕ) (x x′ : Vector) : Type 0 where
@@ -76,13 +76,13 @@ module _ {p : ℕ} (prime : Prime p) {n m r : ℕ} {A : Matrix} {R C : ℕ → �
   pub left-ends : (c d x : Vector) → Left c 0 d x → (l : ℕ) → l < r → dot r (λ i. L i l) x ≈⟨ p ⟩ c l
   left-ends c d x s l h = exact (omega arith) ⊙ turn (s .done l (omega arith) h) ⊕ same-refl (dot r (λ i. L i l) x) ⊙ s .total l h
 
-  -- U z = 0, by rows of U
-  pub record Right (k : ℕ) (z : Vector) : Type 0 where
-    pub done : (l : ℕ) → k ≤ l → l < r → dot m (U l) z ≈⟨ p ⟩ 0
+  -- U z = c, by rows of U
+  pub record Right (c : Vector) (k : ℕ) (z : Vector) : Type 0 where
+    pub done : (l : ℕ) → k ≤ l → l < r → dot m (U l) z ≈⟨ p ⟩ c l
     pub todo : (l : ℕ) → l < k → z (C l) ≡ 0
 
-  pub right-turn : (k : ℕ) (z z′ : Vector) (v : ℕ) → k < r → Right (suc k) z → v + dot m (U k) z ≈⟨ p ⟩ 0 → Stores (C k) v z z′ → Right k z′
-  right-turn k z z′ v h s e st = record { done = λ l b g. row l g (eq-or-lt-of-le b); todo = λ l b. st .kept (C l) (other l b) ∙ s .todo l (omega arith) }
+  pub right-turn : (c : Vector) (k : ℕ) (z z′ : Vector) (v : ℕ) → k < r → Right c (suc k) z → v + dot m (U k) z ≈⟨ p ⟩ c k → Stores (C k) v z z′ → Right c k z′
+  right-turn c k z z′ v h s e st = record { done = λ l b g. row l g (eq-or-lt-of-le b); todo = λ l b. st .kept (C l) (other l b) ∙ s .todo l (omega arith) }
     where
       inside : (l : ℕ) → l < r → C l < m
       inside l g = f .columns .below l (omega (arith, f .rank-columns))
@@ -90,11 +90,16 @@ module _ {p : ℕ} (prime : Prime p) {n m r : ℕ} {A : Matrix} {R C : ℕ → �
       other : (l : ℕ) → l < k → C l ≢ C k
       other l b q = omega (arith, f .columns .apart l k (omega (arith, f .rank-columns)) (omega (arith, f .rank-columns)) q)
 
-      row : (l : ℕ) → l < r → (k ≡ l) ⊎ (k < l) → dot m (U l) z′ ≈⟨ p ⟩ 0
+      row : (l : ℕ) → l < r → (k ≡ l) ⊎ (k < l) → dot m (U l) z′ ≈⟨ p ⟩ c l
       row l g (inl q) =
           rw (← q) (exact (stores-dot m (C k) v z z′ (U k) (inside k h) st ∙ omega (arith, ap (λ (y : ℕ). v * y) (f .U-unit k h))) ⊙ e)
       row l g (inr b) =
           exact (stores-dot m (C k) v z z′ (U l) (inside k h) st ∙ omega (arith, ap (λ (y : ℕ). v * y) (f .U-left l k b g))) ⊙ s .done l b g
 
-  pub right-ends : (z : Vector) → Right 0 z → InKernel p n m A z
-  right-ends z s = kernel-from-U prime f z (λ k h. s .done k (omega arith) h)
+  -- then A z = L c, row by row
+  pub right-ends : (c z : Vector) → Right c 0 z → (i : ℕ) → i < n → dot m (A (R i)) z ≈⟨ p ⟩ dot r (L i) c
+  right-ends c z s i h = row-times prime f z i h ⊙ dot-right r (L i) (λ k g. s .done k (omega arith) g)
+
+  -- and A z = 0 where c is 0
+  pub right-none : (z : Vector) → Right (λ l. 0) 0 z → InKernel p n m A z
+  right-none z s = kernel-from-U prime f z (λ k h. s .done k (omega arith) h)

@@ -91,7 +91,7 @@ module _ {p : ℕ} (prime : Prime p) {n m r : ℕ} {A : Matrix} {R C : ℕ → �
       exact (dot-comm r (λ k. dot m (U k) z) (L l)) ⊙ turn (row-times prime f z l b) ⊙ u (R l) (f .rows .below l b))
 
   -- A e = 0, and e is 0 at the non-pivot columns: e is 0
-  kernel-columns : (e : Vector) → ((l : ℕ) → r ≤ l → l < m → e (C l) ≡ 0) → InKernel p n m A e → (t : ℕ) → t < m → e t ≈⟨ p ⟩ 0
+  pub kernel-columns : (e : Vector) → ((l : ℕ) → r ≤ l → l < m → e (C l) ≡ 0) → InKernel p n m A e → (t : ℕ) → t < m → e t ≈⟨ p ⟩ 0
   kernel-columns e others u t g =
       let s = onto m C (f .columns) t g in
       let q : C (s .0) ≡ t = s .2 in

@@ -4,8 +4,10 @@ pub mod Prime
 pub mod Matrix
 pub mod Rank
 pub mod RowSpace
+pub mod ColumnSpace
 pub mod Factors
 pub mod Reduction
 pub mod Mixed
 pub mod Answer
+pub mod SlotAnswer
 pub mod Settings

@@ -1,4 +1,4 @@
--- A question as text.
+-- A question, or slot values, as text.
 --   noResidue            stands for what is no 32-bit number; no modulus has it as a residue
 --   valueRead n          the value that is read
 --   isSeparator b        a space or a line feed

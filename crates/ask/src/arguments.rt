@@ -1,8 +1,26 @@
-// A question as arguments.
+// What the program was called with: a verb or none, and values.
+ghost use mathlib.Core.Logic.{_↔_};
+ghost use mathlib.Core.Path.{_≡_};
+ghost use mathlib.Core.Bool.{true};
 ghost use Prim.Native.Nat.{_≤_};
 ghost use lib.ListN.{length};
+ghost use Rattle.print_text.specs.Labels.{settingWord};
 use crate::question::put;
 use crate::question::value;
+
+// Whether an argument is the verb `words`.
+fn is_words(argument: &[u8]) -> bool
+    ensures { λ r. ⌜ (r ≡ true) ↔ (now (argument .entry) ≡ settingWord) ⌝ }
+{
+    check::same(argument, b"words")
+}
+
+// Whether the first argument is the verb `words`. One that does not fit the buffer is longer.
+pub fn says_words() -> bool {
+    let mut field = [0u8; 16];
+    let size = os::arg(1, &mut field);
+    is_words(&field[..size])
+}
 
 // The value of an argument. One that does not fit the buffer has more digits than any number that is accepted.
 fn argument(i: usize) -> u32 {
@@ -11,13 +29,13 @@ fn argument(i: usize) -> u32 {
     value(&field[..size])
 }
 
-// The values of all arguments after the program's name; how many were kept.
-pub fn question(y: &mut [u32]) -> usize
+// The values of the arguments from the first-th on; how many were kept.
+pub fn question(first: usize, y: &mut [u32]) -> usize
     ensures { λ count. ⌜ count ≤ length (now (y .exit)) ⌝ }
 {
     let arguments = os::arg_count();
     let mut count = 0;
-    let mut i = 1;
+    let mut i = first;
     while i < arguments {
         count = put(y, count, argument(i));
         i += 1;

@@ -1,4 +1,4 @@
-// A question as text: values between single spaces or line feeds.
+// A question, or slot values, as text: values between single spaces or line feeds.
 ghost use mathlib.Core.List.{[], _∷_};
 ghost use mathlib.Core.Path.{_≡_};
 ghost use Prim.Native.Nat.{_^_, _≤_, _<_};

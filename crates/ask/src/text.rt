@@ -1,4 +1,4 @@
-// A plan's text that a question may follow.
+// A plan's text that a question, or slot values, may follow.
 ghost use Prim.Native.Nat.{_+_, _≤_, _<_, _^_};
 ghost use lib.ListN.{length, drop};
 ghost use mathlib.Core.Path.{_≡_};

@@ -22,12 +22,12 @@ use Rattle.call_plan.specs.Tests.{planLengths, setLengths, limitsOk, planOutcom
 use Rattle.call_check.specs.Calls.{factorsOutcome, checkFactorsOf}
 use Rattle.call_answer.specs.Calls.{questionLengths, questionAfter}
 
-abbrev Small : ℕ → Outcome → Type 0
+abbrev pub Small : ℕ → Outcome → Type 0
 Small k o = detailOf o ≤ k
 
 -- ---- tests one after another
 
-small-then : (k : ℕ) (o next : Outcome) → Small k o → Small k next → Small k (o ▷ next)
+pub small-then : (k : ℕ) (o next : Outcome) → Small k o → Small k next → Small k (o ▷ next)
 small-then k Passed next h g = g
 small-then k (Refused c d) next h g = h
 
@@ -36,7 +36,7 @@ small-test k true c d h = omega arith
 small-test k false c d h = h
 
 -- a test with no detail
-plain : (k : ℕ) (t : Bool) (c : ℕ) (next : Outcome) → Small k next → Small k (unless t c 0 ▷ next)
+pub plain : (k : ℕ) (t : Bool) (c : ℕ) (next : Outcome) → Small k next → Small k (unless t c 0 ▷ next)
 plain k t c next g = small-then k (unless t c 0) next (small-test k t c 0 (omega arith)) g
 
 first-small : (n : ℕ) (t : ℕ → Bool) → first n t ≤ n
@@ -47,6 +47,13 @@ first-small (suc n) t = go (t 0) (first-small n (λ i. t (suc i)))
     go : (b : Bool) → first n (λ i. t (suc i)) ≤ n → cond b (suc (first n (λ i. t (suc i)))) 0 ≤ suc n
     go true h = omega arith
     go false h = omega arith
+
+-- the values of a question
+pub values-small : (k p : ℕ) (y : List ℕ) → length y ≤ k → Small k (questionOutcome p y)
+unfolding questionOutcome
+values-small k p y h =
+    let at = first (length y) (λ j. ltb (getD y j 0) p) in
+    small-test k (leb (length y) at) 15 at (omega (arith, first-small (length y) (λ j. ltb (getD y j 0) p)))
 
 -- ---- the tests of the call
 
@@ -73,7 +80,7 @@ module _ (k p n m : ℕ) (A : Compressed) (s : Set) (rows : n ≤ k) where
       (plain k (leb (s .r) m) 12 _
       factors-small)))
 
-  check-small : (w : ℕ) → Small k (checkFactorsOf p n m A s w)
+  pub check-small : (w : ℕ) → Small k (checkFactorsOf p n m A s w)
   unfolding checkFactorsOf factorsOutcome planOutcome
   check-small w =
       small-then k (factorsOutcome p n m A s w) (judge p n m A s)
@@ -84,8 +91,7 @@ module _ (k p n m : ℕ) (A : Compressed) (s : Set) (rows : n ≤ k) where
       judge-small
 
   pub question-small : (y : List ℕ) (a b w : ℕ) → length y ≤ k → Small k (questionAfter (checkFactorsOf p n m A s w) p n m y a b)
-  unfolding questionAfter questionOutcome
+  unfolding questionAfter
   question-small y a b w h =
       plain k (questionLengths n m y a b) 9 _
-      (small-then k (checkFactorsOf p n m A s w) (questionOutcome p y) (check-small w)
-      (small-test k (leb (length y) (first (length y) (λ j. ltb (getD y j 0) p))) 15 (first (length y) (λ j. ltb (getD y j 0) p)) (omega (arith, first-small (length y) (λ j. ltb (getD y j 0) p)))))
+      (small-then k (checkFactorsOf p n m A s w) (questionOutcome p y) (check-small w) (values-small k p y h))

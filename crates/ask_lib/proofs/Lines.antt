@@ -1,4 +1,4 @@
--- The line of an answer, one law for each kind of answer.
+-- The line of an answer: it fits, and one law for each kind of answer.
 use mathlib.Core.Path.{_≡_, sym, ap, _∙_, subst}
 use mathlib.Core.Bool.{Bool, true, false}
 use mathlib.Core.List.{List}
@@ -7,7 +7,6 @@ use native.Mathlib.Omega.{arith}
 use lib.ListN.{length, take}
 use lib.Seq.{length-take-le}
 use Rattle.byte_buffer.specs.Fills.{Fills}
-use Rattle.call_answer.specs.Calls.{answerDetail}
 use Rattle.call_answer.specs.declared.Answer.{Answer}
 use Rattle.print_text.specs.Answer.{answerLine}
 use Rattle.print_text.specs.Report.{refusalText}
@@ -16,9 +15,9 @@ use Rattle.print_text.proofs.Room.{refusal-room, answer-room}
 use Rattle.ask_lib.specs.Held.{answerLineOf}
 use Rattle.ask_lib.specs.Needs.{LineReady}
 
-module _ (a : Answer) (n m : ℕ) (x z out : List ℕ) (d : LineReady a n m x z out) where
-  pub detail-counts : (k e : ℕ) → a ≡ Answer.Refused k e → e < 4294967295
-  detail-counts k e h = omega (arith, ap answerDetail h, d .detail-small)
+module _ (detail n m : ℕ) (x z out : List ℕ) (d : LineReady detail n m x z out) where
+  pub detail-counts : (e : ℕ) → detail ≡ e → e < 4294967295
+  detail-counts e h = omega (arith, d .detail-small)
 
   pub refusal-fits : (k e : ℕ) → length (refusalText k e) ≤ length out
   refusal-fits k e = refusal-room k e out (d .room)

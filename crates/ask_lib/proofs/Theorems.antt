@@ -43,19 +43,20 @@ use Rattle.call_answer.proofs.Ways.{wrong-lengths, question-tested, answered-nu
 use Rattle.call_answer.proofs.Theorems.{stored-right}
 use Rattle.factor_all.specs.Factorization.{Factorization}
 use Rattle.print_text.specs.Report.{refusalText}
-use Rattle.print_text.specs.Printed.{countedFromOne, printed, PrintsRefusal}
-use Rattle.print_text.proofs.Shown.{fills-shown, first-refusal}
-use Rattle.stages.specs.Stages.{reading, factoredOf}
+use Rattle.print_text.specs.Printed.{PrintsRefusal}
+use Rattle.print_text.proofs.Shown.{fills-shown}
+use Rattle.stages.specs.Stages.{reading}
 use Rattle.stages.specs.Meaning.{factorsOf, FitsAll, OverflowsAt}
-use Rattle.stages.proofs.ReadText.{reading-good, outcome-passed, reading-numbers, factored-whole, factored-over}
+use Rattle.stages.proofs.ReadText.{reading-good, factored-whole}
 use Rattle.stages.proofs.Passing.{factors-pass}
-use Rattle.ask_lib.specs.Asking.{answerFor, givenLine, askReadOf, askOf, Asks}
+use Rattle.ask_lib.specs.Asking.{answerFor, givenLine, afterStages, askReadOf, askOf, Asks}
 use Rattle.ask_lib.specs.Meaning.{AskRight, FirstTooLarge}
 use Rattle.ask_lib.proofs.Answered.{solved-sized}
+use Rattle.ask_lib.proofs.Following.{text-refused, text-storage, text-whole}
 
--- ---- the values of a question: all residues, or refused at the first that is none
+-- ---- the values of a question, or of slots: all residues, or refused at the first that is none
 
-value-cases : (p : ℕ) (y : List ℕ) → (questionOutcome p y ≡ Passed) ⊎ ((i : ℕ) × (questionOutcome p y ≡ Refused questionTooLarge i) × FirstTooLarge p y i)
+pub value-cases : (p : ℕ) (y : List ℕ) → (questionOutcome p y ≡ Passed) ⊎ ((i : ℕ) × (questionOutcome p y ≡ Refused questionTooLarge i) × FirstTooLarge p y i)
 unfolding questionOutcome
 value-cases p y = go (leb (length y) at) refl
   where
@@ -79,14 +80,14 @@ value-cases p y = go (leb (length y) at) refl
           },
         )
 
-value-passed : (p : ℕ) (y : List ℕ) → Below p y → questionOutcome p y ≡ Passed
+pub value-passed : (p : ℕ) (y : List ℕ) → Below p y → questionOutcome p y ≡ Passed
 value-passed p y h = go (value-cases p y)
   where
     go : (questionOutcome p y ≡ Passed) ⊎ ((i : ℕ) × (questionOutcome p y ≡ Refused 15 i) × FirstTooLarge p y i) → questionOutcome p y ≡ Passed
     go (inl e) = e
     go (inr (i, e, f)) = absurd (omega (arith, h i (f .inside), f .large))
 
-value-refused : (p : ℕ) (y : List ℕ) → ¬ Below p y → (i : ℕ) × (questionOutcome p y ≡ Refused questionTooLarge i) × FirstTooLarge p y i
+pub value-refused : (p : ℕ) (y : List ℕ) → ¬ Below p y → (i : ℕ) × (questionOutcome p y ≡ Refused questionTooLarge i) × FirstTooLarge p y i
 value-refused p y n = go (value-cases p y)
   where
     go : (questionOutcome p y ≡ Passed) ⊎ ((i : ℕ) × (questionOutcome p y ≡ Refused 15 i) × FirstTooLarge p y i) → (i : ℕ) × (questionOutcome p y ≡ Refused 15 i) × FirstTooLarge p y i
@@ -155,34 +156,27 @@ module _ (text y : List ℕ) (size : ℕ) (b₀ b w₀ w : List ℕ) (call : Ask
   abbrev set : Set
   set = factorsOf (reading text)
 
-  -- what is printed after reading
-  abbrev after-reading : Factorization → List ℕ
-  after-reading f = printed (countedFromOne storageTooShort (f .outcome)) (givenLine (answerFor (reading text) f y))
+  -- what is printed once factoring passed
+  abbrev line : Factorization → List ℕ
+  line f = givenLine (answerFor (reading text) f y)
 
-  shown : take size b ≡ printed (reading text .result .outcome) (after-reading (factoredOf (reading text)))
+  shown : take size b ≡ afterStages (reading text) line
   unfolding askOf askReadOf
   shown = fills-shown b₀ b size (askOf text y) (call .answer)
 
   pub ask-refused : ¬ StatesText largestEntries text → PrintsRefusal textFaults (take size b)
-  ask-refused none =
-      subst (PrintsRefusal textFaults) (sym shown)
-      (first-refusal textFaults (reading text .result .outcome) (after-reading (factoredOf (reading text))) (reading-numbers text) (λ e. none (outcome-passed text .0 e)))
+  ask-refused none = subst (PrintsRefusal textFaults) (sym shown) (text-refused text line none)
 
   module _ (states : StatesText largestEntries text) where
     passes₁ : StoredPasses p₁ n₁ m₁ plan set workLength
     passes₁ = factors-pass p₁ n₁ m₁ plan (reading-good text states)
 
-    shown-read : take size b ≡ after-reading (factoredOf (reading text))
-    shown-read = shown ∙ ap (λ (o : Outcome). printed o (after-reading (factoredOf (reading text)))) (outcome-passed text .1 states)
-
     pub ask-storage : ¬ FitsAll (reading text) → (i : ℕ) × (take size b ≡ refusalText storageTooShort (i + 1)) × OverflowsAt (reading text) i
-    ask-storage none =
-        let (i, refused, overflows) = factored-over text states none in
-        (i, shown-read ∙ ap (λ (o : Outcome). printed (countedFromOne 7 o) (givenLine (answerFor (reading text) (factoredOf (reading text)) y))) refused, overflows)
+    ask-storage none = let (i, refused, overflows) = text-storage text line states none in (i, shown ∙ refused, overflows)
 
     module _ (fits : FitsAll (reading text)) where
       shown-whole : (g : Given) → answerFactorsOf p₁ n₁ m₁ plan set y n₁ m₁ workLength ≡ g → take size b ≡ givenLine g
-      shown-whole g e = shown-read ∙ ap after-reading (factored-whole text states fits) ∙ ap givenLine e
+      shown-whole g e = shown ∙ text-whole text line states _ (factored-whole text states fits) refl ∙ ap givenLine e
 
       pub ask-length : ¬ (length y ≡ m₁) → take size b ≡ refusalText wrongLength 0
       unfolding givenLine

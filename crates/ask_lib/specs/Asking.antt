@@ -2,6 +2,7 @@
 --   answerFor x f y     the answer to a question, from the set that factoring gives
 --   isOpenAnswer a      the answer is open
 --   givenLine g         the line of what a call with a question gives: of its refusal, or the verdict with its values
+--   afterStages x line  what is printed for a reading: the line of the first refusal, by reading or by factoring, or the line made from its factoring
 --   askReadOf x y       the answer's line for a reading: the line of the first refusal, or the verdict with its values
 --   askOf text y        the answer's line for a text
 --   AskLists y ..       at most 2,049 values, a buffer that holds any line, and a working row
@@ -35,12 +36,15 @@ isOpenAnswer Answer.Closed = false
 unfoldable pub givenLine : Given → List ℕ
 givenLine g = printed (countedFromOne questionTooLarge (g .outcome)) (answerText (isOpenAnswer (g .answer)) (g .x) (g .z))
 
-unfoldable pub askReadOf : ReadAnswer → List ℕ → List ℕ
-askReadOf x y =
+unfoldable pub afterStages : ReadAnswer → (Factorization → List ℕ) → List ℕ
+afterStages x line =
     let f = factoredOf x in
     printed (x .result .outcome)
     (printed (countedFromOne storageTooShort (f .outcome))
-    (givenLine (answerFor x f y)))
+    (line f))
+
+unfoldable pub askReadOf : ReadAnswer → List ℕ → List ℕ
+askReadOf x y = afterStages x (λ f. givenLine (answerFor x f y))
 
 unfoldable pub askOf : List ℕ → List ℕ → List ℕ
 askOf text y = askReadOf (reading text) y

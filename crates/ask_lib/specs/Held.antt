@@ -3,7 +3,8 @@
 --   heldAnswer s A h y       the answer from the plan and the set that stand in lists
 --   AnswerHeld g a n m ..    what it leaves: with the first n values of x and m of z, the answer's line is that of g
 --   stagesRefusal s          the refusal that the stages ended with, as it is printed
---   stagedLine s A h y       the line of what the stages came to: of a refusal by reading or by factoring, else of the answer
+--   stagedThen s line        what is printed of the stages: the line of a refusal by reading or by factoring, else the given one
+--   stagedLine s A h y       the line of what the stages came to: of a refusal, else of the answer
 use Prim.Native.Nat.{ℕ, _≤_}
 use mathlib.Core.Path.{_≡_}
 use mathlib.Core.Bool.{true, false}
@@ -48,8 +49,11 @@ pub record AnswerHeld (g : Given) (a : Answer) (n m : ℕ) (x z w₀ w : List �
 unfoldable pub stagesRefusal : Stages → Outcome
 stagesRefusal s = s .reading .outcome ▷ countedFromOne storageTooShort (s .factored .outcome)
 
-unfoldable pub stagedLine : Stages → Compressed → Storage → List ℕ → List ℕ
-stagedLine s A h y =
+unfoldable pub stagedThen : Stages → List ℕ → List ℕ
+stagedThen s line =
     printed (s .reading .outcome)
     (printed (countedFromOne storageTooShort (s .factored .outcome))
-    (givenLine (heldAnswer s A h y)))
+    line)
+
+abbrev pub stagedLine : Stages → Compressed → Storage → List ℕ → List ℕ
+stagedLine s A h y = stagedThen s (givenLine (heldAnswer s A h y))

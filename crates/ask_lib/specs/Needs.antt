@@ -1,5 +1,5 @@
 -- What the steps of asking start from: A are the lists of the plan, h those of the set, y the question, `out` the buffer.
---   LineReady a n m x z out       writing an answer's line: a detail that can be counted from 1, n and m values within the limit, and room
+--   LineReady d n m x z out       writing an answer's line: a detail d that can be counted from 1, n and m values within the limit, and room
 --   Answerable s A h y x z        answering: the lists have the plan and the set, and room for x and z
 --   RowCountable s                the row of a refusal by factoring can be counted from 1
 --   AskStagedReady s A h y out    writing the line of what the stages came to; the working row is all zero
@@ -13,14 +13,12 @@ use Rattle.refusals.specs.declared.Outcome.the-variants.{Passed}
 use Rattle.sparse.specs.Matrix.{Compressed}
 use Rattle.sparse.specs.Set.{Storage}
 use Rattle.limits.specs.Limits.{largestSize, workLength, startsLength, printRoom}
-use Rattle.call_answer.specs.Calls.{answerDetail}
-use Rattle.call_answer.specs.declared.Answer.{Answer}
 use Rattle.stages.specs.Staged.{Fits}
 use Rattle.stages.specs.declared.Stages.{Stages}
 use Rattle.ask_lib.specs.Asking.{AskLists}
 
-pub record LineReady (a : Answer) (n m : ℕ) (x z out : List ℕ) : Type 0 where
-  pub detail-small : answerDetail a ≤ startsLength
+pub record LineReady (detail n m : ℕ) (x z out : List ℕ) : Type 0 where
+  pub detail-small : detail ≤ startsLength
   pub x-few : n ≤ largestSize
   pub z-few : m ≤ largestSize
   pub x-length : length x ≡ largestSize

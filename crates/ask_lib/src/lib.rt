@@ -2,6 +2,7 @@
 ghost use mathlib.Core.Path.{_≡_};
 ghost use lib.ListN.{take};
 ghost use Rattle.byte_buffer.specs.Fills.{Fills};
+ghost use Rattle.call_answer.specs.Calls.{answerDetail};
 ghost use Rattle.ask_lib.specs.Asking.{AskLists, Asks};
 ghost use Rattle.print_text.specs.Printed.{Prints};
 ghost use Rattle.ask_lib.specs.Held.{answerLineOf, heldAnswer, AnswerHeld, stagesRefusal, stagedLine};
@@ -23,7 +24,7 @@ use stages::factor_text;
 
 // Writes the line of an answer: of a refusal, whose index counts from 1 in print, or the verdict with the n values of x or the m of z.
 fn write_line(answer: Answer, n: u32, m: u32, xs: &[u32], zs: &[u32], out: &mut [u8]) -> usize
-    requires { ⌜ LineReady answer n m (now xs) (now zs) (now out) ⌝ }
+    requires { ⌜ LineReady (answerDetail answer) n m (now xs) (now zs) (now out) ⌝ }
     ensures { λ size. ⌜ Fills (before out) (after out) size (answerLineOf answer (take n (before xs)) (take m (before zs))) ⌝ }
 {
     let x = &xs[..n as usize];
@@ -39,7 +40,7 @@ fn write_line(answer: Answer, n: u32, m: u32, xs: &[u32], zs: &[u32], out: &mut 
 }
 
 // The refusal that the stages ended with, if any, as it is printed: a row counts from 1.
-fn refusal(s: Stages) -> Outcome
+pub fn refusal(s: Stages) -> Outcome
     requires { ⌜ RowCountable s ⌝ }
     ensures { λ o. ⌜ o ≡ stagesRefusal s ⌝ }
 {

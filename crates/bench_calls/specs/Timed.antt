@@ -3,17 +3,20 @@
 --   heldRank s           the rank that stages found, 0 where one of them refused
 --   timedRank text       the rank of a text's plan by reading and factoring, 0 where one of them refuses
 --   timedReport text b   the report of a text, for a buffer of b bytes; nothing where these are too few
+--   timedWords text h b  the line of the words that give slot values, for such a buffer; nothing where the values are more than 2,049
 use Prim.Native.Nat.{ℕ}
 use mathlib.Core.Bool.{cond}
 use mathlib.Core.List.{List, []}
 use lib.Dec.{ltb}
-use Rattle.limits.specs.Limits.{printRoom}
+use lib.ListN.{length}
+use Rattle.limits.specs.Limits.{printRoom, startsLength}
 use Rattle.refusals.specs.Refusals.{_▷_}
 use Rattle.refusals.specs.declared.Outcome.{Outcome}
 use Rattle.refusals.specs.declared.Outcome.the-variants.{Passed, Refused}
 use Rattle.stages.specs.declared.Stages.{Stages}
 use Rattle.stages.specs.Stages.{reading, factoredOf}
 use Rattle.report_lib.specs.Reporting.{reportOf}
+use Rattle.ask_words.specs.Solving.{wordsOf}
 
 -- ---- reading and factoring
 
@@ -34,3 +37,8 @@ timedRank text =
 
 unfoldable pub timedReport : List ℕ → ℕ → List ℕ
 timedReport text b = cond (ltb b printRoom) [] (reportOf text)
+
+-- ---- the words
+
+unfoldable pub timedWords : (text h : List ℕ) → ℕ → List ℕ
+timedWords text h b = cond (ltb b printRoom) [] (cond (ltb startsLength (length h)) [] (wordsOf text h))

@@ -1,10 +1,11 @@
-// What the benchmark times within one process (include/plq_timing.h): the stages alone, and the whole report. Both need no storage of
-// the caller's but the report's buffer, so that a time is that of the work and of clearing the lists, and of nothing else.
+// What the benchmark times within one process (include/plq_timing.h): the stages alone, the whole report, and the words from slot values. They need no
+// storage of the caller's but the buffer, so that a time is that of the work and of clearing the lists, and of nothing else.
 ghost use mathlib.Core.Path.{_≡_};
 ghost use lib.ListN.{length};
 ghost use Rattle.byte_buffer.specs.Fills.{Fills};
-ghost use Rattle.bench_calls.specs.Timed.{heldRank, timedRank, timedReport};
+ghost use Rattle.bench_calls.specs.Timed.{heldRank, timedRank, timedReport, timedWords};
 ghost use Rattle.sparse.specs.Views.{before, after};
+use ask_words::words;
 use limits::ENTRY_CELLS;
 use limits::PRINT_ROOM;
 use limits::SIZE_CELLS;
@@ -85,4 +86,24 @@ pub extern "C" fn plq_time_report(text: &[u8], out: &mut [u8]) -> u64
     }
     let mut work = [0u64; WORK_CELLS];
     report(text, out, &mut work) as u64
+}
+
+// Writes the line of the words that give slot values: what the question program prints for a text with the verb `words`, refusals too.
+//   takes    a text, slot values of any number, and a buffer of any length and content
+//   gives    the length of the line, which stands in the buffer; 0 for a buffer of fewer than 65,536 bytes, or for more than 2,049 values
+//   leaves   the buffer zero past the line; the text and the values are only read
+#[no_mangle]
+pub extern "C" fn plq_time_words(text: &[u8], h: &[u32], out: &mut [u8]) -> u64
+    ensures { λ size. ⌜ Fills (before out) (after out) size (timedWords (before text) (before h) (length (before out))) ⌝ }
+{
+    if out.len() < PRINT_ROOM {
+        clear_bytes(out);
+        return 0;
+    }
+    if START_CELLS < h.len() {
+        clear_bytes(out);
+        return 0;
+    }
+    let mut work = [0u64; WORK_CELLS];
+    words(text, h, out, &mut work) as u64
 }

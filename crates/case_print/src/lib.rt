@@ -1,7 +1,9 @@
-// What the programs that run cases print of numbers, outcomes and lists, on standard output.
+// What the programs that run cases share: what they print of numbers, outcomes and lists, on standard output, and the first cells of lists.
 ghost use Prim.Native.Nat.{_+_, _^_, _≤_, _<_};
 ghost use lib.ListN.{length};
 use refusals::Outcome;
+
+pub mod parts;
 
 // A space and a number.
 pub fn number(n: u64) {

@@ -5,13 +5,13 @@ use crate::change::Change;
 use crate::change::put_first;
 use crate::handed::Handed;
 use crate::handed::prepare;
-use crate::parts::first;
-use crate::parts::first_bytes;
-use crate::parts::within;
-use crate::parts::within_bytes;
-use crate::parts::within_row;
 use crate::print;
 use call_owned::factor::factor;
+use case_print::parts::first;
+use case_print::parts::first_bytes;
+use case_print::parts::within;
+use case_print::parts::within_bytes;
+use case_print::parts::within_row;
 use text_plan::Reading;
 
 // Factors a plan into lent lists and prints what it returned and left.

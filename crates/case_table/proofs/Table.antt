@@ -1,5 +1,5 @@
 -- The joint table of the proved cases of document 01 ("Report and cases"), those of plan D as slip 9 works them anew, of the owners that may follow it (slip 4) and of
--- questions that add up (slip 14), each by computing the definitions that the contracts cite. D's pairs, factors and rooms are computed beside the rule, in
+-- questions that add up (slip 14) and of slot values (slip 6), each by computing the definitions that the contracts cite. D's pairs, factors and rooms are computed beside the rule, in
 -- elimination's Example.
 use Prim.Native.Nat.{ℕ}
 use mathlib.Core.Path.{_≡_, refl}
@@ -32,6 +32,9 @@ use Rattle.pluq.specs.Judge.{agrees, productOutcome, judgeFactors, judge}
 use Rattle.row_space.specs.Substitution.{backL, backU}
 use Rattle.row_space.specs.Solve.{lowestOf, solve}
 use Rattle.row_space.specs.declared.Verdict.the-variants.{Open, Closed}
+use Rattle.column_space.specs.Substitution.{forward, settle}
+use Rattle.column_space.specs.Slots.{values, gap, position, lowestGap, settingOf, leftKernel, solveSlots}
+use Rattle.column_space.specs.declared.SlotVerdict.the-variants.{Solved, Contradiction}
 use Rattle.elimination.specs.Structural.{leads, prefer, chosen, leading}
 use Rattle.elimination.specs.Chains.{chain, closes}
 use Rattle.elimination.specs.Selection.{pairAt, lowerPair as lowerOf, without, unfit, extended, extendedTo, free, lowest, ordered, selected, structural}
@@ -47,7 +50,7 @@ use Rattle.call_check.specs.Calls.{certificateOutcome, checkCertificateOf}
 use Rattle.text_fields.specs.Pieces.{pieces}
 use Rattle.text_fields.specs.Number.{digitsFrom, numberIn}
 use Rattle.text_owners.specs.Owners.{isOwnersWord, fieldsIn, fieldNumbers, ownersLine, allBytes, notRead, owned, ownersIn}
-use Rattle.case_table.specs.Plans.{none as silent, blank, ones, D, setD, earlierD}
+use Rattle.case_table.specs.Plans.{none as silent, blank, ones, D, setD, earlierD, thrice, falling}
 
 -- the certificate of D's set, with l for L[3][3] and u for U[0][0], checked with a working row of its length
 abbrev pub certificateD : ℕ → ℕ → Outcome
@@ -96,6 +99,15 @@ pub record Table : Type 0 where
   pub D-mixed : solve 7 5 5 (setD 3 1) (vector (mixedList 5 7 3 2 (0 ∷ 0 ∷ 0 ∷ 0 ∷ 1 ∷ []) (0 ∷ 0 ∷ 1 ∷ 6 ∷ 0 ∷ [])))
       ≡ record { verdict = Open; x = 0 ∷ 5 ∷ 0 ∷ 6 ∷ 1 ∷ []; z = 0 ∷ 0 ∷ 0 ∷ 0 ∷ 0 ∷ [] }
   pub D-mixed-x : mixedList 5 7 3 2 (0 ∷ 0 ∷ 0 ∷ 0 ∷ 5 ∷ []) (0 ∷ 6 ∷ 0 ∷ 3 ∷ 0 ∷ []) ≡ 0 ∷ 5 ∷ 0 ∷ 6 ∷ 1 ∷ []
+  -- D's slot values: those of a setting, and those with 5 for 4 in the third slot, which is 2 times the first and the second added up
+  pub D-words : solveSlots 7 5 5 (setD 3 1) (vector (1 ∷ 2 ∷ 4 ∷ 3 ∷ 5 ∷ [])) ≡ record { verdict = Solved; s = 4 ∷ 3 ∷ 0 ∷ 0 ∷ 4 ∷ []; w = 0 ∷ 0 ∷ 0 ∷ 0 ∷ 0 ∷ [] }
+  pub D-contradiction : solveSlots 7 5 5 (setD 3 1) (vector (1 ∷ 2 ∷ 5 ∷ 3 ∷ 5 ∷ [])) ≡ record { verdict = Contradiction; s = 0 ∷ 0 ∷ 0 ∷ 0 ∷ 0 ∷ []; w = 5 ∷ 6 ∷ 1 ∷ 0 ∷ 0 ∷ [] }
+  -- no slots; no words, where h is 0 and 2; three slots of one word in the order 0, 2, 1, of which two contradict the first: the lowest-numbered counts, not the
+  -- first of the order
+  pub silent-words : solveSlots 7 0 1 (factor 7 0 1 silent) (vector []) ≡ record { verdict = Solved; s = 0 ∷ []; w = [] }
+  pub wordless : solveSlots 7 2 0 (factor 7 2 0 blank) (vector (0 ∷ 2 ∷ [])) ≡ record { verdict = Contradiction; s = []; w = 0 ∷ 1 ∷ [] }
+  pub falling-passes : judge 7 3 1 thrice falling ≡ Passed
+  pub lowest-slot : solveSlots 7 3 1 falling (vector (1 ∷ 2 ∷ 3 ∷ [])) ≡ record { verdict = Contradiction; s = 0 ∷ []; w = 6 ∷ 1 ∷ 0 ∷ [] }
   -- what may follow D's text, from line 15 on: nothing; `owners 1 1 2 2 0`; 256 among them, and a malformed number after it; no words and the bare word `owners`
   pub D-unowned : ownersIn 5 15 (pieces 10 []) ≡ owned (1 ∷ 1 ∷ 1 ∷ 1 ∷ 1 ∷ [])
   pub D-owners : ownersIn 5 15 (pieces 10 (111 ∷ 119 ∷ 110 ∷ 101 ∷ 114 ∷ 115 ∷ 32 ∷ 49 ∷ 32 ∷ 49 ∷ 32 ∷ 50 ∷ 32 ∷ 50 ∷ 32 ∷ 48 ∷ 10 ∷ [])) ≡ owned (1 ∷ 1 ∷ 2 ∷ 2 ∷ 0 ∷ [])
@@ -113,7 +125,7 @@ unfolding isPrime dividedBelow
 two = true-prime 2 refl
 
 pub table : Table
-unfolding zeros tabulate all first sum dot δ place reduced invMod inverseBelow startsFrom startsOk risesFrom rowsFrom valuesOk wellFormed weigh columnsFrom nonzeros startsAfter allColumns allValues compress among below distinct permutation lowerRow lower upperRow upper agrees productOutcome judgeFactors judge backL backU lowest solve leads prefer chosen leading chain closes lowerOf without unfit extended extendedTo free lowestOf ordered selected structural columnsOf uppersOf multiplesBy multiples withPivot withDependent placedRow turn turns rest schedule rowsOf lowersOf factored factorFrom factor words bytes mark version factorNumbers numbersOf certificateOf placesOf field setIn setOfCertificate begins lengthOk sizesOk headerOk isPrime dividedBelow isModulus planLengths setLengths limitsOk planOutcome certificateOutcome checkCertificateOf pieces numberIn digitsFrom isOwnersWord fieldsIn fieldNumbers ownersLine allBytes ownersIn
+unfolding zeros tabulate all first sum dot δ place reduced invMod inverseBelow startsFrom startsOk risesFrom rowsFrom valuesOk wellFormed weigh columnsFrom nonzeros startsAfter allColumns allValues compress among below distinct permutation lowerRow lower upperRow upper agrees productOutcome judgeFactors judge backL backU lowest solve leads prefer chosen leading chain closes lowerOf without unfit extended extendedTo free lowestOf ordered selected structural columnsOf uppersOf multiplesBy multiples withPivot withDependent placedRow turn turns rest schedule rowsOf lowersOf factored factorFrom factor words bytes mark version factorNumbers numbersOf certificateOf placesOf field setIn setOfCertificate begins lengthOk sizesOk headerOk isPrime dividedBelow isModulus planLengths setLengths limitsOk planOutcome certificateOutcome checkCertificateOf pieces numberIn digitsFrom forward settle values gap position lowestGap settingOf leftKernel solveSlots isOwnersWord fieldsIn fieldNumbers ownersLine allBytes ownersIn
 table =
     record {
       empty-rank = factor-rank 7 0 0 silent seven refl refl;
@@ -148,4 +160,10 @@ table =
       D-pair-opens = refl;
       D-mixed = refl;
       D-mixed-x = refl;
+      D-words = refl;
+      D-contradiction = refl;
+      silent-words = refl;
+      wordless = refl;
+      falling-passes = refl;
+      lowest-slot = refl;
     }

@@ -2,6 +2,8 @@
 --   none        no rows and one column, or no columns at all
 --   blank       two rows, no entries
 --   ones        two rows of three ones
+--   thrice      three rows of one 1
+--   falling     a set of thrice whose dependent rows fall: rows 0, 2, 1
 --   D           document 01's plan D, modulo 7
 --   setD l u    D's set, with l for L[3][3] and u for U[0][0]: 3 and 1 in the engine's own
 --   earlierD    D's set as document 01 has it, before slip 9
@@ -18,6 +20,12 @@ blank = compressed (0 ∷ 0 ∷ 0 ∷ []) [] []
 
 abbrev pub ones : Compressed
 ones = compressed (0 ∷ 3 ∷ 6 ∷ []) (0 ∷ 1 ∷ 2 ∷ 0 ∷ 1 ∷ 2 ∷ []) (1 ∷ 1 ∷ 1 ∷ 1 ∷ 1 ∷ 1 ∷ [])
+
+abbrev pub thrice : Compressed
+thrice = compressed (0 ∷ 1 ∷ 2 ∷ 3 ∷ []) (0 ∷ 0 ∷ 0 ∷ []) (1 ∷ 1 ∷ 1 ∷ [])
+
+abbrev pub falling : Set
+falling = setOf 1 (0 ∷ 2 ∷ 1 ∷ []) (0 ∷ []) thrice (compressed (0 ∷ 1 ∷ []) (0 ∷ []) (1 ∷ []))
 
 abbrev pub D : Compressed
 D =

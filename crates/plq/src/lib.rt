@@ -8,6 +8,8 @@ pub use call_owned::factor::factor;
 pub use call_owned::open::open_columns_from_certificate;
 pub use call_owned::open::open_columns_from_factors;
 pub use call_owned::write::write_certificate;
+pub use call_slots::from_certificate::solve_slots_from_certificate;
+pub use call_slots::from_factors::solve_slots_from_factors;
 pub use text_owners::read as read_plan;
 ghost use mathlib.Core.Path.{_≡_};
 ghost use Rattle.plq.specs.Calls.{checkTextOf, packed, Makes};

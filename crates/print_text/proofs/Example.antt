@@ -8,6 +8,8 @@
 --   a-refusal    refused 4 at 6
 --   D-open       open 0 0 0 0 5: the answer to the question (0,0,0,0,1)
 --   D-closed     closed 3 2 1 1 0: the answer to the question (1,0,0,0,0)
+--   D-words      words 4 3 0 0 4: the answer to the slot values (1,2,4,3,5)
+--   D-contradiction   contradiction 5 6 1 0 0: the answer to the slot values (1,2,5,3,5)
 --   no-slots     open: an open answer where the plan has no slots
 --   ten-digits   refused 4294967295 at 10: a number of ten digits
 use mathlib.Core.Path.{_≡_, refl}
@@ -18,7 +20,7 @@ use Rattle.text_fields.specs.Decimal.{decimalIn, decimal}
 use Rattle.print_text.specs.declared.lines.Summary.{Summary}
 use Rattle.print_text.specs.Lines.{labelled, sizesLine, rankLine, openLine, wordLine, openLines, openCount, closedCount, totalsLine}
 use Rattle.print_text.specs.Report.{reportText, refusalText}
-use Rattle.print_text.specs.Answer.{valuesText, answerLine, answerText}
+use Rattle.print_text.specs.Answer.{valuesText, valuesLine, answerText, slotsText}
 
 abbrev pub summaryD : Summary
 summaryD = record { modulus = 7; slots = 5; words = 5; entries = 11; rank = 4; structural = 4; lower = 6; upper = 7 }
@@ -42,15 +44,24 @@ unfolding refusalText flatten labelled decimal decimalIn
 a-refusal = refl
 
 pub D-open : answerText true (0 ∷ 0 ∷ 0 ∷ 0 ∷ 5 ∷ []) (0 ∷ 0 ∷ 0 ∷ 0 ∷ 0 ∷ []) ≡ 111 ∷ 112 ∷ 101 ∷ 110 ∷ 32 ∷ 48 ∷ 32 ∷ 48 ∷ 32 ∷ 48 ∷ 32 ∷ 48 ∷ 32 ∷ 53 ∷ 10 ∷ []
-unfolding answerLine valuesText flatten labelled decimal decimalIn
+unfolding valuesLine valuesText flatten labelled decimal decimalIn
 D-open = refl
 
 pub D-closed : answerText false (0 ∷ 0 ∷ 0 ∷ 0 ∷ 0 ∷ []) (3 ∷ 2 ∷ 1 ∷ 1 ∷ 0 ∷ []) ≡ 99 ∷ 108 ∷ 111 ∷ 115 ∷ 101 ∷ 100 ∷ 32 ∷ 51 ∷ 32 ∷ 50 ∷ 32 ∷ 49 ∷ 32 ∷ 49 ∷ 32 ∷ 48 ∷ 10 ∷ []
-unfolding answerLine valuesText flatten labelled decimal decimalIn
+unfolding valuesLine valuesText flatten labelled decimal decimalIn
 D-closed = refl
 
+pub D-words : slotsText true (4 ∷ 3 ∷ 0 ∷ 0 ∷ 4 ∷ []) (0 ∷ 0 ∷ 0 ∷ 0 ∷ 0 ∷ []) ≡ 119 ∷ 111 ∷ 114 ∷ 100 ∷ 115 ∷ 32 ∷ 52 ∷ 32 ∷ 51 ∷ 32 ∷ 48 ∷ 32 ∷ 48 ∷ 32 ∷ 52 ∷ 10 ∷ []
+unfolding valuesLine valuesText flatten labelled decimal decimalIn
+D-words = refl
+
+pub D-contradiction : slotsText false (0 ∷ 0 ∷ 0 ∷ 0 ∷ 0 ∷ []) (5 ∷ 6 ∷ 1 ∷ 0 ∷ 0 ∷ [])
+    ≡ 99 ∷ 111 ∷ 110 ∷ 116 ∷ 114 ∷ 97 ∷ 100 ∷ 105 ∷ 99 ∷ 116 ∷ 105 ∷ 111 ∷ 110 ∷ 32 ∷ 53 ∷ 32 ∷ 54 ∷ 32 ∷ 49 ∷ 32 ∷ 48 ∷ 32 ∷ 48 ∷ 10 ∷ []
+unfolding valuesLine valuesText flatten labelled decimal decimalIn
+D-contradiction = refl
+
 pub no-slots : answerText true [] (0 ∷ []) ≡ 111 ∷ 112 ∷ 101 ∷ 110 ∷ 10 ∷ []
-unfolding answerLine valuesText flatten labelled decimal decimalIn
+unfolding valuesLine valuesText flatten labelled decimal decimalIn
 no-slots = refl
 
 pub ten-digits : refusalText 4294967295 10 ≡ 114 ∷ 101 ∷ 102 ∷ 117 ∷ 115 ∷ 101 ∷ 100 ∷ 32 ∷ 52 ∷ 50 ∷ 57 ∷ 52 ∷ 57 ∷ 54 ∷ 55 ∷ 50 ∷ 57 ∷ 53 ∷ 32 ∷ 97 ∷ 116 ∷ 32 ∷ 49 ∷ 48 ∷ 10 ∷ []

@@ -1,4 +1,5 @@
--- A buffer of 65,536 bytes holds whatever the programs print: a report of at most 2,048 words, a refusal, an answer of at most 2,048 values.
+-- A buffer of 65,536 bytes holds whatever the programs print: a report of at most 2,048 words, a refusal, an answer of at most
+-- 2,048 values.
 use mathlib.Core.Bool.{Bool, true, false, cond}
 use mathlib.Core.List.{List, [], _∷_, _++_, flatten}
 use mathlib.Core.Path.{_≡_}
@@ -13,7 +14,7 @@ use Rattle.print_text.specs.declared.lines.Summary.{Summary}
 use Rattle.print_text.specs.Labels.{modulusLabel, slotsLabel, wordsLabel, entriesLabel, rankLabel, structuralLabel, lowerLabel, upperLabel, openLabel, ownerLabel, totalsLabel, closedLabel, refusedLabel, atLabel, space}
 use Rattle.print_text.specs.Lines.{labelled, sizesLine, rankLine, openLine, wordLine, openLines, openCount, closedCount, totalsLine}
 use Rattle.print_text.specs.Report.{reportText, refusalText}
-use Rattle.print_text.specs.Answer.{valuesText, verdictWord, answerLine}
+use Rattle.print_text.specs.Answer.{valuesText, valuesLine, verdictWord, answerLine, slotsWord, slotsLine}
 use Rattle.print_text.specs.Needs.{Printable}
 
 labelled-short : (label : List ℕ) (x : ℕ) → length (labelled label x) ≤ length label + 10
@@ -77,13 +78,18 @@ unfolding valuesText
 values-short [] = omega arith
 values-short (x ∷ xs) = omega (arith, length-append (labelled space x) (valuesText xs), labelled-short space x, values-short xs)
 
-verdict-short : (t : Bool) → length (verdictWord t) ≤ 6
+line-short : (label xs : List ℕ) → length (valuesLine label xs) ≤ 1 + length label + 11 * length xs
+unfolding valuesLine flatten
+line-short label xs = simp length-append (omega (arith, values-short xs))
+
+-- a label of at most 13 letters
+verdict-short : (t : Bool) → length (verdictWord t) ≤ 13
 verdict-short true = omega arith
 verdict-short false = omega arith
 
-answer-short : (t : Bool) (xs : List ℕ) → length (answerLine t xs) ≤ 7 + 11 * length xs
-unfolding answerLine flatten
-answer-short t xs = simp length-append (omega (arith, verdict-short t, values-short xs))
+slots-short : (t : Bool) → length (slotsWord t) ≤ 13
+slots-short true = omega arith
+slots-short false = omega arith
 
 pub report-room : (s : Summary) (owners cells out : List ℕ) → length owners ≡ length cells → length cells ≤ 2048 → 65536 ≤ length out → Printable s owners cells out
 report-room s owners cells out e h l = record { columns = h; owned = e; room = omega (arith, report-short s owners cells h) }
@@ -92,5 +98,11 @@ pub refusal-room : (k d : ℕ) (out : List ℕ) → 65536 ≤ length out → len
 unfolding refusalText flatten
 refusal-room k d out l = simp length-append (omega (arith, labelled-short refusedLabel k, labelled-short atLabel d))
 
+pub line-room : (label xs out : List ℕ) → length label ≤ 13 → length xs ≤ 2048 → 65536 ≤ length out → length (valuesLine label xs) ≤ length out
+line-room label xs out short few l = omega (arith, line-short label xs)
+
 pub answer-room : (t : Bool) (xs out : List ℕ) → length xs ≤ 2048 → 65536 ≤ length out → length (answerLine t xs) ≤ length out
-answer-room t xs out h l = omega (arith, answer-short t xs)
+answer-room t xs out few l = line-room (verdictWord t) xs out (verdict-short t) few l
+
+pub slots-room : (t : Bool) (xs out : List ℕ) → length xs ≤ 2048 → 65536 ≤ length out → length (slotsLine t xs) ≤ length out
+slots-room t xs out few l = line-room (slotsWord t) xs out (slots-short t) few l

@@ -2,7 +2,8 @@
 --   modulusLabel, slotsLabel, wordsLabel, entriesLabel, rankLabel, structuralLabel, lowerLabel, upperLabel, openLabel, ownerLabel, totalsLabel,
 --   closedLabel, refusedLabel, atLabel
 --                       what stands before each number, with its spaces
---   openWord, closedWord    the two verdicts
+--   openWord, closedWord    the two verdicts on a question
+--   settingWord, contradictionWord    the two answers to slot values
 --   space, lineFeed         what stands before each value, and at the end of each line
 use Prim.Native.Nat.{ℕ}
 use mathlib.Core.List.{List, [], _∷_}
@@ -70,6 +71,14 @@ openWord = 111 ∷ 112 ∷ 101 ∷ 110 ∷ []
 -- `closed`
 abbrev pub closedWord : List ℕ
 closedWord = 99 ∷ 108 ∷ 111 ∷ 115 ∷ 101 ∷ 100 ∷ []
+
+-- `words`
+abbrev pub settingWord : List ℕ
+settingWord = 119 ∷ 111 ∷ 114 ∷ 100 ∷ 115 ∷ []
+
+-- `contradiction`
+abbrev pub contradictionWord : List ℕ
+contradictionWord = 99 ∷ 111 ∷ 110 ∷ 116 ∷ 114 ∷ 97 ∷ 100 ∷ 105 ∷ 99 ∷ 116 ∷ 105 ∷ 111 ∷ 110 ∷ []
 
 -- ` `
 abbrev pub space : List ℕ

@@ -4,3 +4,4 @@ pub mod lines;
 mod number;
 pub mod report;
 mod totals;
+mod values;

@@ -26,7 +26,7 @@ use Rattle.algebra.proofs.Dot.{dot-eq, dot-left, dot-comm, dot-place, place-at,
 use Rattle.algebra.proofs.Finite.{onto}
 use Rattle.algebra.proofs.Reduction.{taken, reduced-split}
 use Rattle.algebra.proofs.Verdict.{combination, closed-answer}
-use Rattle.algebra.proofs.Substitution.{Right, right-ends}
+use Rattle.algebra.proofs.Substitution.{Right, right-none}
 use Rattle.residue.specs.Inverse.{Invertible}
 use Rattle.sparse.specs.Matrix.{Compressed, matrix}
 use Rattle.sparse.specs.Set.{Set}
@@ -85,6 +85,23 @@ solve-lengths p n m s y =
       | inr c ↦ (ap (λ (a : Solved). length (a .x)) (c .1) ∙ length-zeros n, ap (λ (a : Solved). length (a .z)) (c .1) ∙ length-tabulate m _)
     ]
 
+-- L's diagonal can be divided by, and no two pivot rows are equal
+module _ {p : ℕ} (prime : Prime p) {n m : ℕ} {A : Compressed} {s : Set} (ok : Passes p n m A s) where
+  pub passed-diagonal : (k : ℕ) → k < s .r → Invertible p (matrix (s .L) k k)
+  passed-diagonal k h =
+      record {
+        prime = prime;
+        nonzero = elim (ℕ-discrete (matrix (s .L) k k) 0) [ yes e ↦ absurd (ok .factors .L-diagonal k h (exact e)) | no e ↦ omega arith ];
+        below = form-below p (s .r) (s .L .starts) (s .L .cols) (s .L .vals) (ok .L-form) k k (omega (arith, prime .two));
+      }
+
+  pub passed-rows : Distinct (s .r) n (vector (s .R))
+  passed-rows =
+      record {
+        below = λ a h. ok .factors .rows .below a (omega (arith, ok .factors .rank-rows));
+        apart = λ a b h g e. ok .factors .rows .apart a b (omega (arith, ok .factors .rank-rows)) (omega (arith, ok .factors .rank-rows)) e;
+      }
+
 module _ {p : ℕ} (prime : Prime p) {n m : ℕ} {A : Compressed} {s : Set} (ok : Passes p n m A s) (y : List ℕ) (small : (j : ℕ) → j < m → vector y j < p) where
   pos : 0 < p
   pos = omega (arith, prime .two)
@@ -111,19 +128,10 @@ module _ {p : ℕ} (prime : Prime p) {n m : ℕ} {A : Compressed} {s : Set} (ok 
   inside k h = ok .factors .columns .below k (omega (arith, ok .factors .rank-columns))
 
   diagonal : (k : ℕ) → k < r → Invertible p (L k k)
-  diagonal k h =
-      record {
-        prime = prime;
-        nonzero = elim (ℕ-discrete (L k k) 0) [ yes e ↦ absurd (ok .factors .L-diagonal k h (exact e)) | no e ↦ omega arith ];
-        below = form-below p r (s .L .starts) (s .L .cols) (s .L .vals) (ok .L-form) k k pos;
-      }
+  diagonal = passed-diagonal prime ok
 
   pivot-rows : Distinct r n R
-  pivot-rows =
-      record {
-        below = λ a h. ok .factors .rows .below a (omega (arith, ok .factors .rank-rows));
-        apart = λ a b h g e. ok .factors .rows .apart a b (omega (arith, ok .factors .rank-rows)) (omega (arith, ok .factors .rank-rows)) e;
-      }
+  pivot-rows = passed-rows prime ok
 
   off : (i : ℕ) → r ≤ i → i < n → place r R v (R i) ≡ 0
   off i h g = place-off r R v (R i) (λ k b e. omega (arith, ok .factors .rows .apart k i (omega arith) g e))
@@ -161,14 +169,14 @@ module _ {p : ℕ} (prime : Prime p) {n m : ℕ} {A : Compressed} {s : Set} (ok 
     apart : (l : ℕ) → l < r → C l ≢ j
     apart = closed-answer prime (ok .factors) (vector y) small j low .1 .pivot
 
-    z-starts : Right prime (ok .factors) r (δ j)
+    z-starts : Right prime (ok .factors) (λ l. 0) r (δ j)
     z-starts = record { done = λ l h g. absurd (omega arith); todo = λ l h. δ-other j (C l) (λ e. apart l h (sym e)) }
 
     z-answers : ClosedAnswer p n m r (matrix A) C j z
     z-answers =
         record {
           residues = λ t h. backU-small p m C U r (δ j) pos (δ-small p (prime .two) j) t;
-          kernel = right-ends prime (ok .factors) z (backU-right prime (ok .factors) r (omega arith) (δ j) z-starts);
+          kernel = right-none prime (ok .factors) z (backU-right prime (ok .factors) r (omega arith) (δ j) z-starts);
           pivot = apart;
           one = backU-kept p m C U r (δ j) j apart ∙ δ-same j;
           others = λ l h g e.

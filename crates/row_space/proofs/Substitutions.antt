@@ -32,7 +32,7 @@ put-here z c v = ap (λ (b : Bool). cond b v (z c)) (eq-eqb c c refl)
 pub put-other : (z : Vector) (c v t : ℕ) → t ≢ c → put z c v t ≡ z t
 put-other z c v t h = ap (λ (b : Bool). cond b v (z t)) (ne-eqb t c h)
 
-put-small : (p : ℕ) (z : Vector) (c v : ℕ) → v < p → (t : ℕ) → z t < p → put z c v t < p
+pub put-small : (p : ℕ) (z : Vector) (c v : ℕ) → v < p → (t : ℕ) → z t < p → put z c v t < p
 put-small p z c v h t g = go (eqb t c)
   where
     go : (b : Bool) → cond b v (z t) < p
@@ -102,16 +102,14 @@ backU-small p m C U zero z pos h t = h t
 backU-small p m C U (suc k) z pos h t =
     backU-small p m C U k (put z (C k) (missing p m (U k) z)) pos (λ t. put-small p z (C k) (missing p m (U k) z) (mod-lt (p - dot m (U k) z % p) pos) t (h t)) t
 
-module _ {p : ℕ} (prime : Prime p) {n m r : ℕ} {A : Matrix} {R C : ℕ → ℕ} {L U : Matrix} (f : Factors p n m r A R C L U) where
-  missing-zero : (x : ℕ) → (p - x % p) % p + x ≈⟨ p ⟩ 0
-  missing-zero x =
-      let h = mod-lt x {m = p} (omega (arith, prime .two)) in
-      same-refl ((p - x % p) % p) ⊕ turn (same-mod x) ⊙ negative-add (omega arith)
+pub missing-zero : (p x : ℕ) → 0 < p → (p - x % p) % p + x ≈⟨ p ⟩ 0
+missing-zero p x pos = let h = mod-lt x pos in same-refl ((p - x % p) % p) ⊕ turn (same-mod x) ⊙ negative-add (omega arith)
 
-  pub backU-right : (k : ℕ) → k ≤ r → (z : Vector) → Right prime f k z → Right prime f 0 (backU p m C U k z)
+module _ {p : ℕ} (prime : Prime p) {n m r : ℕ} {A : Matrix} {R C : ℕ → ℕ} {L U : Matrix} (f : Factors p n m r A R C L U) where
+  pub backU-right : (k : ℕ) → k ≤ r → (z : Vector) → Right prime f (λ l. 0) k z → Right prime f (λ l. 0) 0 (backU p m C U k z)
   unfolding backU
   backU-right zero h z s = s
   backU-right (suc k) h z s =
       backU-right k (omega arith) (put z (C k) (missing p m (U k) z))
-      (right-turn prime f k z (put z (C k) (missing p m (U k) z)) (missing p m (U k) z) h s (missing-zero (dot m (U k) z))
+      (right-turn prime f (λ l. 0) k z (put z (C k) (missing p m (U k) z)) (missing p m (U k) z) h s (missing-zero p (dot m (U k) z) (omega (arith, prime .two)))
       (record { old = s .todo k (lt-suc-self k); new = put-here z (C k) (missing p m (U k) z); kept = λ i e. put-other z (C k) (missing p m (U k) z) i e }))

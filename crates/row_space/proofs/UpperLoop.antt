@@ -68,7 +68,7 @@ pub record Filling (p : ℕ) (C : Vector) (U : Matrix) (r : ℕ) (z₀ z : List 
 pub filling-starts : (p : ℕ) (C : Vector) (U : Matrix) (r : ℕ) (z : List ℕ) → Below p z → Filling p C U r z z r
 filling-starts p C U r z h = record { inside = omega arith; long = refl; small = h; rest = λ t h. refl }
 
-set-put : (z : List ℕ) (c v t : ℕ) → c < length z → vector (set z c v) t ≡ put (vector z) c v t
+pub set-put : (z : List ℕ) (c v t : ℕ) → c < length z → vector (set z c v) t ≡ put (vector z) c v t
 set-put z c v t h = elim (ℕ-discrete t c) [
   | yes e ↦ ap (λ (i : ℕ). getD (set z c v) i 0) e ∙ getD-set-same z c v 0 h ∙ sym (ap (put (vector z) c v) e ∙ put-here (vector z) c v)
   | no e ↦ getD-set-other z c t v 0 e ∙ sym (put-other (vector z) c v t e)

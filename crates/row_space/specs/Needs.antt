@@ -1,4 +1,5 @@
 -- What the two substitutions need of a set and of the lent lists.
+--   DiagonalReady p k L        L is well formed and lower triangular, and k is one of its rows
 --   LowerReady p L w           L is well formed and lower triangular, with a column for each cell of w
 --   LowerRowReady p k L w      the same, and k is one of its rows
 --   LowerOrder p L R w x       R gives each row of L a place in x, which is all zero
@@ -16,6 +17,14 @@ use Rattle.sparse.specs.Row.{Below, Row}
 use Rattle.sparse.specs.Matrix.{Compressed, matrix, form}
 use Rattle.pluq.specs.Order.{permutation}
 use Rattle.pluq.specs.Shape.{lower}
+
+pub record DiagonalReady (p k : ℕ) (L : Compressed) : Type 0 where
+  pub width : ℕ
+  pub prime : Prime p
+  pub formed : form p width L ≡ true
+  pub shaped : lower width (matrix L) ≡ true
+  pub inside : k < width
+  pub rows : width < length (L .starts)
 
 pub record LowerReady (p : ℕ) (L : Compressed) (w : List ℕ) : Type 0 where
   pub prime : Prime p

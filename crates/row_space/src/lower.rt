@@ -1,17 +1,36 @@
 // x by substitution through L, from its last pivot row up.
 ghost use lib.ListN.{length};
+ghost use Rattle.residue.specs.Arithmetic.{Residue};
+ghost use Rattle.residue.specs.Inverse.{invMod};
 ghost use Rattle.sparse.specs.Views.{before, after, viewAt, viewedAt, viewedBefore, vectorBefore, matrixBefore};
 ghost use Rattle.row_space.specs.Substitution.{throughL};
 ghost use Rattle.row_space.specs.Solving.{residues, QuotientTaken, Placed};
-ghost use Rattle.row_space.specs.Needs.{LowerRowReady, LowerOrder};
+ghost use Rattle.row_space.specs.Needs.{DiagonalReady, LowerRowReady, LowerOrder};
 use lists::clear_row;
 use lists::index;
 use residue::Modulus;
 use sparse::kernel::subtract_row;
 use sparse::words::word;
 
-// The value of row k: what the working row has at k, divided by the row's last entry, which is its diagonal entry.
-// The row is taken away so often.
+// One divided by the diagonal entry of row k, which is the row's last entry.
+pub fn inverse_diagonal(
+    q: Modulus,
+    ls: &[u32],
+    lsb: &[u8],
+    lc: &[u32],
+    lcb: &[u8],
+    lv: &[u32],
+    lvb: &[u8],
+    k: usize,
+) -> u32
+    requires { ⌜ DiagonalReady (q .p) k (viewedAt ls lsb lc lcb lv lvb) ⌝ }
+    ensures { λ v. ⌜ Residue (q .p) (invMod (q .p) (matrixBefore ls lsb lc lcb lv lvb k k)) v ⌝ }
+{
+    let e = index(word(ls, lsb, k + 1));
+    q.invert(word(lv, lvb, e - 1))
+}
+
+// The value of row k: what the working row has at k, divided by the row's diagonal entry. The row is taken away so often.
 fn take_quotient(
     q: Modulus,
     ls: &[u32],
@@ -26,10 +45,9 @@ fn take_quotient(
     requires { ⌜ LowerRowReady (q .p) k (viewedAt ls lsb lc lcb lv lvb) (now work) ⌝ }
     ensures { λ v. ⌜ QuotientTaken (q .p) (viewedBefore ls lsb lc lcb lv lvb) k (before work) (after work) v ⌝ }
 {
-    let e = index(word(ls, lsb, k + 1));
-    let a = word(lv, lvb, e - 1);
     let d = q.reduce(work[k]);
-    let v = q.multiply(d, q.invert(a));
+    let a = inverse_diagonal(q, ls, lsb, lc, lcb, lv, lvb, k);
+    let v = q.multiply(d, a);
     subtract_row(q, ls, lsb, lc, lcb, lv, lvb, k, v, work);
     v
 }

@@ -32,8 +32,8 @@ fn row_times(q: Modulus, cols: &[u32], cb: &[u8], vals: &[u32], vb: &[u8], z: &[
     s
 }
 
-// What row k of U times z lacks to be 0.
-fn missing_value(
+// What row k of a stored matrix times z lacks to be 0.
+pub fn missing_value(
     q: Modulus,
     us: &[u32],
     usb: &[u8],

@@ -1,6 +1,6 @@
 -- Owners alter no factor, no certificate and no verdict on a question (document 02, slip 4).
 -- Of a stored plan, os and os′ being two lists of m owners: what a call returned and left with the one it returns and leaves with the other.
---   check-alike, write-alike, factor-alike, answer-alike, list-alike
+--   check-alike, write-alike, factor-alike, answer-alike, list-alike, solve-alike
 --                        checking, writing, factoring, answering and listing the open columns, from stored factors and from a certificate
 -- Of the text of one plan, with any owners after it or with none: T and T′ are two such texts within the limit.
 --   read-call-alike      the call that reads the one returns and leaves of the plan what it returns and leaves for the other, whatever room it is lent
@@ -10,8 +10,9 @@
 --   make-alike           the call for C that makes a certificate returns the same number and leaves the same bytes
 --   check-text-alike     the call for C that checks one returns the same number
 --   ask-alike            the question program prints the same line
+--   words-alike          and so it does with the verb `words`
 use Prim.Native.Nat.{ℕ, _≤_}
-use mathlib.Core.Path.{_≡_, ap, subst, _∙_}
+use mathlib.Core.Path.{_≡_, sym, ap, subst, _∙_}
 use mathlib.Core.List.{List, _++_}
 use lib.ListN.{length}
 use Rattle.lists.specs.Filled.{filled}
@@ -30,6 +31,8 @@ use Rattle.call_write.specs.declared.Written.{Written}
 use Rattle.call_answer.specs.Calls.{Given, Answers}
 use Rattle.call_answer.specs.declared.Answer.{Answer}
 use Rattle.call_open.specs.Calls.{Listed, Lists}
+use Rattle.call_slots.specs.Calls.{SlotsGiven, Solves}
+use Rattle.call_slots.specs.declared.Solution.{Solution}
 use Rattle.call_owned.specs.Owned.{ownedOutcome, ownedFactors, ownedAnswer, ownedList}
 use Rattle.call_owned.proofs.Owned.{outcomes-alike, factors-alike as factorings-alike, givens-alike, lists-alike}
 use Rattle.text_owners.specs.Call.{ownersLength, textCallOf, GivesText}
@@ -41,6 +44,8 @@ use Rattle.plq.specs.Calls.{checkTextOf, certificateFor, packed, Makes}
 use Rattle.plq.proofs.Texts as texts
 use Rattle.ask_lib.specs.Asking.{Asks}
 use Rattle.ask_lib.proofs.Theorems as asks
+use Rattle.ask_words.specs.Solving.{TellsWords}
+use Rattle.ask_words.proofs.Theorems as words
 
 -- ---- a stored plan
 
@@ -60,6 +65,10 @@ module _ (m : ℕ) (os os′ : List ℕ) (long : length os ≡ m) (long′ : len
 
   pub list-alike : (g : Listed) (r : Outcome) (l₀ l w₀ w : List ℕ) → Lists (ownedList (length os) m g) r l₀ l w₀ w → Lists (ownedList (length os′) m g) r l₀ l w₀ w
   list-alike g r l₀ l w₀ w = subst (λ (x : Listed). Lists x r l₀ l w₀ w) (lists-alike (length os) (length os′) m long long′ g)
+
+  -- g makes what is given from the number of owners, as `slotsFactorsOf` and `slotsCertificateOf` do
+  pub solve-alike : (g : ℕ → SlotsGiven) (r : Solution) (s₀ s w₀ w v₀ v : List ℕ) → Solves (g (length os)) r s₀ s w₀ w v₀ v → Solves (g (length os′)) r s₀ s w₀ w v₀ v
+  solve-alike g r s₀ s w₀ w v₀ v = subst (λ (k : ℕ). Solves (g k) r s₀ s w₀ w v₀ v) (long ∙ sym long′)
 
 -- ---- the text of a plan
 
@@ -95,3 +104,6 @@ module _ (s : Sizes) (ts : List StatedEntry) (foot foot′ vs vs′ : List ℕ) 
 
   pub ask-alike : (y : List ℕ) (size : ℕ) (b₀ b w₀ w : List ℕ) → Asks T y size b₀ b w₀ w → Asks T′ y size b₀ b w₀ w
   ask-alike = asks.asked-alike T T′ (read-alike .0)
+
+  pub words-alike : (h : List ℕ) (size : ℕ) (b₀ b w₀ w : List ℕ) → TellsWords T h size b₀ b w₀ w → TellsWords T′ h size b₀ b w₀ w
+  words-alike = words.words-alike T T′ (read-alike .0)

@@ -3,6 +3,7 @@
 A kind is a function from a random source, a modulus and two sizes to rows as
 dictionaries from column to value.
 
+    EDGES        moduli and sizes of small plans
     KINDS        the kinds by name, for any sizes
     THIN_KINDS   those with few entries in a row, for large sizes
     random_plan  a plan of random kind, modulus and size
@@ -13,6 +14,9 @@ from model.storage import Plan, store
 
 from .owners import random_owners
 
+# The modulus, the slots and the words: without slots, without words, modulo 2, and modulo
+# the largest.
+EDGES = ((7, 0, 0), (7, 0, 3), (2, 0, 2), (7, 3, 0), (2, 4, 5), (2, 5, 3), (4_294_967_291, 4, 5))
 MODULI = (2, 3, 5, 7, 13, 251, 65_521, 65_537, 2_147_483_647, 4_294_967_291)
 SHORT_VALUES = 65_521  # up to this modulus values have five digits, above it ten
 SHORT_LINE = len("2048 2048 65520\n")

@@ -8,6 +8,7 @@
     damaged_text a text with something changed
     random_question   m numbers, now and then one that is no residue
     question_text     such numbers as text, now and then with something changed
+    values_text       any numbers so
 """
 
 import re
@@ -277,9 +278,13 @@ def random_question(rng, plan):
 
 
 def question_text(rng, plan):
+    return values_text(rng, random_question(rng, plan))
+
+
+def values_text(rng, values):
     """Between spaces or line feeds, with or without a line feed at the end;
     now and then a field that is odd, one more or one fewer, or a byte changed."""
-    fields = [b"%d" % value for value in random_question(rng, plan)]
+    fields = [b"%d" % value for value in values]
     if fields and rng.random() < 0.3:
         place = rng.randrange(len(fields))
         fields[place : place + 1] = rng.choice(([], [b"0", b"0"], [rng.choice(ODD_FIELDS)]))

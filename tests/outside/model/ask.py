@@ -1,9 +1,11 @@
-"""The question program's output (document 01, "Questions"; the form of the lines is the program's own; the
-line of owners, slip 4 of the change requests).
+"""The question program's output (document 01, "Questions"; the form of the lines is the program's
+own; the line of owners and the verb `words`, slips 4 and 6 of the change requests).
 
     ask          the output for a text and a question
     answer_line  the line of an answer
-    ask_by_text  the output for a text that the question follows
+    ask_words    the output for a text and slot values, by the verb `words`
+    words_line   the line of their solution
+    ask_by_text, ask_words_by_text   the output for a text that the values follow
     plan_end     where the plan's text ends in such a text
 """
 
@@ -12,6 +14,7 @@ import re
 from .questions import answer_from_factors
 from .refusals import QUESTION_VALUE, Refusal
 from .report import printed, refused, stages
+from .slots import slots_from_factors
 
 NO_RESIDUE = 2**32 - 1  # stands for a value that is no number of 32 bits
 GREATEST_INPUT = 98_304  # bytes that are looked at
@@ -19,29 +22,56 @@ PLAN_END = re.compile(rb"(?m)^0 0 0\n(owners( [^\n]*)?(\n|\Z))?")
 
 
 def ask(text, y):
-    """`open` with x or `closed` with z, on one line, or a refusal. The index
-    of a value that is no residue counts from 1, as in all printed text."""
+    """`open` with x or `closed` with z, on one line, or a refusal."""
+    return _output(text, y, answer_from_factors, answer_line)
+
+
+def ask_words(text, h):
+    """`words` with s or `contradiction` with w, on one line, or a refusal."""
+    return _output(text, h, slots_from_factors, words_line)
+
+
+def _output(text, values, call, line):
+    """The line of what the call gives, or a refusal. The index of a value that
+    is no residue counts from 1, as in all printed text."""
     result = stages(text)
     if isinstance(result, Refusal):
         return refused(result)
     plan, (factors, _) = result
-    answer = answer_from_factors(plan, factors, y)
-    if isinstance(answer, Refusal):
-        counted = answer.detail + (answer.number == QUESTION_VALUE)
-        return refused(Refusal(answer.number, counted))
-    return answer_line(answer)
+    found = call(plan, factors, values)
+    if isinstance(found, Refusal):
+        counted = found.detail + (found.number == QUESTION_VALUE)
+        return refused(Refusal(found.number, counted))
+    return line(found)
 
 
 def answer_line(answer):
-    verdict, cells = ("open", answer.x) if answer.is_open else ("closed", answer.z)
+    return _line(*("open", answer.x) if answer.is_open else ("closed", answer.z))
+
+
+def words_line(solution):
+    return _line(*("words", solution.s) if solution.solved else ("contradiction", solution.w))
+
+
+def _line(verdict, cells):
     return printed(" ".join([verdict, *map(str, cells)]))
 
 
 def ask_by_text(text):
     """What follows the plan's text is the question."""
+    return ask(*_parts(text))
+
+
+def ask_words_by_text(text):
+    """What follows the plan's text are the slot values."""
+    return ask_words(*_parts(text))
+
+
+def _parts(text):
+    """The plan's text and the values that follow it."""
     text = text[:GREATEST_INPUT]
     end = plan_end(text)
-    return ask(text[:end], _values(text[end:]))
+    return text[:end], _values(text[end:])
 
 
 def plan_end(text):

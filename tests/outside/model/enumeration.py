@@ -1,4 +1,5 @@
-"""The same notions by trying everything, for tiny plans (document 01, "Factors": rank; "Questions").
+"""The same notions by trying everything, for tiny plans (document 01, "Factors": rank; "Questions";
+slot values by slip 6 of the change requests).
 
 No factors are used but for which rows and columns are pivots. A matrix is a
 list of full rows.
@@ -7,6 +8,7 @@ list of full rows.
     combinations all lists of residues of a length
     rank         the greatest number of independent rows
     answer       x and z as document 01 describes them, found by trying all
+    slots        s and w as slip 6 describes them, found so too
     values       the values y.s over the settings s that give certain slots
 """
 
@@ -72,6 +74,23 @@ def answer(plan, pivot_rows, pivot_columns, y):
         if sum(a * b for a, b in zip(y, z)) % p:
             return False, (0,) * n, z
     raise AssertionError("a closed question without a witness")
+
+
+def slots(plan, pivot_rows, pivot_columns, h):
+    """(solved, s, w): the only s with As = h that is 0 off the pivot columns; where
+    no s has As = h, the w of the lowest non-pivot row whose w.h is not 0."""
+    rows = full_rows(plan)
+    p, n, m = plan.p, plan.n, plan.m
+    settings = [s for s in combinations(p, m) if times_setting(rows, s, p) == tuple(h)]
+    if settings:
+        (s,) = [s for s in settings if _zero_off(s, pivot_columns)]
+        return True, s, (0,) * n
+    cancelling = [w for w in combinations(p, n) if not any(times_rows(w, rows, m, p))]
+    for free in sorted(set(range(n)) - set(pivot_rows)):
+        (w,) = [w for w in cancelling if w[free] == 1 and _zero_off(w, {free, *pivot_rows})]
+        if sum(a * b for a, b in zip(w, h)) % p:
+            return False, (0,) * m, w
+    raise AssertionError("slot values that no setting gives, without a contradiction")
 
 
 def _zero_off(cells, places):

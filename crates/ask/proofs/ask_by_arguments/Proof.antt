@@ -19,7 +19,7 @@ slice-aggregate-print-answer : tie.Need-slice-aggregate-print-answer
 slice-aggregate-print-answer c = sym (length-take-le _ _ (c .before .before .question .ensures))
 
 print-answer-requires : tie.Need-print-answer-requires
-print-answer-requires c κs = let q = c .before .before .question in omega (arith, length-take-le (q .result) (q .last .0) (q .ensures), q .ensures, q .kept .0)
+print-answer-requires c κs = let q = c .before .before .question in omega (arith, length-take-le (q .result) (q .last .1 .0) (q .ensures), q .ensures, q .kept .1 .0)
 
 returns : tie.Need-returns
 returns c = search needs

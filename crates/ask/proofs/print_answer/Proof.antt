@@ -6,20 +6,20 @@ use borrow.Author.Needs.{needs}
 use Rattle.ask.proofs.print_answer.Statement.{statement}
 use Rattle.ask.proofs.print_answer.Tie as tie
 
-slice-aggregate-ask : tie.Need-slice-aggregate-ask
-slice-aggregate-ask c = search needs
+slice-aggregate-write-line : tie.Need-slice-aggregate-write-line
+slice-aggregate-write-line c = search needs
 
-slice-aggregate-ask-2 : tie.Need-slice-aggregate-ask-2
-slice-aggregate-ask-2 c = search needs
+slice-aggregate-write-line-2 : tie.Need-slice-aggregate-write-line-2
+slice-aggregate-write-line-2 c = search needs
 
-ask-requires : tie.Need-ask-requires
-ask-requires c κs = search needs
+write-line-requires : tie.Need-write-line-requires
+write-line-requires c κs = search needs
 
 array-share-prefix-out : tie.Need-array-share-prefix-out
-array-share-prefix-out c = let a = c .before .before .ask in line-inside _ _ _ _ (a .kept .1 .1 .0) (a .ensures .answer)
+array-share-prefix-out c = let a = c .before .before .write-line in line-inside _ _ _ _ (a .kept .1 .1 .1 .0) (a .ensures)
 
 slice-aggregate-write-all : tie.Need-slice-aggregate-write-all
-slice-aggregate-write-all c = let a = c .before .before .before .ask in sym (length-take-le _ _ (line-inside _ _ _ _ (a .kept .1 .1 .0) (a .ensures .answer)))
+slice-aggregate-write-all c = let a = c .before .before .before .write-line in sym (length-take-le _ _ (line-inside _ _ _ _ (a .kept .1 .1 .1 .0) (a .ensures)))
 
 write-all-requires : tie.Need-write-all-requires
 write-all-requires c κs = search needs
@@ -31,9 +31,9 @@ pub print-answer-spec : {M : Type 1} → statement M
 print-answer-spec =
     tie.close
     (tie.spec
-    slice-aggregate-ask
-    slice-aggregate-ask-2
-    ask-requires
+    slice-aggregate-write-line
+    slice-aggregate-write-line-2
+    write-line-requires
     array-share-prefix-out
     slice-aggregate-write-all
     write-all-requires

@@ -3,6 +3,9 @@ use mathlib.Core.Path.{refl, sym}
 use Rattle.sparse.specs.Matrix.{Compressed, compressed}
 use Rattle.sparse.specs.Set.{Storage, storageOf}
 use Rattle.print_text.proofs.Room.{refusal-room}
+use Rattle.call_answer.specs.Calls.{answerDetail}
+use Rattle.ask_lib.specs.Asking.{givenLine}
+use Rattle.ask_lib.specs.Held.{heldAnswer}
 use Rattle.ask_lib.proofs.Asked.{refused, answerable, line-ready, answered}
 use borrow.Author.Needs.{needs}
 use Rattle.ask_lib.proofs.ask_staged.Statement.{statement}
@@ -29,7 +32,7 @@ same-length : tie.Need-same-length
 same-length c = c .before .before .write-refusal .kept .1 .1 .0
 
 returns : tie.Need-returns
-returns c = let s = c .before .before .before .before .before .before .before .before .before .before .before .before .before .before .before .before .before .before .before .before .before .before in let o = c .before .before .before .before .before .before .before .refusal in let x = c .before .before .write-refusal in refused (s .args .s) (plan s) (lent s) (s .args .y .now) (s .args .out .now) (s .pre) (o .result) (o .ensures) _ _ (x .result) (x .last .1 .1 .0) (c .before .before .before .before .before .refused .given .1) (x .ensures)
+returns c = let s = c .before .before .before .before .before .before .before .before .before .before .before .before .before .before .before .before .before .before .before .before .before .before in let o = c .before .before .before .before .before .before .before .refusal in let x = c .before .before .write-refusal in refused (s .args .s) (plan s) (lent s) (s .args .y .now) (s .args .out .now) (s .pre) (o .result) (o .ensures) (givenLine (heldAnswer (s .args .s) (plan s) (lent s) (s .args .y .now))) _ _ (x .result) (x .last .1 .1 .0) (c .before .before .before .before .before .refused .given .1) (x .ensures)
 
 enum-told : tie.Need-enum-told
 enum-told c = search needs
@@ -50,7 +53,7 @@ slice-aggregate-write-line-2 : tie.Need-slice-aggregate-write-line-2
 slice-aggregate-write-line-2 c = sym (c .before .before .before .before .before .before .answer-held .kept .1 .1 .1 .1 .1 .1 .1 .1 .1 .1 .1 .1 .1 .1 .0)
 
 write-line-requires : tie.Need-write-line-requires
-write-line-requires c κs = let s = c .before .before .before .before .before .before .before .before .before .before .before .before .before .before .before .before .before .before .before .before .before .before .before .before .before .before .before .before in let o = c .before .before .before .before .before .before .before .before .before .before .before .before .before .refusal in let a = c .before .before .before .before .before .before .before .answer-held in line-ready (s .args .s) (plan s) (lent s) (s .args .y .now) (s .args .out .now) (s .pre) (o .result) (o .ensures) (c .before .before .before .before .before .before .before .before .before .before .before .enum-told .given .1) (a .result) (a .last .1 .1 .1 .1 .1 .1 .1 .1 .1 .1 .1 .1 .1 .0) (a .last .1 .1 .1 .1 .1 .1 .1 .1 .1 .1 .1 .1 .1 .1 .0) (a .last .1 .1 .1 .1 .1 .1 .1 .1 .1 .1 .1 .1 .1 .1 .1 .0) (a .ensures) (a .kept .1 .1 .1 .1 .1 .1 .1 .1 .1 .1 .1 .1 .1 .0) (a .kept .1 .1 .1 .1 .1 .1 .1 .1 .1 .1 .1 .1 .1 .1 .0)
+write-line-requires c κs = let s = c .before .before .before .before .before .before .before .before .before .before .before .before .before .before .before .before .before .before .before .before .before .before .before .before .before .before .before .before in let o = c .before .before .before .before .before .before .before .before .before .before .before .before .before .refusal in let a = c .before .before .before .before .before .before .before .answer-held in line-ready (s .args .s) (plan s) (lent s) (s .args .y .now) (s .args .out .now) (s .pre) (o .result) (o .ensures) (c .before .before .before .before .before .before .before .before .before .before .before .enum-told .given .1) (answerDetail (a .result)) (a .last .1 .1 .1 .1 .1 .1 .1 .1 .1 .1 .1 .1 .1 .0) (a .last .1 .1 .1 .1 .1 .1 .1 .1 .1 .1 .1 .1 .1 .1 .0) (a .ensures .detail-small) (a .kept .1 .1 .1 .1 .1 .1 .1 .1 .1 .1 .1 .1 .1 .0) (a .kept .1 .1 .1 .1 .1 .1 .1 .1 .1 .1 .1 .1 .1 .1 .0)
 
 same-length-2 : tie.Need-same-length-2
 same-length-2 c = c .before .before .write-line .kept .1 .1 .1 .1 .1 .0
@@ -59,7 +62,7 @@ same-length-3 : tie.Need-same-length-3
 same-length-3 c = c .before .before .before .before .before .before .before .before .before .before .answer-held .kept .1 .1 .1 .1 .1 .1 .1 .1 .1 .1 .1 .1 .1 .1 .1 .0
 
 returns-2 : tie.Need-returns-2
-returns-2 c = let s = c .before .before .before .before .before .before .before .before .before .before .before .before .before .before .before .before .before .before .before .before .before .before .before .before .before .before .before .before .before .before .before in let o = c .before .before .before .before .before .before .before .before .before .before .before .before .before .before .before .before .refusal in let a = c .before .before .before .before .before .before .before .before .before .before .answer-held in let x = c .before .before .write-line in answered (s .args .s) (plan s) (lent s) (s .args .y .now) (s .args .out .now) (s .pre) (o .result) (o .ensures) (c .before .before .before .before .before .before .before .before .before .before .before .before .before .before .enum-told .given .1) (a .result) (a .last .1 .1 .1 .1 .1 .1 .1 .1 .1 .1 .1 .1 .1 .0) (a .last .1 .1 .1 .1 .1 .1 .1 .1 .1 .1 .1 .1 .1 .1 .0) (a .last .1 .1 .1 .1 .1 .1 .1 .1 .1 .1 .1 .1 .1 .1 .1 .0) (a .ensures) (x .result) (x .last .1 .1 .1 .1 .1 .0) (x .ensures)
+returns-2 c = let s = c .before .before .before .before .before .before .before .before .before .before .before .before .before .before .before .before .before .before .before .before .before .before .before .before .before .before .before .before .before .before .before in let o = c .before .before .before .before .before .before .before .before .before .before .before .before .before .before .before .before .refusal in let a = c .before .before .before .before .before .before .before .before .before .before .answer-held in let x = c .before .before .write-line in answered (s .args .s) (plan s) (lent s) (s .args .y .now) (s .args .out .now) (s .pre) (o .result) (o .ensures) (c .before .before .before .before .before .before .before .before .before .before .before .before .before .before .enum-told .given .1) _ (givenLine (heldAnswer (s .args .s) (plan s) (lent s) (s .args .y .now))) (a .ensures .line-is) (x .result) (x .last .1 .1 .1 .1 .1 .0) (a .last .1 .1 .1 .1 .1 .1 .1 .1 .1 .1 .1 .1 .1 .1 .1 .0) (x .ensures) (a .ensures .cleared)
 
 pub ask-staged-spec : {M : Type 1} → statement M
 ask-staged-spec =

@@ -5,7 +5,7 @@ use native.Mathlib.Omega.{arith}
 use Rattle.refusals.specs.Refusals.{detailOf}
 use Rattle.refusals.specs.declared.Outcome.{Outcome}
 use Rattle.limits.specs.Limits.{largestSize}
-use Rattle.ask_lib.proofs.Asked.{refused-reading, refused-factoring, refused-nothing}
+use Rattle.ask_lib.proofs.Following.{refused-reading, refused-factoring, refused-nothing}
 use borrow.Author.Needs.{needs}
 use Rattle.ask_lib.proofs.refusal.Statement.{statement}
 use Rattle.ask_lib.proofs.refusal.Tie as tie

@@ -8,10 +8,10 @@ use Rattle.ask.proofs.arguments.question.Statement.{statement}
 use Rattle.ask.proofs.arguments.question.Tie as tie
 
 abbrev Inv-loop : tie.InvT-loop
-Inv-loop y₀ arguments count₀ i₀ y count i = (count ≤ length y) × (length y ≡ length y₀)
+Inv-loop first y₀ arguments count₀ i₀ y count i = (count ≤ length y) × (length y ≡ length y₀)
 
 abbrev μ-loop : tie.MeasureT-loop
-μ-loop y₀ arguments count₀ i₀ y count i = arguments - i
+μ-loop first y₀ arguments count₀ i₀ y count i = arguments - i
 
 arg-count-requires : tie.Need-arg-count-requires Inv-loop μ-loop
 arg-count-requires c κs = search needs

@@ -1,0 +1,9 @@
+pub mod SettleLoop
+pub mod Positions
+pub mod GapTurn
+pub mod GapSearch
+pub mod ForwardLoop
+pub mod ContradictionLaws
+pub mod FoundValues
+pub mod SlotAnswers
+pub mod SlotsJoined

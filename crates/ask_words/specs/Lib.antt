@@ -1,0 +1,4 @@
+pub mod Solving
+pub mod Held
+pub mod Meaning
+pub mod Needs

@@ -1,0 +1,4 @@
+pub mod Lengths
+pub mod Values
+pub mod Ways
+pub mod Theorems

@@ -1,0 +1,3 @@
+pub mod Substitutions
+pub mod Solutions
+pub mod Theorems
