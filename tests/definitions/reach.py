@@ -11,7 +11,13 @@ from rattle import Source
 
 LIBRARY = "plq"
 PROGRAMS = ("report", "ask")
-PROGRAM_CALLS = (("report_lib", "report"), ("ask_lib", "ask"), ("ask_words", "words"))
+PROGRAM_CALLS = (
+    ("report_lib", "report"),
+    ("ask_lib", "ask"),
+    ("ask_words", "words"),
+    ("ask_settings", "begin"),
+    ("ask_settings", "setting_line"),
+)
 THEOREMS = "theorems"
 TYPE_NAME = re.compile(r"(?:\w+::)*[A-Z]\w*[a-z]\w*")
 

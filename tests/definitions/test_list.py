@@ -90,6 +90,7 @@ FILES = {
     "report_lib/src/lib.rt": "pub fn report() {\n}\n",
     "ask_lib/src/lib.rt": "pub fn ask() {\n}\n",
     "ask_words/src/lib.rt": "pub fn words() {\n}\n",
+    "ask_settings/src/lib.rt": "pub fn begin() {\n}\n\npub fn setting_line() {\n}\n",
     "report/src/main.rt": "fn main() {\n}\n",
     "ask/src/main.rt": "fn main() {\n}\n",
     "theorems/proofs/Demand.antt": "",

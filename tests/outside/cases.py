@@ -10,7 +10,7 @@ import json
 from pathlib import Path
 from typing import NamedTuple
 
-from model.ask import ask, ask_by_text, ask_words, ask_words_by_text
+from model.ask import ask, ask_by_text, ask_settings, ask_words, ask_words_by_text
 from model.calls import check_certificate, make_certificate
 from model.report import report
 
@@ -20,7 +20,7 @@ VALUES_TAKEN = {"ask": (ask, ask_by_text), "words": (ask_words, ask_words_by_tex
 
 
 class Case(NamedTuple):
-    """`call` is report, ask, words, make or check; the other fields as it needs
+    """`call` is report, ask, words, settings, make or check; the other fields as it needs
     them. For words the question is slot values. One that is not given as arguments
     may follow the plan in `text`."""
 
@@ -37,6 +37,8 @@ def expected(case):
     bytes as the call leaves them."""
     if case.call == "report":
         return report(case.text)
+    if case.call == "settings":
+        return ask_settings(case.text)
     if case.call in VALUES_TAKEN:
         by_arguments, by_text = VALUES_TAKEN[case.call]
         return by_arguments(case.text, case.question) if case.question else by_text(case.text)

@@ -1,9 +1,10 @@
 """Programs beside the model on worked, kept and random cases.
 
     plan_cases       all cases of one random plan
-    tiny_cases       every question and all slot values on one tiny plan
+    tiny_cases       every question, all slot values and the settings on one tiny plan
     asked_cases      questions that follow a plan and its owners
     words_cases      the worked slot values
+    settings_cases   the worked settings
     fixed_cases      worked cases, limits, sweeps and damages of plan D
     differences      the cases on which a program and the model differ
 """
@@ -21,6 +22,7 @@ from generate.certificates import (
     words_replaced,
 )
 from generate.edges import edge_texts, lower_edge, upper_edge
+from generate.kernel import is_short, longest_setting, mixed_plans, without_slots
 from generate.left import plan_in_turn
 from generate.plans import EDGES, build, dense, tiny_plan
 from generate.sets import with_value
@@ -53,6 +55,7 @@ from worked import (
     QUESTIONS,
     REFUSALS,
     REPORTS,
+    SETTINGS,
     WORDS,
     WORDS_ASKED,
 )
@@ -62,6 +65,7 @@ SAMPLE = 24  # bytes or numbers changed in one certificate
 FEW = 6  # bytes changed where there are many entries to multiply
 MODULI = 66_101  # every number below it is put as a modulus
 ANY_CERTIFICATE = 300_000  # bytes, enough for the largest that can be made
+ALL_FREE = 300  # words without slots, each with a setting of as many cells
 
 
 class Difference(NamedTuple):
@@ -111,6 +115,15 @@ def _words_cases(rng, plan, text, origin):
         yield _words_case(rng, damaged, given_slots(rng, plan), origin)
 
 
+def _settings_cases(rng, text, origin):
+    """For about a third of the texts, and now and then for a damaged one."""
+    texts = [text] if rng.random() < 0.35 else []
+    if rng.random() < 0.1:
+        texts.append(damaged_text(rng, text))
+    for asked in filter(is_short, texts):
+        yield Case("settings", asked, origin=origin)
+
+
 def _certificates(rng, plan, factors):
     """Certificates to be checked for a plan; fewer for a large one."""
     own = write(plan, factors)
@@ -146,11 +159,12 @@ def plan_cases(seed, index):
     yield from _printed_cases(rng, plan, text, origin)
     yield from _call_cases(rng, plan, text, origin)
     yield from _words_cases(rng, plan, text, origin)
+    yield from _settings_cases(rng, text, origin)
 
 
 def tiny_cases(seed, index, most):
-    """Up to `most` questions on a tiny plan, spread over all of them, and as many
-    slot values."""
+    """Up to `most` questions on a tiny plan, spread over all of them, as many slot
+    values, and its settings."""
     rng = Random(f"tiny {seed} {index}")
     origin = f"seed {seed} tiny {index}"
     plan = tiny_plan(rng)
@@ -160,6 +174,7 @@ def tiny_cases(seed, index, most):
         yield Case("ask", text, question=y, origin=origin)
     for h in every_slots(rng, plan, most):
         yield Case("words", text, question=h, origin=origin)
+    yield Case("settings", text, origin=origin)
 
 
 def _plan_d_cases():
@@ -176,6 +191,7 @@ def _plan_d_cases():
             yield Case("check", text, certificate=certificate, origin="plan D")
     yield from asked_cases()
     yield from words_cases()
+    yield from settings_cases()
     for which, place, value, _ in EDITED:
         edited = with_value(factors, which, place, value)
         yield Case("check", PLAN_D, certificate=write(plan, edited), origin="plan D edited")
@@ -200,6 +216,28 @@ def words_cases():
         yield Case("words", text, question=h, origin="worked words")
     for text, _ in WORDS_ASKED:
         yield Case("words", text, origin="words by text")
+
+
+def settings_cases():
+    for text, _ in SETTINGS:
+        yield Case("settings", text, origin="worked settings")
+
+
+def _settings_edge_cases(rng):
+    """The other worked plans; plan D and each line that may follow it, of which all is
+    the plan's; small plans, with owners and damaged; plans with pivots among the other
+    words; the longest line; no slots; and rooms that are too short."""
+    texts = [text for text, _ in REPORTS] + [text for text, _, _ in FACTORED]
+    texts += [LARGEST_VALUES, *(PLAN_D + after for after, _ in AFTER_D)]
+    for p, n, m in EDGES:
+        for _ in range(2):
+            text = varied_text(rng, build(rng, dense, p, n, m))
+            texts += [text, damaged_text(rng, text)]
+    texts += [varied_text(rng, plan) for plan in mixed_plans(rng)]
+    texts += map(plain_text, (longest_setting(), lower_edge(65_521, GREATEST_ENTRIES + 1)))
+    for text in filter(is_short, texts):
+        yield Case("settings", text, origin="settings")
+    yield Case("settings", plain_text(without_slots(7, ALL_FREE)), origin="settings without slots")
 
 
 def _words_edge_cases(rng):
@@ -274,6 +312,7 @@ def fixed_cases(seed):
         text = plain_text(build(rng, dense, p, n, m))
         yield from buffer_cases(text, f"buffers {p} {n} {m}")
     yield from _words_edge_cases(rng)
+    yield from _settings_edge_cases(rng)
     yield from modulus_cases(range(MODULI))
 
 

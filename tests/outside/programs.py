@@ -72,12 +72,13 @@ class Report(Program):
 
 class Ask(Program):
     """Takes the question as arguments, or after the plan where there are none; and
-    after the verb `words` slot values in the same way."""
+    after the verb `words` slot values in the same way. The verb `settings` takes
+    nothing but the plan."""
 
-    calls = ("ask", "words")
+    calls = ("ask", "words", "settings")
 
     def arguments(self, case):
-        verb = ("words",) if case.call == "words" else ()
+        verb = () if case.call == "ask" else (case.call,)
         return (*verb, *map(str, case.question))
 
 

@@ -4,13 +4,14 @@
     factors_of       the engine's own set, whatever its size
     plans            random plans, each with its own random source
     small_plans      those among them with few cells
+    plans_of_all_sorts   those and small dense ones
     sets_that_pass   the own set and others, of which none may be refused
 """
 
 from random import Random
 
 from generate import sets
-from generate.plans import random_plan
+from generate.plans import EDGES, build, dense, random_plan
 from model.factors import factor
 from model.plan_text import read_plan
 from sweeps import AMPLE
@@ -31,6 +32,14 @@ def small_plans(name, count):
     for rng, plan in plans(name, count):
         if plan.n * plan.m <= 400:
             yield rng, plan
+
+
+def plans_of_all_sorts(name, count):
+    """Small random plans and small dense ones of every edge."""
+    yield from small_plans(name, count)
+    for p, n, m in EDGES:
+        rng = Random(f"{name} {p} {n} {m}")
+        yield rng, build(rng, dense, p, n, m)
 
 
 def sets_that_pass(rng, plan):

@@ -1,6 +1,6 @@
 """Stand-ins for the programs, made of the model, right or wrong on purpose.
 
-    python3 standin.py report|ask|calls [DEFECT] [words] [value...]
+    python3 standin.py report|ask|calls [DEFECT] [words|settings] [value...]
 
 The wrong ones show that the comparison would notice: a test that cannot fail
 tells nothing.
@@ -19,6 +19,7 @@ from model import (
     calls,
     certificate,
     check,
+    kernel,
     plan_text,
     questions,
     report,
@@ -27,6 +28,7 @@ from model import (
     structure,
 )
 from model.factors import Factored, Factors, factor, reduce, schedule
+from model.kernel import settings
 from model.limits import GREATEST_OWNER, GREATEST_TEXT
 from model.plan_text import LAST_LINE, OWNERS_WORD, read_plan
 from model.questions import Answer, answer
@@ -56,6 +58,10 @@ def _spoil_answers(function):
 
 def _spoil_slots(function):
     slots.solve_slots = function
+
+
+def _spoil_settings(function):
+    ask.settings = function
 
 
 def passes_all():
@@ -362,6 +368,71 @@ def verb_forgotten_after_the_plan():
     ask.ask_words_by_text = ask.ask_by_text
 
 
+def settings_of_the_pivots():
+    """A setting for each word that is a pivot, and none for the others."""
+    kernel.free_columns = lambda plan, factors: sorted(factors.C[: factors.r])
+
+
+def settings_falling():
+    """From the highest-numbered word on."""
+    _spoil_settings(lambda plan, factors: settings(plan, factors)[::-1])
+
+
+def one_setting_missing():
+    _spoil_settings(lambda plan, factors: settings(plan, factors)[:-1])
+
+
+def free_words_alone():
+    """A setting is 1 at its word and 0 at all others, whatever the slots hear."""
+
+    def wrong(plan, factors):
+        free = kernel.free_columns(plan, factors)
+        return tuple(tuple(int(j == k) for j in range(plan.m)) for k in free)
+
+    _spoil_settings(wrong)
+
+
+def opposite_settings():
+    """With -1 at their word, and right but for this."""
+    _spoil_settings(
+        lambda plan, factors: tuple(
+            tuple(-value % plan.p for value in s) for s in settings(plan, factors)
+        )
+    )
+
+
+def opposite_pivots():
+    """At the pivot words a setting has the opposite of what it should have."""
+
+    def wrong(plan, factors):
+        pivots = set(factors.C[: factors.r])
+        return tuple(
+            tuple(-value % plan.p if j in pivots else value for j, value in enumerate(s))
+            for s in settings(plan, factors)
+        )
+
+    _spoil_settings(wrong)
+
+
+def opposite_of_zero_is_p():
+    """At the pivot words 0 is printed as p."""
+
+    def wrong(plan, factors):
+        pivots = set(factors.C[: factors.r])
+        return tuple(
+            tuple(value or plan.p * (j in pivots) for j, value in enumerate(s))
+            for s in settings(plan, factors)
+        )
+
+    _spoil_settings(wrong)
+
+
+def rest_of_the_text_left_out():
+    """What follows the plan is not looked at, as if values stood there."""
+    right = ask.ask_settings
+    ask.ask_settings = lambda text: right(text[: ask.plan_end(text)])
+
+
 def blank_factors():
     true_write = certificate.write
     certificate.write = lambda plan, factors: bytes(len(true_write(plan, factors)))
@@ -603,6 +674,14 @@ DEFECTS = {
         opposite_contradiction,
         as_many_values_as_words,
         verb_forgotten_after_the_plan,
+        settings_of_the_pivots,
+        settings_falling,
+        one_setting_missing,
+        free_words_alone,
+        opposite_settings,
+        opposite_pivots,
+        opposite_of_zero_is_p,
+        rest_of_the_text_left_out,
         blank_factors,
         rank_made_up,
         totals_by_pivots,
@@ -643,6 +722,8 @@ def _answer_calls(source, sink):
 
 def _answer_asked(text, words):
     """By the verb, if there is one, and by the values, or by what follows the plan."""
+    if words and words[0] == "settings":
+        return ask.ask_settings(text)
     if words and words[0] == "words":
         values = tuple(map(int, words[1:]))
         return ask.ask_words(text, values) if values else ask.ask_words_by_text(text)

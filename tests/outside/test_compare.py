@@ -16,6 +16,7 @@ from compare import (
     fixed_cases,
     in_groups,
     plan_cases,
+    settings_cases,
     tiny_cases,
     words_cases,
 )
@@ -65,9 +66,18 @@ uint64_t plq_check_certificate(const uint8_t *text, size_t n, const uint8_t *c, 
 """
 
 
+class Settings(Ask):
+    """The question program by its verb `settings` alone."""
+
+    calls = ("settings",)
+
+
+KINDS = {"report": Report, "ask": Ask, "settings": Settings, "calls": Calls}
+
+
 def standin(program, *defect):
-    command = [sys.executable, str(HERE / "standin.py"), program, *defect]
-    return {"report": Report, "ask": Ask, "calls": Calls}[program](command)
+    name = "ask" if program == "settings" else program
+    return KINDS[program]([sys.executable, str(HERE / "standin.py"), name, *defect])
 
 
 # The programs that must show each defect.
@@ -97,6 +107,14 @@ SHOWN_BY = {
     "opposite_contradiction": ("ask",),
     "as_many_values_as_words": ("ask",),
     "verb_forgotten_after_the_plan": ("ask",),
+    "settings_of_the_pivots": ("settings",),
+    "settings_falling": ("settings",),
+    "one_setting_missing": ("settings",),
+    "free_words_alone": ("settings",),
+    "opposite_settings": ("settings",),
+    "opposite_pivots": ("settings",),
+    "opposite_of_zero_is_p": ("settings",),
+    "rest_of_the_text_left_out": ("settings",),
     "blank_factors": ("calls",),
     "rank_made_up": ("report",),
     "totals_by_pivots": ("report",),
@@ -143,8 +161,8 @@ def owner_cases():
 
 def given_cases():
     """Plan D and the other plans whose factors are worked, plan D in other words,
-    slot values, plan D with owners, plans at the edge of the block, repeated places,
-    plans at the edge of the rooms, some moduli, and random plans."""
+    slot values, plan D with owners, settings, plans at the edge of the block, repeated
+    places, plans at the edge of the rooms, some moduli, and random plans."""
     texts = [text for text, _, _ in FACTORED]
     texts += [varied_text(Random(f"varied {index}"), PLAN) for index in range(3)]
     for text in texts:
@@ -155,6 +173,7 @@ def given_cases():
         yield Case("ask", texts[-1], question=y)
     yield from words_cases()
     yield from owner_cases()
+    yield from settings_cases()
     yield from block_cases()
     for text in (text for text, refusal in REFUSALS if refusal.number == REPEATED):
         yield Case("report", text)
@@ -223,7 +242,8 @@ class Reaches(unittest.TestCase):
 
     @classmethod
     def setUpClass(cls):
-        cls.results = {"report": [], "ask": [], "words": [], "make": [], "check": []}
+        calls = (*Report.calls, *Ask.calls, *Calls.calls)
+        cls.results = {call: [] for call in calls}
         cases = chain(fixed_cases("reach"), *(plan_cases("reach", i) for i in range(30)))
         for case in cases:
             cls.results[case.call].append(expected(case))
@@ -242,6 +262,12 @@ class Reaches(unittest.TestCase):
         refusals = [b"refused %d at " % number for number in (3, 7, 9, 15, 16)]
         for opening in (*refusals, b"words", b"contradiction"):
             found = [line for line in self.results["words"] if line.startswith(opening)]
+            self.assertTrue(found, opening)
+
+    def test_lines_of_the_settings(self):
+        refusals = [b"refused %d at " % number for number in (1, 2, 3, 4, 5, 6, 7, 16)]
+        for opening in (*refusals, b"free 0\n", b"free 1\n", b"free 300\n"):
+            found = [line for line in self.results["settings"] if line.startswith(opening)]
             self.assertTrue(found, opening)
 
     def test_a_seed_gives_the_same_cases(self):

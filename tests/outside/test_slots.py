@@ -7,7 +7,7 @@ from random import Random
 
 from compare import fixed_cases, plan_cases, tiny_cases, words_cases
 from generate import sets
-from generate.plans import EDGES, build, dense, tiny_plan
+from generate.plans import build, dense, tiny_plan
 from generate.slots import any_slots, every_slots, given_slots, longest_lines, one_changed
 from generate.texts import plain_text
 from model import enumeration
@@ -21,7 +21,15 @@ from model.questions import answer
 from model.refusals import Refusal
 from model.slots import contradictions, slots_from_certificate, slots_from_factors, solve_slots
 from model.storage import Rows, plan_of, store
-from samples import FACTORS, PLAN, factors_of, plans, sets_that_pass, small_plans
+from samples import (
+    FACTORS,
+    PLAN,
+    factors_of,
+    plans,
+    plans_of_all_sorts,
+    sets_that_pass,
+    small_plans,
+)
 
 
 def pivots(factors):
@@ -36,14 +44,6 @@ def several_slots(rng, plan):
     """Given by a setting, with one value changed, and any."""
     h = given_slots(rng, plan)
     return h, one_changed(rng, plan, h), any_slots(rng, plan)
-
-
-def plans_of_all_sorts(name, count):
-    """Small random plans and small dense ones of every edge."""
-    yield from small_plans(name, count)
-    for p, n, m in EDGES:
-        rng = Random(f"{name} {p} {n} {m}")
-        yield rng, build(rng, dense, p, n, m)
 
 
 def by_question(plan, factors, slot):

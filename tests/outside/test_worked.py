@@ -6,10 +6,11 @@ from pathlib import Path
 from cases import expected
 from compare import MODULI
 from generate.sets import with_value
-from model.ask import ask, ask_by_text, ask_words, ask_words_by_text
+from model.ask import ask, ask_by_text, ask_settings, ask_words, ask_words_by_text
 from model.certificate import write
 from model.check import check_certificate
 from model.factors import factor
+from model.kernel import settings
 from model.plan_text import read_plan
 from model.questions import answer
 from model.refusals import DONE, NOT_PRIME, Refusal
@@ -31,6 +32,7 @@ from worked import (
     REFUSALS,
     REPORTS,
     ROOMS,
+    SETTINGS,
     SUMS,
     WORDS,
     WORDS_ASKED,
@@ -95,6 +97,16 @@ class WorkedCases(unittest.TestCase):
     def test_words_by_text(self):
         for text, output in WORDS_ASKED:
             self.assertEqual(ask_words_by_text(text), output, text)
+
+    def test_settings(self):
+        for text, output in SETTINGS:
+            self.assertEqual(ask_settings(text), output, text)
+
+    def test_settings_of_plan_d(self):
+        """By the set that was made before slip 9 too; it is the z of the closed questions."""
+        for factors in (FACTORS, EARLIER_D):
+            self.assertEqual(settings(PLAN, factors), ((3, 2, 1, 1, 0),))
+            self.assertEqual(answer(PLAN, factors, (1, 0, 0, 0, 0)).z, (3, 2, 1, 1, 0))
 
     def test_empty_questions(self):
         none, word = (read_plan(b"7\n0 %d M\n0 0 0\n" % m, 0) for m in (0, 1))

@@ -1,6 +1,6 @@
 """The worked cases of document 01 with their results, letter by letter (document 01, "Report and cases").
 Those of the structural pivots are worked by slip 9 of the change requests, those of owners by slip 4,
-sums by slip 14, slot values by slip 6.
+sums by slip 14, slot values by slip 6, settings by slip 7.
 
     PLAN_D        the text of plan D; FALLING_D and BY_COLUMN_D, the same plan in other orders
     OWNED_D       the same with a line of owners
@@ -17,6 +17,7 @@ sums by slip 14, slot values by slip 6.
     ASKED         texts with a question after the plan, and what it prints
     WORDS         texts and slot values, with what it prints by its verb `words`
     WORDS_ASKED   texts with slot values after the plan, and what it prints so
+    SETTINGS      texts with what it prints by its verb `settings`
     EDITED        plan D's set with one number changed, and the refusal
     ROOMS         rooms for L and U on plan D, and the refusal, or None where they suffice
 """
@@ -600,6 +601,62 @@ WORDS_ASKED = (
     # The verb does not stand in the text: five values, or six.
     (PLAN_D + b"words 2 4 3 5\n", b"refused 15 at 1\n"),
     (PLAN_D + b"words 1 2 4 3 5\n", b"refused 9 at 0\n"),
+)
+
+SETTINGS = (
+    # Word 4 is the one that is no pivot. By slot 2 word 2 is -5 times it, so by slot 4 word 3 is
+    # the same as it, and by slot 1 word 1 is -4 times it. By slot 5 word 5 is 0.
+    (PLAN_D, b"free 1\nsetting 3 2 1 1 0\n"),
+    (BY_COLUMN_D, b"free 1\nsetting 3 2 1 1 0\n"),
+    (OWNED_D, b"free 1\nsetting 3 2 1 1 0\n"),
+    # No values are taken: what follows the plan is malformed.
+    (PLAN_D + b"0 0 0 0 1\n", b"refused 3 at 15\n"),
+    (OWNED_D + b"0 0 0 0 1\n", b"refused 3 at 16\n"),
+    (PLAN_D + b"settings\n", b"refused 3 at 15\n"),
+    (NO_WORDS + b"0 0\n", b"refused 3 at 4\n"),
+    (NO_WORDS + b"\n", b"refused 3 at 4\n"),
+    # The pivot stands between the others; nothing hears word 1.
+    (b"7\n1 3 M\n1 2 2\n1 3 1\n0 0 0\n", b"free 2\nsetting 1 0 0\nsetting 0 3 1\n"),
+    (
+        b"7\n2 4 M\n1 1 1\n1 3 2\n2 2 1\n2 3 3\n2 4 1\n0 0 0\n",
+        b"free 2\nsetting 5 4 1 0\nsetting 0 6 0 1\n",
+    ),
+    # Words 1, 2 and 4 are the pivots.
+    (
+        b"7\n3 4 M\n1 1 1\n2 1 1\n2 2 1\n2 3 1\n3 1 1\n3 2 1\n3 4 1\n0 0 0\n",
+        b"free 1\nsetting 0 6 1 1\n",
+    ),
+    # Two slots that are the same; modulo 2 a word is its own opposite.
+    (
+        b"2\n2 3 M\n1 1 1\n1 2 1\n1 3 1\n2 1 1\n2 2 1\n2 3 1\n0 0 0\n",
+        b"free 2\nsetting 1 1 0\nsetting 1 0 1\n",
+    ),
+    # Modulo the largest: the opposite of a half, and -1.
+    (
+        b"4294967291\n1 3 M\n1 1 2\n1 2 1\n1 3 2\n0 0 0\n",
+        b"free 2\nsetting 2147483645 1 0\nsetting 4294967290 0 1\n",
+    ),
+    # No slot, or none that hears a word: every word is free.
+    (b"7\n0 2 M\n0 0 0\n", b"free 2\nsetting 1 0\nsetting 0 1\n"),
+    (b"7\n0 2 M\n0 0 0\nowners 0 3\n", b"free 2\nsetting 1 0\nsetting 0 1\n"),
+    (b"7\n2 2 M\n1 2 7\n0 0 0\n", b"free 2\nsetting 1 0\nsetting 0 1\n"),
+    (b"7\n0 1 M\n0 0 0\n", b"free 1\nsetting 1\n"),
+    # Every word is a pivot, or there is none.
+    (b"7\n2 2 M\n2 1 1\n1 2 1\n0 0 0\n", b"free 0\n"),
+    (ONE_WORD, b"free 0\n"),
+    (EIGHT_LEFT, b"free 0\n"),
+    (b"7\n0 0 M\n0 0 0\n", b"free 0\n"),
+    (NO_WORDS, b"free 0\n"),
+    (NO_WORDS + b"owners\n", b"free 0\n"),
+    # The other refusals of reading.
+    (b"", b"refused 3 at 1\n"),
+    (PLAN_D[:-1], b"refused 3 at 14\n"),
+    (PLAN_D.replace(b"7", b"8", 1), b"refused 1 at 0\n"),
+    (b"7\n1 2049 M\n0 0 0\n", b"refused 2 at 0\n"),
+    (PLAN_D.replace(b"2 4 1\n", b"2 6 1\n"), b"refused 4 at 6\n"),
+    (b"7\n2 2 M\n1 2 7\n1 2 1\n0 0 0\n", b"refused 5 at 4\n"),
+    (b"7\n1 1 M\n1 1 2147483648\n0 0 0\n", b"refused 6 at 3\n"),
+    (PLAN_D + b"owners 1 1 2 2 256\n", b"refused 16 at 15\n"),
 )
 
 # Which factor, the place in its list of values, the new value, the refusal.

@@ -3,6 +3,8 @@ pub mod Inverse
 pub mod Dot
 pub mod Triangular
 pub mod Finite
+pub mod Listed
+pub mod Completion
 pub mod Reduction
 pub mod Mixed
 pub mod Verdict

@@ -1,4 +1,5 @@
 // The answer to a question from a set that passed, in place in the lent lists x and z.
+ghost use mathlib.Core.Path.{_≡_};
 ghost use lib.ListN.{length};
 ghost use Rattle.algebra.specs.Sum.{δ};
 ghost use Rattle.algebra.specs.Matrix.{vector};
@@ -40,6 +41,29 @@ pub fn open_answer(
     clear(z); // the multiples are not needed any more
 }
 
+// z with A z = 0 from its one at the column j, 0 at the other columns that are no pivot columns.
+pub fn kernel_vector(
+    q: Modulus,
+    us: &[u32],
+    usb: &[u8],
+    uc: &[u32],
+    ucb: &[u8],
+    uv: &[u32],
+    uvb: &[u8],
+    co: &[u32],
+    cob: &[u8],
+    r: usize,
+    j: usize,
+    z: &mut [u32],
+)
+    requires { ⌜ ClosedReady (q .p) r j (viewedAt us usb uc ucb uv uvb) (viewAt co cob) (now z) ⌝ }
+    ensures { λ _. ⌜ after z ≡ throughU (q .p) (length (before z)) r (vectorBefore co cob) (matrixBefore us usb uc ucb uv uvb) (δ j) ⌝ }
+{
+    clear(z);
+    z[j] = 1;
+    solve_upper(q, us, usb, uc, ucb, uv, uvb, co, cob, r, z);
+}
+
 // Closed: z from its one at the column j.
 pub fn closed_answer(
     q: Modulus,
@@ -60,9 +84,7 @@ pub fn closed_answer(
     ensures { λ _. ⌜ ClosedAs (throughU (q .p) (length (before z)) r (vectorBefore co cob) (matrixBefore us usb uc ucb uv uvb) (δ j)) (after x) (after z) ⌝ }
 {
     clear(x);
-    clear(z);
-    z[j] = 1;
-    solve_upper(q, us, usb, uc, ucb, uv, uvb, co, cob, r, z);
+    kernel_vector(q, us, usb, uc, ucb, uv, uvb, co, cob, r, j, z);
 }
 
 // The verdict on the question y, and its x or z.

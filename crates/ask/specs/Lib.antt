@@ -1,3 +1,4 @@
 pub mod Values
 pub mod Ending
 pub mod Verb
+pub mod Settings

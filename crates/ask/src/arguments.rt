@@ -5,6 +5,7 @@ ghost use mathlib.Core.Bool.{true};
 ghost use Prim.Native.Nat.{_≤_};
 ghost use lib.ListN.{length};
 ghost use Rattle.print_text.specs.Labels.{settingWord};
+ghost use Rattle.ask.specs.Verb.{settingsVerb};
 use crate::question::put;
 use crate::question::value;
 
@@ -20,6 +21,23 @@ pub fn says_words() -> bool {
     let mut field = [0u8; 16];
     let size = os::arg(1, &mut field);
     is_words(&field[..size])
+}
+
+// Whether an argument is the verb `settings`.
+fn is_settings(argument: &[u8]) -> bool
+    ensures { λ r. ⌜ (r ≡ true) ↔ (now (argument .entry) ≡ settingsVerb) ⌝ }
+{
+    check::same(argument, b"settings")
+}
+
+// Whether the only argument is the verb `settings`, which takes no values.
+pub fn says_settings() -> bool {
+    if os::arg_count() != 2 {
+        return false;
+    }
+    let mut field = [0u8; 16];
+    let size = os::arg(1, &mut field);
+    is_settings(&field[..size])
 }
 
 // The value of an argument. One that does not fit the buffer has more digits than any number that is accepted.

@@ -3,6 +3,8 @@
 // the plan on standard input. One line is printed: `open` and x, `closed` and z, or `refused`, a number and its detail.
 // With the verb `words` before them the values are those of the slots. The line is then `words` and the setting of the words that gives
 // them, or `contradiction` and the combination of the slots that shows that none does.
+// With the verb `settings` alone the settings of the free words are printed: `free` and how many there are, then a line for each of them,
+// `setting` and its values.
 ghost use Prim.Native.Nat.{_+_, _≤_, _<_, _^_};
 ghost use lib.ListN.{length};
 ghost use Rattle.limits.specs.Limits.{startsLength};
@@ -15,6 +17,7 @@ use limits::WORK_CELLS;
 
 mod arguments;
 mod question;
+mod settings;
 mod text;
 
 fn write_line(words: bool, plan: &[u8], y: &[u32], out: &mut [u8], work: &mut [u64]) -> usize
@@ -53,15 +56,26 @@ fn ask_by_text(words: bool, text: &[u8])
     print_answer(words, &text[..end], &y[..count]);
 }
 
+// A question, or with the verb `words` slot values, as arguments or after the plan.
+fn ask_values(text: &[u8])
+    requires { ⌜ length (now text) + 1 < 2 ^ 32 ⌝ }
+{
+    let words = arguments::says_words();
+    let first = if words { 2 } else { 1 };
+    if first < os::arg_count() {
+        ask_by_arguments(words, first, text);
+    } else {
+        ask_by_text(words, text);
+    }
+}
+
 // A plan has at most 65,536 bytes, and 2,049 values have at most 22,539 with what separates them.
 fn main() {
     let mut text = [0u8; 98304];
     let size = io::read_full(0, &mut text);
-    let words = arguments::says_words();
-    let first = if words { 2 } else { 1 };
-    if first < os::arg_count() {
-        ask_by_arguments(words, first, &text[..size]);
+    if arguments::says_settings() {
+        settings::print_settings(&text[..size]);
     } else {
-        ask_by_text(words, &text[..size]);
+        ask_values(&text[..size]);
     }
 }

@@ -36,7 +36,7 @@ use Rattle.call_check.proofs.Checked.{SetTest, stored-test, bytes-test}
 use Rattle.call_open.specs.Calls.{columnsAfter, listed, openFactorsOf, openCertificateOf, Lists}
 use Rattle.call_open.specs.Meaning.{MarksOpen}
 
-listed-outcome : (o : Outcome) (l : List ℕ) → listed o l .outcome ≡ o
+pub listed-outcome : (o : Outcome) (l : List ℕ) → listed o l .outcome ≡ o
 listed-outcome Passed l = refl
 listed-outcome (Refused k d) l = refl
 

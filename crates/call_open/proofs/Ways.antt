@@ -43,12 +43,12 @@ pub columns-of : (p : ℕ) (s s′ : Set) (b : ℕ) (l w : List ℕ) → s ≡ s
 columns-of p s s′ b l w e long a = record { list = a .list (s .R) (s .L) ∙ (λ j. openColumns p (long j) (e j)); row = a .row }
 
 -- the number and the detail follow from the outcome
-leaves : (g : Listed) (r : Outcome) (l₀ l w₀ w : List ℕ) → r ≡ g .outcome → l ≡ filled (length l₀) (g .list) → w ≡ zeros (length w₀) → Lists g r l₀ l w₀ w
+pub leaves : (g : Listed) (r : Outcome) (l₀ l w₀ w : List ℕ) → r ≡ g .outcome → l ≡ filled (length l₀) (g .list) → w ≡ zeros (length w₀) → Lists g r l₀ l w₀ w
 leaves g r l₀ l w₀ w e el ew = record { outcome = e; number = ap numberOf e; detail = ap detailOf e; list-is = el; cleared = ew }
 
 module _ (after : Outcome) (cells l₀ l w₀ w : List ℕ) where
   -- a refusal leaves the list all zero
-  refused-leaves : (o : Outcome) (k d : ℕ) → o ≡ Refused k d → o ≡ after → l ≡ zeros (length l₀) → w ≡ zeros (length w₀) → Lists (listed after cells) o l₀ l w₀ w
+  pub refused-leaves : (o : Outcome) (k d : ℕ) → o ≡ Refused k d → o ≡ after → l ≡ zeros (length l₀) → w ≡ zeros (length w₀) → Lists (listed after cells) o l₀ l w₀ w
   refused-leaves o k d f e el ew =
       let same : Refused k d ≡ after = sym f ∙ e in
       leaves (listed after cells) o l₀ l w₀ w (f ∙ ap (λ (u : Outcome). listed u cells .outcome) same)

@@ -4,7 +4,7 @@
 --   listed o l                a refusal with no list, or the list l
 --   openFactorsOf ..          the open columns from stored factors
 --   openCertificateOf ..      the open columns from a certificate
---   Lists g r l₀ l w₀ w       the contract of such a call: its result, with document 01's number and detail, every cell of the list, and the
+--   Lists g r l₀ l w₀ w       the contract of such a call, or of another that gives a list: its result, with document 01's number and detail, every cell of the list, and the
 --                             working row left all zero
 --   ListsIn g r list work     the same of a lent list and working row, where g makes what is listed from their lengths
 use Prim.Native.Nat.{ℕ}

@@ -5,7 +5,7 @@
 --   ownedFactors k m g       factoring that gives g without them
 --   givenAfter, listedAfter  what is given, or listed, where the outcome is passed; else its refusal, with no list
 --   ownedAnswer k m g        a question that is given g without them
---   ownedList k m g          a list of open columns that is g without them
+--   ownedList k m g          a list, of open columns or of settings, that is g without them
 --   ChecksOwned, WritesOwned, LeavesOwned, AnswersOwned, ListsOwned
 --                            the contracts of these calls, of lent owners and the other lent lists, where g makes what is given without owners
 use Prim.Native.Nat.{ℕ}

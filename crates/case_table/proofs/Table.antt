@@ -1,9 +1,9 @@
 -- The joint table of the proved cases of document 01 ("Report and cases"), those of plan D as slip 9 works them anew, of the owners that may follow it (slip 4) and of
--- questions that add up (slip 14) and of slot values (slip 6), each by computing the definitions that the contracts cite. D's pairs, factors and rooms are computed beside the rule, in
+-- questions that add up (slip 14), of slot values (slip 6) and of the settings that fit (slip 7), each by computing the definitions that the contracts cite. D's pairs, factors and rooms are computed beside the rule, in
 -- elimination's Example.
 use Prim.Native.Nat.{ℕ}
 use mathlib.Core.Path.{_≡_, refl}
-use mathlib.Core.List.{List, [], _∷_, _++_}
+use mathlib.Core.List.{List, [], _∷_, _++_, flatten}
 use mathlib.Core.Option.{none, some}
 use lib.ListN.{take}
 use Rattle.lists.specs.Filled.{zeros}
@@ -32,6 +32,7 @@ use Rattle.pluq.specs.Judge.{agrees, productOutcome, judgeFactors, judge}
 use Rattle.row_space.specs.Substitution.{backL, backU}
 use Rattle.row_space.specs.Solve.{lowestOf, solve}
 use Rattle.row_space.specs.declared.Verdict.the-variants.{Open, Closed}
+use Rattle.row_space.specs.Kernel.{freeColumns, setting, kernelBasis}
 use Rattle.column_space.specs.Substitution.{forward, settle}
 use Rattle.column_space.specs.Slots.{values, gap, position, lowestGap, settingOf, leftKernel, solveSlots}
 use Rattle.column_space.specs.declared.SlotVerdict.the-variants.{Solved, Contradiction}
@@ -39,7 +40,8 @@ use Rattle.elimination.specs.Structural.{leads, prefer, chosen, leading}
 use Rattle.elimination.specs.Chains.{chain, closes}
 use Rattle.elimination.specs.Selection.{pairAt, lowerPair as lowerOf, without, unfit, extended, extendedTo, free, lowest, ordered, selected, structural}
 use Rattle.elimination.specs.Pivots.{columnsOf, uppersOf, multiplesBy, withPivot, withDependent, placedRow, turn, turns}
-use Rattle.elimination.specs.Factoring.{rest, schedule, rowsOf, lowersOf, factored, factorFrom, factor}
+use Rattle.lists.specs.Rest.{rest}
+use Rattle.elimination.specs.Factoring.{schedule, rowsOf, lowersOf, factored, factorFrom, factor}
 use Rattle.elimination.proofs.Theorem.{factor-rank}
 use Rattle.elimination.proofs.Example.{roomD, D-pairs as pairs-computed, D-factors as factors-computed, D-rooms as rooms-computed}
 use Rattle.certificate.specs.Layout.{bytes, mark, version, factorNumbers, numbersOf, certificateOf}
@@ -50,7 +52,7 @@ use Rattle.call_check.specs.Calls.{certificateOutcome, checkCertificateOf}
 use Rattle.text_fields.specs.Pieces.{pieces}
 use Rattle.text_fields.specs.Number.{digitsFrom, numberIn}
 use Rattle.text_owners.specs.Owners.{isOwnersWord, fieldsIn, fieldNumbers, ownersLine, allBytes, notRead, owned, ownersIn}
-use Rattle.case_table.specs.Plans.{none as silent, blank, ones, D, setD, earlierD, thrice, falling}
+use Rattle.case_table.specs.Plans.{none as silent, blank, ones, D, setD, earlierD, thrice, falling, single, backward}
 
 -- the certificate of D's set, with l for L[3][3] and u for U[0][0], checked with a working row of its length
 abbrev pub certificateD : ℕ → ℕ → Outcome
@@ -108,6 +110,15 @@ pub record Table : Type 0 where
   pub wordless : solveSlots 7 2 0 (factor 7 2 0 blank) (vector (0 ∷ 2 ∷ [])) ≡ record { verdict = Contradiction; s = []; w = 0 ∷ 1 ∷ [] }
   pub falling-passes : judge 7 3 1 thrice falling ≡ Passed
   pub lowest-slot : solveSlots 7 3 1 falling (vector (1 ∷ 2 ∷ 3 ∷ [])) ≡ record { verdict = Contradiction; s = 0 ∷ []; w = 6 ∷ 1 ∷ 0 ∷ [] }
+  -- the settings of the free columns: of D; of one slot, 0 2 1, also by a set whose free columns fall; of no slots and two words; of no words, and where every word
+  -- is a pivot
+  pub D-settings : kernelBasis 7 5 (setD 3 1) ≡ 3 ∷ 2 ∷ 1 ∷ 1 ∷ 0 ∷ []
+  pub single-settings : kernelBasis 7 3 (factor 7 1 3 single) ≡ 1 ∷ 0 ∷ 0 ∷ 0 ∷ 3 ∷ 1 ∷ []
+  pub backward-passes : judge 7 1 3 single backward ≡ Passed
+  pub backward-settings : kernelBasis 7 3 backward ≡ 1 ∷ 0 ∷ 0 ∷ 0 ∷ 3 ∷ 1 ∷ []
+  pub silent-settings : kernelBasis 7 2 (factor 7 0 2 silent) ≡ 1 ∷ 0 ∷ 0 ∷ 1 ∷ []
+  pub empty-settings : kernelBasis 7 0 (factor 7 0 0 silent) ≡ []
+  pub full-settings : kernelBasis 7 1 falling ≡ []
   -- what may follow D's text, from line 15 on: nothing; `owners 1 1 2 2 0`; 256 among them, and a malformed number after it; no words and the bare word `owners`
   pub D-unowned : ownersIn 5 15 (pieces 10 []) ≡ owned (1 ∷ 1 ∷ 1 ∷ 1 ∷ 1 ∷ [])
   pub D-owners : ownersIn 5 15 (pieces 10 (111 ∷ 119 ∷ 110 ∷ 101 ∷ 114 ∷ 115 ∷ 32 ∷ 49 ∷ 32 ∷ 49 ∷ 32 ∷ 50 ∷ 32 ∷ 50 ∷ 32 ∷ 48 ∷ 10 ∷ [])) ≡ owned (1 ∷ 1 ∷ 2 ∷ 2 ∷ 0 ∷ [])
@@ -125,7 +136,7 @@ unfolding isPrime dividedBelow
 two = true-prime 2 refl
 
 pub table : Table
-unfolding zeros tabulate all first sum dot δ place reduced invMod inverseBelow startsFrom startsOk risesFrom rowsFrom valuesOk wellFormed weigh columnsFrom nonzeros startsAfter allColumns allValues compress among below distinct permutation lowerRow lower upperRow upper agrees productOutcome judgeFactors judge backL backU lowest solve leads prefer chosen leading chain closes lowerOf without unfit extended extendedTo free lowestOf ordered selected structural columnsOf uppersOf multiplesBy multiples withPivot withDependent placedRow turn turns rest schedule rowsOf lowersOf factored factorFrom factor words bytes mark version factorNumbers numbersOf certificateOf placesOf field setIn setOfCertificate begins lengthOk sizesOk headerOk isPrime dividedBelow isModulus planLengths setLengths limitsOk planOutcome certificateOutcome checkCertificateOf pieces numberIn digitsFrom forward settle values gap position lowestGap settingOf leftKernel solveSlots isOwnersWord fieldsIn fieldNumbers ownersLine allBytes ownersIn
+unfolding zeros tabulate all first sum dot δ place reduced invMod inverseBelow startsFrom startsOk risesFrom rowsFrom valuesOk wellFormed weigh columnsFrom nonzeros startsAfter allColumns allValues compress among below distinct permutation lowerRow lower upperRow upper agrees productOutcome judgeFactors judge backL backU lowest solve leads prefer chosen leading chain closes lowerOf without unfit extended extendedTo free lowestOf ordered selected structural columnsOf uppersOf multiplesBy multiples withPivot withDependent placedRow turn turns rest schedule rowsOf lowersOf factored factorFrom factor words bytes mark version factorNumbers numbersOf certificateOf placesOf field setIn setOfCertificate begins lengthOk sizesOk headerOk isPrime dividedBelow isModulus planLengths setLengths limitsOk planOutcome certificateOutcome checkCertificateOf pieces numberIn digitsFrom forward settle values gap position lowestGap settingOf leftKernel solveSlots freeColumns setting kernelBasis flatten isOwnersWord fieldsIn fieldNumbers ownersLine allBytes ownersIn
 table =
     record {
       empty-rank = factor-rank 7 0 0 silent seven refl refl;
@@ -166,4 +177,11 @@ table =
       wordless = refl;
       falling-passes = refl;
       lowest-slot = refl;
+      D-settings = refl;
+      single-settings = refl;
+      backward-passes = refl;
+      backward-settings = refl;
+      silent-settings = refl;
+      empty-settings = refl;
+      full-settings = refl;
     }

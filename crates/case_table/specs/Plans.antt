@@ -4,6 +4,8 @@
 --   ones        two rows of three ones
 --   thrice      three rows of one 1
 --   falling     a set of thrice whose dependent rows fall: rows 0, 2, 1
+--   single      one row, 0 2 1
+--   backward    a set of single whose free columns fall: columns 1, 2, 0
 --   D           document 01's plan D, modulo 7
 --   setD l u    D's set, with l for L[3][3] and u for U[0][0]: 3 and 1 in the engine's own
 --   earlierD    D's set as document 01 has it, before slip 9
@@ -26,6 +28,12 @@ thrice = compressed (0 ∷ 1 ∷ 2 ∷ 3 ∷ []) (0 ∷ 0 ∷ 0 ∷ []) (1 ∷ 1
 
 abbrev pub falling : Set
 falling = setOf 1 (0 ∷ 2 ∷ 1 ∷ []) (0 ∷ []) thrice (compressed (0 ∷ 1 ∷ []) (0 ∷ []) (1 ∷ []))
+
+abbrev pub single : Compressed
+single = compressed (0 ∷ 2 ∷ []) (1 ∷ 2 ∷ []) (2 ∷ 1 ∷ [])
+
+abbrev pub backward : Set
+backward = setOf 1 (0 ∷ []) (1 ∷ 2 ∷ 0 ∷ []) (compressed (0 ∷ 1 ∷ []) (0 ∷ []) (2 ∷ [])) (compressed (0 ∷ 2 ∷ []) (1 ∷ 2 ∷ []) (1 ∷ 4 ∷ []))
 
 abbrev pub D : Compressed
 D =

@@ -18,8 +18,9 @@ use Rattle.sparse.proofs.DenseLaws.{compress-columns, compress-values}
 use Rattle.elimination.specs.Structural.{Pair}
 use Rattle.elimination.specs.Pairs.{pairRows, pairColumns}
 use Rattle.elimination.specs.Pivots.{Pivot, Found, rankOf, reducedBy, multiplesBy, withPivot, withDependent, Turn, pair, other, turn, turns}
-use Rattle.elimination.specs.Factoring.{rest, schedule, nothing, lowersOf, factored, factorFrom}
-use Rattle.elimination.proofs.Listed.{snoc-length}
+use Rattle.lists.specs.Rest.{rest}
+use Rattle.elimination.specs.Factoring.{schedule, nothing, lowersOf, factored, factorFrom}
+use Rattle.algebra.proofs.Listed.{snoc-length}
 use Rattle.elimination.specs.Invariant.{noPivot}
 use Rattle.elimination.proofs.Turns.{other-either}
 use Rattle.elimination.proofs.Schedule.{turns-append}

@@ -18,7 +18,7 @@ use Rattle.algebra.proofs.Dot.{dot-suc, dot-eq}
 use Rattle.residue.specs.Inverse.{invMod}
 use Rattle.residue.proofs.Inverse.{Inverse, invMod-inverse}
 use Rattle.elimination.specs.Invariant.{cells, UpperRow, Echelon}
-use Rattle.elimination.proofs.Listed.{snoc-length, snoc-each}
+use Rattle.algebra.proofs.Listed.{snoc-length, snoc-each}
 
 -- ---- the rows of U
 

@@ -15,7 +15,8 @@ use Rattle.sparse.specs.Row.{weigh}
 use Rattle.sparse.specs.Dense.{columnsFrom, nonzeros, startsAfter, allColumns, allValues, compress}
 use Rattle.elimination.specs.Structural.{leads, prefer, chosen, leading}
 use Rattle.elimination.specs.Pivots.{columnsOf, uppersOf, multiplesBy, withPivot, withDependent, placedRow, turn, turns}
-use Rattle.elimination.specs.Factoring.{rest, schedule, rowsOf, lowersOf, nothing, entries, fits, firstOver, factored, factorFrom}
+use Rattle.lists.specs.Rest.{rest}
+use Rattle.elimination.specs.Factoring.{schedule, rowsOf, lowersOf, nothing, entries, fits, firstOver, factored, factorFrom}
 use Rattle.elimination.specs.Chains.{chain, closes}
 use Rattle.elimination.specs.Selection.{pairAt, lowerPair, without, unfit, extended, extendedTo, free, lowest, ordered, selected, structural}
 

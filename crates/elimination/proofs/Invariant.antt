@@ -16,7 +16,7 @@ use Rattle.residue.specs.Inverse.{invMod}
 use Rattle.elimination.specs.Pivots.{Pivot, Found, columnsOf, uppersOf, upperOf, rankOf, withPivot, withDependent}
 use Rattle.elimination.specs.Factoring.{nothing}
 use Rattle.elimination.specs.Invariant.{noPivot, noDependent, cells, Echelon, Lower, PivotRow, Invariant}
-use Rattle.elimination.proofs.Listed.{snoc-length, snoc-each, map-append}
+use Rattle.algebra.proofs.Listed.{snoc-length, snoc-each, map-append}
 use Rattle.elimination.proofs.Echelon.{echelon-more, scaled-row, scaled-back, combination-more, combination-last}
 
 -- ---- what was found, as lists

@@ -1,5 +1,3 @@
-pub mod Listed
-pub mod Completion
 pub mod Echelon
 pub mod Invariant
 pub mod Turns

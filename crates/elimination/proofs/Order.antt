@@ -11,8 +11,9 @@ use Rattle.elimination.specs.Structural.{Pair}
 use Rattle.elimination.specs.Pairs.{pairRows}
 use Rattle.elimination.specs.Pivots.{Pivot, Found, rankOf, reducedBy, multiplesBy, withPivot, withDependent, pair, other, turn, turns}
 use Rattle.lists.specs.Tests.{among}
-use Rattle.elimination.specs.Factoring.{rest, schedule, nothing, rowsOf}
-use Rattle.elimination.proofs.Listed.{map-append, among-append}
+use Rattle.lists.specs.Rest.{rest}
+use Rattle.elimination.specs.Factoring.{schedule, nothing, rowsOf}
+use Rattle.algebra.proofs.Listed.{map-append, among-append}
 use Rattle.elimination.proofs.Turns.{other-either}
 use Rattle.elimination.proofs.RowsFound.{pivotRows, dependentRows}
 use Rattle.elimination.proofs.Schedule.{turns-append}

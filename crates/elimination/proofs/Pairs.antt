@@ -18,7 +18,7 @@ use Rattle.sparse.proofs.Entries.{entry-low, entry-at, values-at}
 use Rattle.sparse.proofs.Rows.{form-row, form-starts}
 use Rattle.elimination.specs.Structural.{size, leads, chosen, Pair, paired, leading}
 use Rattle.elimination.specs.Pairs.{pairRows, pairColumns, Pairs}
-use Rattle.elimination.proofs.Listed.{snoc-each}
+use Rattle.algebra.proofs.Listed.{snoc-each}
 use Rattle.elimination.proofs.Choice.{Choice, Chosen, chosen-right}
 
 -- ---- a row that leads at a column is not 0 there, and 0 before it

@@ -12,10 +12,11 @@ use Rattle.elimination.specs.Structural.{Pair}
 use Rattle.elimination.specs.Pairs.{pairRows, Pairs}
 use Rattle.elimination.specs.Pivots.{Pivot, Dependent, Found, rankOf, reducedBy, multiplesBy, withPivot, withDependent, Turn, pair, other, turn, turns}
 use Rattle.lists.specs.Tests.{among}
-use Rattle.elimination.specs.Factoring.{rest, schedule, nothing, rowsOf, rowOfTurn}
-use Rattle.elimination.proofs.Listed.{snoc-length, map-append, among-append, listed}
+use Rattle.lists.specs.Rest.{rest}
+use Rattle.elimination.specs.Factoring.{schedule, nothing, rowsOf, rowOfTurn}
+use Rattle.algebra.proofs.Listed.{snoc-length, map-append, among-append, listed}
 use Rattle.elimination.proofs.Turns.{other-either}
-use Rattle.elimination.proofs.Completion.{completed-among, completed-length}
+use Rattle.algebra.proofs.Completion.{completed-among, completed-length}
 
 -- ---- the rows found
 

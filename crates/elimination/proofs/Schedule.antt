@@ -10,9 +10,10 @@ use Rattle.algebra.specs.Matrix.{Matrix}
 use Rattle.elimination.specs.Structural.{Pair}
 use Rattle.elimination.specs.Pairs.{pairRows, pairColumns, Pairs}
 use Rattle.elimination.specs.Pivots.{Found, columnsOf, rankOf, withPivot, Turn, pair, other, turn, turns}
-use Rattle.elimination.specs.Factoring.{rest, schedule, nothing}
-use Rattle.elimination.proofs.Listed.{map-append}
-use Rattle.elimination.proofs.Completion.{rest-each}
+use Rattle.lists.specs.Rest.{rest}
+use Rattle.elimination.specs.Factoring.{schedule, nothing}
+use Rattle.algebra.proofs.Listed.{map-append}
+use Rattle.algebra.proofs.Completion.{rest-each}
 use Rattle.elimination.specs.Invariant.{Invariant}
 use Rattle.elimination.proofs.Invariant.{columns-many, nothing-holds}
 use Rattle.elimination.proofs.Turns.{other-holds, pair-holds}

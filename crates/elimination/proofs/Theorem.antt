@@ -24,9 +24,10 @@ use Rattle.elimination.specs.Structural.{Pair}
 use Rattle.elimination.specs.Selection.{structural}
 use Rattle.elimination.specs.Pairs.{Pairs}
 use Rattle.elimination.specs.Pivots.{Found, columnsOf, uppersOf, rankOf, turns}
-use Rattle.elimination.specs.Factoring.{rest, schedule, nothing, rowsOf, lowersOf, factored, factorFrom, factor}
-use Rattle.elimination.proofs.Listed.{append-both}
-use Rattle.elimination.proofs.Completion.{completed, completed-length}
+use Rattle.lists.specs.Rest.{rest}
+use Rattle.elimination.specs.Factoring.{schedule, nothing, rowsOf, lowersOf, factored, factorFrom, factor}
+use Rattle.algebra.proofs.Listed.{append-both}
+use Rattle.algebra.proofs.Completion.{completed, completed-length}
 use Rattle.elimination.specs.Invariant.{cells, noPivot, noDependent, Lower, Invariant}
 use Rattle.elimination.proofs.Echelon.{echelon-distinct}
 use Rattle.elimination.proofs.Invariant.{columns-many, uppers-many}

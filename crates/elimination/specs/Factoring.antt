@@ -1,5 +1,4 @@
 -- Factoring (document 01, "Factors" and "Pivot rules"), and the refusal of storage that is too short.
---   rest xs n                 the numbers below n that are not in xs, rising
 --   schedule n pairs          the pairs first, then the other rows by number
 --   nothing                   what is found before the first turn
 --   rowsOf, lowersOf          the rows in R's order, pivot rows as found and then dependent rows; and their rows of L
@@ -9,7 +8,7 @@
 --   rowOfTurn                 the row that a turn takes
 --   fits roomL roomU f        L and U have no more entries than their rooms
 --   firstOver ..              the row of the first turn after which they have (refusal 7)
-use Prim.Native.Nat.{ℕ, zero, suc, _+_}
+use Prim.Native.Nat.{ℕ, _+_}
 use mathlib.Core.Bool.{Bool, cond, _&&_}
 use mathlib.Core.List.{List, [], _∷_, _++_, map}
 use mathlib.Core.Option.{Option, none, some}
@@ -20,13 +19,9 @@ use Rattle.sparse.specs.Matrix.{Compressed, matrix}
 use Rattle.sparse.specs.Set.{Set}
 use Rattle.sparse.specs.Dense.{nonzeros, compress}
 use Rattle.elimination.specs.Structural.{Pair}
-use Rattle.lists.specs.Tests.{among}
+use Rattle.lists.specs.Rest.{rest}
 use Rattle.elimination.specs.Selection.{structural}
 use Rattle.elimination.specs.Pivots.{Found, Turn, pair, other, turn, turns, columnsOf, uppersOf, rankOf}
-
-unfoldable pub rest : List ℕ → ℕ → List ℕ
-rest xs zero = []
-rest xs (suc k) = rest xs k ++ cond (among k xs) [] (k ∷ [])
 
 unfoldable pub schedule : ℕ → List Pair → List Turn
 schedule n pairs = map pair pairs ++ map other (rest (map (λ q. q .row) pairs) n)

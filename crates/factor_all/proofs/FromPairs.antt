@@ -15,7 +15,8 @@ use Rattle.sparse.specs.Dense.{compress}
 use Rattle.sparse.proofs.Rows.{form-below}
 use Rattle.elimination.specs.Structural.{Pair}
 use Rattle.elimination.specs.Pivots.{Found, columnsOf, uppersOf, rankOf, turns}
-use Rattle.elimination.specs.Factoring.{rest, schedule, nothing, rowsOf, lowersOf, entries, factored, factorFrom}
+use Rattle.lists.specs.Rest.{rest}
+use Rattle.elimination.specs.Factoring.{schedule, nothing, rowsOf, lowersOf, entries, factored, factorFrom}
 use Rattle.elimination.specs.Overflow.{EntriesFit}
 use Rattle.elimination.specs.Invariant.{Invariant}
 use Rattle.elimination.proofs.Room.{none-over}

@@ -14,7 +14,8 @@ use Rattle.algebra.specs.Matrix.{Vector, vector}
 use Rattle.sparse.specs.Matrix.{Compressed, matrix}
 use Rattle.sparse.specs.Set.{storageOf}
 use Rattle.elimination.specs.Pivots.{Found, Turn, columnsOf, uppersOf, upperOf, rankOf, other, turn}
-use Rattle.elimination.specs.Factoring.{rest, entries, lowersOf, firstOver}
+use Rattle.lists.specs.Rest.{rest}
+use Rattle.elimination.specs.Factoring.{entries, lowersOf, firstOver}
 use Rattle.elimination.specs.Invariant.{Invariant}
 use Rattle.elimination.proofs.Invariant.{uppers-many}
 use Rattle.factor_dense.specs.Block.{LeftColumns}

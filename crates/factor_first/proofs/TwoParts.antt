@@ -13,8 +13,9 @@ use Rattle.lists.proofs.Bools.{and-left, and-right}
 use Rattle.sparse.specs.Matrix.{Compressed, matrix}
 use Rattle.sparse.specs.Set.{storageOf}
 use Rattle.elimination.specs.Pivots.{Found, Turn, pair, other, turns}
-use Rattle.elimination.specs.Factoring.{rest, schedule, nothing, firstOver}
-use Rattle.elimination.proofs.Completion.{rest-each}
+use Rattle.lists.specs.Rest.{rest}
+use Rattle.elimination.specs.Factoring.{schedule, nothing, firstOver}
+use Rattle.algebra.proofs.Completion.{rest-each}
 use Rattle.factor_turn.specs.declared.turn.Progress.{Progress}
 use Rattle.factor_turn.specs.declared.turn.Pass.{Pass}
 use Rattle.factor_turn.specs.State.{StateOf}

@@ -10,7 +10,7 @@ use lib.ListN.{length, getD, take}
 use Rattle.sparse.specs.Matrix.{Compressed}
 use Rattle.sparse.specs.Set.{Storage}
 use Rattle.elimination.specs.Pivots.{Found}
-use Rattle.elimination.specs.Factoring.{rest}
+use Rattle.lists.specs.Rest.{rest}
 use Rattle.factor_turn.specs.declared.turn.Progress.{Progress}
 use Rattle.factor_turn.specs.Needs.{Lent, TurnReady}
 use Rattle.factor_first.specs.Dense.{DenseState, DenseFrom}

@@ -16,9 +16,9 @@ use Rattle.lists.proofs.Filled.{Clearing, zeros-at, clearing-starts, clearing-t
 use Rattle.lists.proofs.Tabulate.{length-tabulate, tabulate-at, tabulated}
 use Rattle.algebra.specs.Matrix.{Distinct, vector}
 use Rattle.lists.specs.Tests.{among}
-use Rattle.elimination.specs.Factoring.{rest}
-use Rattle.elimination.proofs.Listed.{among-append}
-use Rattle.elimination.proofs.Completion.{completed-length}
+use Rattle.lists.specs.Rest.{rest}
+use Rattle.algebra.proofs.Listed.{among-append}
+use Rattle.algebra.proofs.Completion.{completed-length}
 use Rattle.factor_order.specs.Needs.{Completable}
 use Rattle.lists.specs.Stored.{Stored}
 use Rattle.factor_order.specs.Completion.{marked, unmarked, AppendReady, Completed}

@@ -11,7 +11,7 @@ use lib.ListN.{length, take}
 use Rattle.lists.specs.Filled.{zeros}
 use Rattle.lists.specs.Tabulate.{tabulate}
 use Rattle.lists.specs.Tests.{among}
-use Rattle.elimination.specs.Factoring.{rest}
+use Rattle.lists.specs.Rest.{rest}
 
 abbrev pub marked : List ℕ → ℕ → ℕ
 marked xs x = cond (among x xs) 1 0

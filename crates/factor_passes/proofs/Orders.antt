@@ -5,8 +5,8 @@ use Prim.Native.Nat.{ℕ, _≤_, _<_}
 use lib.ListN.{length, getD, take}
 use lib.Seq.{length-take-le, getD-take, take-at}
 use Rattle.algebra.specs.Matrix.{Distinct, vector}
-use Rattle.elimination.specs.Factoring.{rest}
-use Rattle.elimination.proofs.Completion.{completed-length}
+use Rattle.lists.specs.Rest.{rest}
+use Rattle.algebra.proofs.Completion.{completed-length}
 use Rattle.factor_order.specs.Completion.{Completed}
 
 -- what holds of the first k numbers of a list, cut there or not

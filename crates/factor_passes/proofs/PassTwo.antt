@@ -10,8 +10,9 @@ use Rattle.algebra.specs.Matrix.{Distinct, vector}
 use Rattle.sparse.specs.Matrix.{Compressed, matrix}
 use Rattle.sparse.specs.Set.{Storage, storageOf}
 use Rattle.elimination.specs.Pivots.{Found, columnsOf, rankOf}
-use Rattle.elimination.specs.Factoring.{rest, rowsOf}
-use Rattle.elimination.proofs.Completion.{completed-length}
+use Rattle.lists.specs.Rest.{rest}
+use Rattle.elimination.specs.Factoring.{rowsOf}
+use Rattle.algebra.proofs.Completion.{completed-length}
 use Rattle.elimination.proofs.Invariant.{columns-many}
 use Rattle.factor_order.specs.Needs.{Completable}
 use Rattle.factor_order.specs.Completion.{Completed}

@@ -12,7 +12,8 @@ use Rattle.algebra.specs.Matrix.{Permutation, vector}
 use Rattle.sparse.specs.Matrix.{Compressed, matrix}
 use Rattle.sparse.specs.Set.{Storage}
 use Rattle.elimination.specs.Pivots.{Found, columnsOf}
-use Rattle.elimination.specs.Factoring.{rest, rowsOf}
+use Rattle.lists.specs.Rest.{rest}
+use Rattle.elimination.specs.Factoring.{rowsOf}
 use Rattle.elimination.specs.Invariant.{Invariant}
 use Rattle.factor_turn.specs.State.{pivotRows, State}
 use Rattle.factor_turn.specs.Filling.{FillDone}

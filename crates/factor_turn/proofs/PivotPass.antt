@@ -18,7 +18,7 @@ use Rattle.sparse.specs.Set.{storageOf}
 use Rattle.elimination.specs.Pairs.{pairRows, pairColumns}
 use Rattle.elimination.specs.Pivots.{Found, Turn, columnsOf, uppersOf, rankOf, withDependent, pair, other, turn, reducedBy, multiplesBy}
 use Rattle.elimination.specs.Factoring.{schedule, nothing, rowOfTurn, entries, lowersOf, fits, firstOver}
-use Rattle.elimination.proofs.Completion.{completed}
+use Rattle.algebra.proofs.Completion.{completed}
 use Rattle.elimination.specs.Invariant.{Invariant}
 use Rattle.elimination.proofs.Invariant.{nothing-holds}
 use Rattle.elimination.proofs.Turns.{other-either}

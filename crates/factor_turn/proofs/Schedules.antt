@@ -15,7 +15,8 @@ use Rattle.algebra.specs.Matrix.{Matrix}
 use Rattle.elimination.specs.Structural.{Pair}
 use Rattle.elimination.specs.Pairs.{pairRows, pairColumns}
 use Rattle.elimination.specs.Pivots.{Found, Turn, pair, other, turn, turns}
-use Rattle.elimination.specs.Factoring.{rest, schedule, rowOfTurn, fits, firstOver}
+use Rattle.lists.specs.Rest.{rest}
+use Rattle.elimination.specs.Factoring.{schedule, rowOfTurn, fits, firstOver}
 use Rattle.factor_turn.specs.State.{turnOf}
 use Rattle.factor_turn.specs.Passing.{pairsIn, pairsOf}
 

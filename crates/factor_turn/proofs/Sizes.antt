@@ -7,8 +7,9 @@ use lib.ListN.{length, getD, length-append, length-map, List·getD-map}
 use Rattle.algebra.specs.Matrix.{Matrix, Distinct, vector}
 use Rattle.sparse.specs.Dense.{nonzeros}
 use Rattle.elimination.specs.Pivots.{Found, columnsOf, uppersOf, rankOf}
-use Rattle.elimination.specs.Factoring.{rest, entries}
-use Rattle.elimination.proofs.Completion.{completed-length}
+use Rattle.lists.specs.Rest.{rest}
+use Rattle.elimination.specs.Factoring.{entries}
+use Rattle.algebra.proofs.Completion.{completed-length}
 use Rattle.elimination.specs.Invariant.{noPivot, Invariant}
 use Rattle.elimination.proofs.Echelon.{echelon-distinct}
 use Rattle.elimination.proofs.Invariant.{columns-many, uppers-many}

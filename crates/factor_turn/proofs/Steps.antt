@@ -16,7 +16,7 @@ use Rattle.sparse.specs.Dense.{nonzeros, compress}
 use Rattle.sparse.proofs.DenseLaws.{compress-lengths}
 use Rattle.elimination.specs.Pivots.{Found, columnsOf, uppersOf, rankOf, withPivot, withDependent}
 use Rattle.elimination.specs.Factoring.{lowersOf, entries, fits}
-use Rattle.elimination.proofs.Listed.{snoc-length, map-append}
+use Rattle.algebra.proofs.Listed.{snoc-length, map-append}
 use Rattle.elimination.proofs.Invariant.{uppers-many}
 use Rattle.elimination.proofs.Room.{entries-stored, entries-append}
 use Rattle.factor_row.specs.Storage.{Holds}

@@ -23,7 +23,7 @@ use Rattle.sparse.specs.Set.{Storage}
 use Rattle.sparse.specs.Dense.{nonzeros}
 use Rattle.elimination.specs.Pairs.{Pairs}
 use Rattle.elimination.specs.Pivots.{Found}
-use Rattle.elimination.specs.Factoring.{rest}
+use Rattle.lists.specs.Rest.{rest}
 use Rattle.elimination.specs.Invariant.{Invariant}
 use Rattle.factor_row.specs.declared.pivot_row.Step.{Step}
 use Rattle.factor_row.specs.Gathering.{reductionBy, cut}

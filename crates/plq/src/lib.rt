@@ -1,5 +1,6 @@
 // The library. For programs in Rattle: reading a plan's text, and the calls on stored plans with the owners of their words. For planning programs in C
 // (include/plq.h): two calls that take a plan as its text and need no storage of the caller's.
+pub use call_kernel::from_certificate::kernel_basis_from_certificate;
 pub use call_owned::answer::answer_from_certificate;
 pub use call_owned::answer::answer_from_factors;
 pub use call_owned::check::check_certificate;

@@ -10,6 +10,8 @@
 --   D-closed     closed 3 2 1 1 0: the answer to the question (1,0,0,0,0)
 --   D-words      words 4 3 0 0 4: the answer to the slot values (1,2,4,3,5)
 --   D-contradiction   contradiction 5 6 1 0 0: the answer to the slot values (1,2,5,3,5)
+--   D-free       free 1: one column of D is free
+--   D-setting    setting 3 2 1 1 0: its setting
 --   no-slots     open: an open answer where the plan has no slots
 --   ten-digits   refused 4294967295 at 10: a number of ten digits
 use mathlib.Core.Path.{_≡_, refl}
@@ -21,6 +23,7 @@ use Rattle.print_text.specs.declared.lines.Summary.{Summary}
 use Rattle.print_text.specs.Lines.{labelled, sizesLine, rankLine, openLine, wordLine, openLines, openCount, closedCount, totalsLine}
 use Rattle.print_text.specs.Report.{reportText, refusalText}
 use Rattle.print_text.specs.Answer.{valuesText, valuesLine, answerText, slotsText}
+use Rattle.print_text.specs.Settings.{freeLine, settingLine}
 
 abbrev pub summaryD : Summary
 summaryD = record { modulus = 7; slots = 5; words = 5; entries = 11; rank = 4; structural = 4; lower = 6; upper = 7 }
@@ -59,6 +62,14 @@ pub D-contradiction : slotsText false (0 ∷ 0 ∷ 0 ∷ 0 ∷ 0 ∷ []) (5 ∷ 
     ≡ 99 ∷ 111 ∷ 110 ∷ 116 ∷ 114 ∷ 97 ∷ 100 ∷ 105 ∷ 99 ∷ 116 ∷ 105 ∷ 111 ∷ 110 ∷ 32 ∷ 53 ∷ 32 ∷ 54 ∷ 32 ∷ 49 ∷ 32 ∷ 48 ∷ 32 ∷ 48 ∷ 10 ∷ []
 unfolding valuesLine valuesText flatten labelled decimal decimalIn
 D-contradiction = refl
+
+pub D-free : freeLine 1 ≡ 102 ∷ 114 ∷ 101 ∷ 101 ∷ 32 ∷ 49 ∷ 10 ∷ []
+unfolding valuesLine valuesText flatten labelled decimal decimalIn
+D-free = refl
+
+pub D-setting : settingLine (3 ∷ 2 ∷ 1 ∷ 1 ∷ 0 ∷ []) ≡ 115 ∷ 101 ∷ 116 ∷ 116 ∷ 105 ∷ 110 ∷ 103 ∷ 32 ∷ 51 ∷ 32 ∷ 50 ∷ 32 ∷ 49 ∷ 32 ∷ 49 ∷ 32 ∷ 48 ∷ 10 ∷ []
+unfolding valuesLine valuesText flatten labelled decimal decimalIn
+D-setting = refl
 
 pub no-slots : answerText true [] (0 ∷ []) ≡ 111 ∷ 112 ∷ 101 ∷ 110 ∷ 10 ∷ []
 unfolding valuesLine valuesText flatten labelled decimal decimalIn

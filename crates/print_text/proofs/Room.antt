@@ -11,10 +11,11 @@ use lib.ListN.{length, getD, length-append}
 use Rattle.text_fields.specs.Decimal.{decimalIn, decimal}
 use Rattle.text_fields.proofs.Canonical.{decimal-length, decimal-one, tenth}
 use Rattle.print_text.specs.declared.lines.Summary.{Summary}
-use Rattle.print_text.specs.Labels.{modulusLabel, slotsLabel, wordsLabel, entriesLabel, rankLabel, structuralLabel, lowerLabel, upperLabel, openLabel, ownerLabel, totalsLabel, closedLabel, refusedLabel, atLabel, space}
+use Rattle.print_text.specs.Labels.{modulusLabel, slotsLabel, wordsLabel, entriesLabel, rankLabel, structuralLabel, lowerLabel, upperLabel, openLabel, ownerLabel, totalsLabel, closedLabel, refusedLabel, atLabel, freeWord, kernelWord, space}
 use Rattle.print_text.specs.Lines.{labelled, sizesLine, rankLine, openLine, wordLine, openLines, openCount, closedCount, totalsLine}
 use Rattle.print_text.specs.Report.{reportText, refusalText}
 use Rattle.print_text.specs.Answer.{valuesText, valuesLine, verdictWord, answerLine, slotsWord, slotsLine}
+use Rattle.print_text.specs.Settings.{freeLine, settingLine}
 use Rattle.print_text.specs.Needs.{Printable}
 
 labelled-short : (label : List ℕ) (x : ℕ) → length (labelled label x) ≤ length label + 10
@@ -106,3 +107,9 @@ answer-room t xs out few l = line-room (verdictWord t) xs out (verdict-short t) 
 
 pub slots-room : (t : Bool) (xs out : List ℕ) → length xs ≤ 2048 → 65536 ≤ length out → length (slotsLine t xs) ≤ length out
 slots-room t xs out few l = line-room (slotsWord t) xs out (slots-short t) few l
+
+pub free-room : (k : ℕ) (out : List ℕ) → 65536 ≤ length out → length (freeLine k) ≤ length out
+free-room k out l = line-room freeWord (k ∷ []) out (omega arith) (omega arith) l
+
+pub setting-room : (xs out : List ℕ) → length xs ≤ 2048 → 65536 ≤ length out → length (settingLine xs) ≤ length out
+setting-room xs out few l = line-room kernelWord xs out (omega arith) few l

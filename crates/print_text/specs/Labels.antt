@@ -4,6 +4,7 @@
 --                       what stands before each number, with its spaces
 --   openWord, closedWord    the two verdicts on a question
 --   settingWord, contradictionWord    the two answers to slot values
+--   freeWord, kernelWord    the number of free columns, and a setting of one of them
 --   space, lineFeed         what stands before each value, and at the end of each line
 use Prim.Native.Nat.{ℕ}
 use mathlib.Core.List.{List, [], _∷_}
@@ -79,6 +80,14 @@ settingWord = 119 ∷ 111 ∷ 114 ∷ 100 ∷ 115 ∷ []
 -- `contradiction`
 abbrev pub contradictionWord : List ℕ
 contradictionWord = 99 ∷ 111 ∷ 110 ∷ 116 ∷ 114 ∷ 97 ∷ 100 ∷ 105 ∷ 99 ∷ 116 ∷ 105 ∷ 111 ∷ 110 ∷ []
+
+-- `free`
+abbrev pub freeWord : List ℕ
+freeWord = 102 ∷ 114 ∷ 101 ∷ 101 ∷ []
+
+-- `setting`
+abbrev pub kernelWord : List ℕ
+kernelWord = 115 ∷ 101 ∷ 116 ∷ 116 ∷ 105 ∷ 110 ∷ 103 ∷ []
 
 -- ` `
 abbrev pub space : List ℕ

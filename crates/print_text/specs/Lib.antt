@@ -5,3 +5,4 @@ pub mod Needs
 pub mod Answer
 pub mod Digits
 pub mod Printed
+pub mod Settings

@@ -3,5 +3,6 @@ pub mod answer;
 pub mod lines;
 mod number;
 pub mod report;
+pub mod settings;
 mod totals;
 mod values;

@@ -1,7 +1,12 @@
 pub mod Substitutions
+pub mod ClosedAnswers
 pub mod Solutions
 pub mod UnitQuestions
+pub mod Blocks
+pub mod FreeColumns
 pub mod Theorems
+pub mod Shifts
+pub mod Freedom
 pub mod Sums
 pub mod Diagonal
 pub mod RowParts

@@ -1,6 +1,6 @@
 -- What `solve` computes is the answer that document 01 describes.
-use mathlib.Core.Path.{_≡_, refl, sym, ap, _∙_}
-use mathlib.Core.Logic.{_≢_, _⊎_, inl, inr}
+use mathlib.Core.Path.{_≡_, refl, ap, _∙_}
+use mathlib.Core.Logic.{_⊎_, inl, inr}
 use mathlib.Core.Bool.{Bool, cond}
 use mathlib.Core.List.{List}
 use Prim.Native.Nat.{ℕ, _≤_, _<_}
@@ -18,15 +18,14 @@ use Rattle.lists.proofs.Tests.{first-before, first-here}
 use Rattle.algebra.specs.Sum.{δ, place}
 use Rattle.algebra.specs.Prime.{Prime}
 use Rattle.algebra.specs.Matrix.{Vector, Matrix, Distinct, vector}
-use Rattle.algebra.specs.RowSpace.{Combines, InKernel}
+use Rattle.algebra.specs.RowSpace.{Combines}
 use Rattle.algebra.specs.Reduction.{AllZero, Lowest}
 use Rattle.algebra.specs.Answer.{OpenAnswer, ClosedAnswer, AnswerOpen, AnswerClosed, Answer}
 use Rattle.algebra.proofs.Congruence.{exact, turn, _⊙_}
-use Rattle.algebra.proofs.Dot.{dot-eq, dot-left, dot-comm, dot-place, place-at, place-off, δ-same, δ-other}
+use Rattle.algebra.proofs.Dot.{dot-eq, dot-left, dot-comm, dot-place, place-at, place-off}
 use Rattle.algebra.proofs.Finite.{onto}
 use Rattle.algebra.proofs.Reduction.{taken, reduced-split}
 use Rattle.algebra.proofs.Verdict.{combination, closed-answer}
-use Rattle.algebra.proofs.Substitution.{Right, right-none}
 use Rattle.residue.specs.Inverse.{Invertible}
 use Rattle.sparse.specs.Matrix.{Compressed, matrix}
 use Rattle.sparse.specs.Set.{Set}
@@ -36,7 +35,8 @@ use Rattle.row_space.specs.Substitution.{backL, backU, throughL, through
 use Rattle.row_space.specs.Solve.{remainder, multiplesOf, lowestOf, isOpen, Solved, opened, closed, solve}
 use Rattle.row_space.specs.declared.Verdict.{Verdict}
 use Rattle.row_space.specs.declared.Verdict.the-variants.{Open, Closed}
-use Rattle.row_space.proofs.Substitutions.{δ-small, backL-small, backL-solves, backU-kept, backU-small, backU-right}
+use Rattle.row_space.proofs.Substitutions.{backL-small, backL-solves}
+use Rattle.row_space.proofs.ClosedAnswers.{unit-kernel, closed-cells}
 
 -- the two cases of `solve`
 abbrev openX : (p n : ℕ) → Set → Vector → List ℕ
@@ -162,26 +162,8 @@ module _ {p : ℕ} (prime : Prime p) {n m : ℕ} {A : Compressed} {s : Set} (ok 
         others = off;
       }
 
-  module _ (j : ℕ) (low : Lowest m (remainder p s (vector y)) j) where
-    abbrev z : Vector
-    z = backU p m C U r (δ j)
-
-    apart : (l : ℕ) → l < r → C l ≢ j
-    apart = closed-answer prime (ok .factors) (vector y) small j low .1 .pivot
-
-    z-starts : Right prime (ok .factors) (λ l. 0) r (δ j)
-    z-starts = record { done = λ l h g. absurd (omega arith); todo = λ l h. δ-other j (C l) (λ e. apart l h (sym e)) }
-
-    z-answers : ClosedAnswer p n m r (matrix A) C j z
-    z-answers =
-        record {
-          residues = λ t h. backU-small p m C U r (δ j) pos (δ-small p (prime .two) j) t;
-          kernel = right-none prime (ok .factors) z (backU-right prime (ok .factors) r (omega arith) (δ j) z-starts);
-          pivot = apart;
-          one = backU-kept p m C U r (δ j) j apart ∙ δ-same j;
-          others = λ l h g e.
-              backU-kept p m C U r (δ j) (C l) (λ k b d. omega (arith, ok .factors .columns .apart k l (omega (arith, ok .factors .rank-columns)) g d)) ∙ δ-other j (C l) (λ d. e (sym d));
-        }
+  z-answers : (j : ℕ) → Lowest m (remainder p s (vector y)) j → ClosedAnswer p n m r (matrix A) C j (backU p m C U r (δ j))
+  z-answers j low = unit-kernel prime (ok .factors) j (closed-answer prime (ok .factors) (vector y) small j low .1 .pivot)
 
   -- ---- as lists
 
@@ -203,22 +185,12 @@ module _ {p : ℕ} (prime : Prime p) {n m : ℕ} {A : Compressed} {s : Set} (ok 
       }
 
   closed-list : (j : ℕ) → Lowest m (remainder p s (vector y)) j → AnswerClosed p n m r (matrix A) R C U y (zeros n) (tabulate m (backU p m C U r (δ j)))
-  unfolding InKernel
   closed-list j low =
-      let a = z-answers j low in
-      let at = tabulate-at m (backU p m C U r (δ j)) in
       record {
         column = j;
         remainder = low;
         length-z = length-tabulate m (backU p m C U r (δ j));
-        z-is =
-            record {
-              residues = λ t h. rw (at t h) (a .residues t h);
-              kernel = λ i h. exact (dot-eq m {u = matrix A i} (λ t g. refl) at) ⊙ a .kernel i h;
-              pivot = a .pivot;
-              one = at j (low .within) ∙ a .one;
-              others = λ l h g e. at (C l) (ok .factors .columns .below l g) ∙ a .others l h g e;
-            };
+        z-is = closed-cells (ok .factors .columns) (low .within) (tabulate-at m (backU p m C U r (δ j))) (z-answers j low);
         x-is = zeros-replicate n;
       }
 

@@ -3,3 +3,4 @@ pub mod Solve
 pub mod Question
 pub mod Solving
 pub mod Needs
+pub mod Kernel

@@ -8,9 +8,10 @@ use lib.ListN.{length, getD, length-append, length-map}
 use Rattle.algebra.specs.Matrix.{Matrix, Distinct, vector}
 use Rattle.elimination.specs.Structural.{Pair}
 use Rattle.elimination.specs.Pairs.{pairRows, Pairs}
-use Rattle.elimination.specs.Factoring.{rest, schedule, nothing, rowOfTurn, firstOver}
-use Rattle.elimination.proofs.Listed.{map-append}
-use Rattle.elimination.proofs.Completion.{completed, completed-length}
+use Rattle.lists.specs.Rest.{rest}
+use Rattle.elimination.specs.Factoring.{schedule, nothing, rowOfTurn, firstOver}
+use Rattle.algebra.proofs.Listed.{map-append}
+use Rattle.algebra.proofs.Completion.{completed, completed-length}
 use Rattle.elimination.specs.Overflow.{Overflows}
 use Rattle.elimination.proofs.Room.{some-overflows}
 use Rattle.elimination.proofs.RowsFound.{schedule-rows}

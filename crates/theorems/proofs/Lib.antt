@@ -4,3 +4,4 @@ pub mod Demand3
 pub mod Owners
 pub mod Sums
 pub mod Slots
+pub mod Freedom

@@ -1,7 +1,7 @@
 -- Owners alter no factor, no certificate and no verdict on a question (document 02, slip 4).
 -- Of a stored plan, os and os′ being two lists of m owners: what a call returned and left with the one it returns and leaves with the other.
 --   check-alike, write-alike, factor-alike, answer-alike, list-alike, solve-alike
---                        checking, writing, factoring, answering and listing the open columns, from stored factors and from a certificate
+--                        checking, writing, factoring, answering, listing the open columns or the settings that fit, and solving, from stored factors and from a certificate
 -- Of the text of one plan, with any owners after it or with none: T and T′ are two such texts within the limit.
 --   read-call-alike      the call that reads the one returns and leaves of the plan what it returns and leaves for the other, whatever room it is lent
 --   read-alike           in lists of the largest lengths; only the owners differ, and those are the ones that are stated
@@ -11,6 +11,7 @@
 --   check-text-alike     the call for C that checks one returns the same number
 --   ask-alike            the question program prints the same line
 --   words-alike          and so it does with the verb `words`
+--   settings-alike       and all lines with the verb `settings`
 use Prim.Native.Nat.{ℕ, _≤_}
 use mathlib.Core.Path.{_≡_, sym, ap, subst, _∙_}
 use mathlib.Core.List.{List, _++_}
@@ -46,6 +47,8 @@ use Rattle.ask_lib.specs.Asking.{Asks}
 use Rattle.ask_lib.proofs.Theorems as asks
 use Rattle.ask_words.specs.Solving.{TellsWords}
 use Rattle.ask_words.proofs.Theorems as words
+use Rattle.ask_settings.specs.Settings.{settingsOf}
+use Rattle.ask_settings.proofs.Theorems as settings
 
 -- ---- a stored plan
 
@@ -107,3 +110,6 @@ module _ (s : Sizes) (ts : List StatedEntry) (foot foot′ vs vs′ : List ℕ) 
 
   pub words-alike : (h : List ℕ) (size : ℕ) (b₀ b w₀ w : List ℕ) → TellsWords T h size b₀ b w₀ w → TellsWords T′ h size b₀ b w₀ w
   words-alike = words.words-alike T T′ (read-alike .0)
+
+  pub settings-alike : settingsOf T ≡ settingsOf T′
+  settings-alike = settings.settings-alike T T′ (read-alike .0)

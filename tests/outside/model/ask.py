@@ -1,16 +1,19 @@
 """The question program's output (document 01, "Questions"; the form of the lines is the program's
-own; the line of owners and the verb `words`, slips 4 and 6 of the change requests).
+own; the line of owners and the verbs `words` and `settings`, slips 4, 6 and 7 of the change requests).
 
     ask          the output for a text and a question
     answer_line  the line of an answer
     ask_words    the output for a text and slot values, by the verb `words`
     words_line   the line of their solution
     ask_by_text, ask_words_by_text   the output for a text that the values follow
+    ask_settings the output for a text, by the verb `settings`
+    settings_lines   the lines of its settings
     plan_end     where the plan's text ends in such a text
 """
 
 import re
 
+from .kernel import settings
 from .questions import answer_from_factors
 from .refusals import QUESTION_VALUE, Refusal
 from .report import printed, refused, stages
@@ -65,6 +68,20 @@ def ask_by_text(text):
 def ask_words_by_text(text):
     """What follows the plan's text are the slot values."""
     return ask_words(*_parts(text))
+
+
+def ask_settings(text):
+    """`free` with the number of settings, then a line for each of them, or a refusal.
+    There are no values: all of the text is the plan's."""
+    result = stages(text)
+    if isinstance(result, Refusal):
+        return refused(result)
+    plan, (factors, _) = result
+    return settings_lines(settings(plan, factors))
+
+
+def settings_lines(found):
+    return b"".join([_line("free", [len(found)]), *(_line("setting", s) for s in found)])
 
 
 def _parts(text):

@@ -1,5 +1,5 @@
 """The same notions by trying everything, for tiny plans (document 01, "Factors": rank; "Questions";
-slot values by slip 6 of the change requests).
+slot values and settings by slips 6 and 7 of the change requests).
 
 No factors are used but for which rows and columns are pivots. A matrix is a
 list of full rows.
@@ -9,9 +9,13 @@ list of full rows.
     rank         the greatest number of independent rows
     answer       x and z as document 01 describes them, found by trying all
     slots        s and w as slip 6 describes them, found so too
+    silent       all settings that have no effect on any slot
+    free_settings   those of them that slip 7 asks for
+    combined     how many combinations of settings give each setting
     values       the values y.s over the settings s that give certain slots
 """
 
+from collections import Counter
 from itertools import combinations as subsets
 from itertools import product
 
@@ -68,7 +72,7 @@ def answer(plan, pivot_rows, pivot_columns, y):
     if solutions:
         (x,) = [x for x in solutions if _zero_off(x, pivot_rows)]
         return True, x, (0,) * m
-    kernel = [z for z in combinations(p, m) if not any(times_setting(rows, z, p))]
+    kernel = silent(plan)
     for free in sorted(set(range(m)) - set(pivot_columns)):
         (z,) = [z for z in kernel if z[free] == 1 and _zero_off(z, {free, *pivot_columns})]
         if sum(a * b for a, b in zip(y, z)) % p:
@@ -91,6 +95,26 @@ def slots(plan, pivot_rows, pivot_columns, h):
         if sum(a * b for a, b in zip(w, h)) % p:
             return False, (0,) * m, w
     raise AssertionError("slot values that no setting gives, without a contradiction")
+
+
+def silent(plan):
+    rows = full_rows(plan)
+    return [s for s in combinations(plan.p, plan.m) if not any(times_setting(rows, s, plan.p))]
+
+
+def free_settings(plan, pivot_columns):
+    """For each non-pivot column, rising, the only setting with As = 0 that is 1 there
+    and 0 at the other non-pivot columns."""
+    kernel, found = silent(plan), []
+    for free in sorted(set(range(plan.m)) - set(pivot_columns)):
+        (s,) = [s for s in kernel if s[free] == 1 and _zero_off(s, {free, *pivot_columns})]
+        found.append(s)
+    return tuple(found)
+
+
+def combined(plan, settings):
+    weights = combinations(plan.p, len(settings))
+    return Counter(times_rows(x, settings, plan.m, plan.p) for x in weights)
 
 
 def _zero_off(cells, places):

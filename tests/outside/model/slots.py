@@ -8,6 +8,7 @@ by plain elimination, and not through L and U.
     slots_from_factors, slots_from_certificate   the same after the check
     setting          the s that is right at the pivot slots
     contradictions   every w of the slip's form with w.h not 0, by rising slot
+    eliminated       equations solved for as many unknowns
 """
 
 from functools import lru_cache
@@ -72,7 +73,7 @@ def setting(plan, factors, h):
     for i in factors.R[: factors.r]:
         cells = row(plan.rows, i)
         equations.append({**{j: cells[j] for j in words if j in cells}, HEARD: h[i]})
-    solved = _eliminated(equations, words, plan.p)
+    solved = eliminated(equations, words, plan.p)
     return tuple(solved[j].get(HEARD, 0) if j in solved else 0 for j in range(plan.m))
 
 
@@ -104,10 +105,10 @@ def _pivot_slots(plan, slots, words):
         for j, value in row(plan.rows, i).items():
             if j in columns:
                 columns[j][i] = value
-    return _eliminated(columns.values(), slots, plan.p)
+    return eliminated(columns.values(), slots, plan.p)
 
 
-def _eliminated(equations, unknowns, p):
+def eliminated(equations, unknowns, p):
     """By unknown, the equation that is left for it, with 1 there and none of the
     other unknowns. An equation is a dictionary; there are as many as unknowns,
     and they are independent in these."""

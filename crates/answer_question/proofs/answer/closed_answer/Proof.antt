@@ -1,49 +1,36 @@
--- `closed_answer` meets its contract: z is cleared but for its one before the substitution. Assumes nothing.
+-- `closed_answer` meets its contract: x is cleared, and z is the kernel's vector of the column. Assumes nothing.
 use mathlib.Core.Path.{ap, _∙_}
 use lib.ListN.{length}
 use borrow.Author.Needs.{needs}
 use Rattle.lists.proofs.Tabulate.{length-tabulate}
-use Rattle.answer_question.proofs.AnswerLaws.{cleared, closed-ready, closed-done}
+use Rattle.answer_question.proofs.AnswerLaws.{cleared}
 use Rattle.answer_question.proofs.answer.closed_answer.Statement.{statement}
 use Rattle.answer_question.proofs.answer.closed_answer.Tie as tie
 
--- the places at which z is cleared, and the substitution is done
-abbrev cleared-z : tie.After-solve-upper-arg → tie.After-clear2
-cleared-z c = c .before .before .before
+-- the places at which x is cleared, and z is filled
+abbrev cleared-x : tie.After-slice-known4 → tie.After-clear
+cleared-x c = c .before .before .before .before .before .before
 
-abbrev start : tie.After-solve-upper-arg → tie.Start
-start c = c .before .before .before .before .before .before .before .before .before .before .before .before .before .before .before .before .before .before .before
-
-abbrev solved : tie.After-slice-known5 → tie.After-solve-upper
-solved c = c .before .before
+abbrev filled-z : tie.After-slice-known4 → tie.After-kernel-vector
+filled-z c = c .before .before
 
 clear-requires : tie.Need-clear-requires
 clear-requires c κs = search needs
 
-clear-requires-2 : tie.Need-clear-requires-2
-clear-requires-2 c κs = search needs
-
-mul-z : tie.Need-mul-z
-mul-z c = search needs
-
-slice-write-z : tie.Need-slice-write-z
-slice-write-z c = search needs
-
-solve-upper-requires : tie.Need-solve-upper-requires
-solve-upper-requires c κs = closed-ready (start c .args .q .p) _ (start c .args .j) _ _ _ _ (start c .pre) (cleared-z c .clear2 .ensures)
+kernel-vector-requires : tie.Need-kernel-vector-requires
+kernel-vector-requires c κs = c .before .before .before .before .before .before .before .before .before .before .before .before .before .before .before .pre
 
 same-length : tie.Need-same-length
 same-length c = search needs
 
 same-length-2 : tie.Need-same-length-2
-same-length-2 c = let b = solved c .before in
-    ap length (closed-done (start b .args .q .p) _ (start b .args .j) _ _ _ _ (start b .pre) (cleared-z b .clear2 .ensures) _ (solved c .solve-upper .ensures)) ∙ length-tabulate _ _
+same-length-2 c = ap length (filled-z c .kernel-vector .ensures) ∙ length-tabulate _ _
 
 returns : tie.Need-returns
-returns c = let b = solved c .before in
+returns c =
     record {
-      x-is = cleared _ _ (c .before .before .before .before .before .before .before .before .before .before .clear .ensures);
-      z-is = closed-done (start b .args .q .p) _ (start b .args .j) _ _ _ _ (start b .pre) (cleared-z b .clear2 .ensures) _ (solved c .solve-upper .ensures);
+      x-is = cleared _ _ (cleared-x c .clear .ensures);
+      z-is = filled-z c .kernel-vector .ensures;
     }
 
 pub closed-answer-spec : {M : Type 1} → statement M
@@ -51,10 +38,7 @@ closed-answer-spec =
     tie.close
     (tie.spec
     clear-requires
-    clear-requires-2
-    mul-z
-    slice-write-z
-    solve-upper-requires
+    kernel-vector-requires
     same-length
     same-length-2
     returns)

@@ -5,14 +5,16 @@ use mathlib.Core.Bool.{Bool, true, false, cond, _||_, or-true}
 use mathlib.Core.List.{List, [], _∷_, _++_, append-nil}
 use Prim.Native.Nat.{ℕ, zero, suc, _+_, _≤_, _<_}
 use native.Mathlib.Nat.{eq-or-lt-of-le, le-of-suc-le-suc}
+use native.Mathlib.Decide.{decLt}
 use native.Mathlib.Omega.{arith}
 use lib.Dec.{eqb}
-use lib.ListN.{length, getD, length-append}
+use lib.ListN.{length, getD, length-append, List·getD-append}
+use lib.Seq.{getD-at}
 use borrow.Author.Tests.{eq-eqb, ne-eqb}
 use Rattle.algebra.specs.Matrix.{Distinct, Permutation, vector}
 use Rattle.lists.specs.Tests.{among}
-use Rattle.elimination.specs.Factoring.{rest}
-use Rattle.elimination.proofs.Listed.{snoc-each, among-append, among-place, listed}
+use Rattle.lists.specs.Rest.{rest}
+use Rattle.algebra.proofs.Listed.{snoc-each, among-append, among-place, listed}
 
 -- ---- each number below n is in the list or among the others
 
@@ -47,6 +49,23 @@ rest-each xs (suc n) k h = go (among n xs) (rest-each xs n) k h
     go true ih k h = let e : rest xs n ++ [] ≡ rest xs n = append-nil (rest xs n) in
         omega (arith, ap (λ (l : List ℕ). getD l k 0) e, ih k (omega (arith, ap length e)))
     go false ih k h = snoc-each 0 (rest xs n) n (λ k x. x < suc n) (λ k l. omega (arith, ih k l)) (omega arith) k h
+
+-- and rise
+pub rest-rising : (xs : List ℕ) (n a b : ℕ) → a < b → b < length (rest xs n) → getD (rest xs n) a 0 < getD (rest xs n) b 0
+unfolding rest
+rest-rising xs zero a b lt h = absurd (omega arith)
+rest-rising xs (suc n) a b lt h = go (among n xs) h (rest-rising xs n a b lt)
+  where
+    go : (t : Bool) → b < length (rest xs n ++ cond t [] (n ∷ [])) → (b < length (rest xs n) → getD (rest xs n) a 0 < getD (rest xs n) b 0)
+        → getD (rest xs n ++ cond t [] (n ∷ [])) a 0 < getD (rest xs n ++ cond t [] (n ∷ [])) b 0
+    go true g ih = let e : rest xs n ++ [] ≡ rest xs n = append-nil (rest xs n) in rw e (ih (rw e at g))
+    go false g ih = at (decLt b (length (rest xs n)))
+      where
+        at : Dec (b < length (rest xs n)) → getD (rest xs n ++ (n ∷ [])) a 0 < getD (rest xs n ++ (n ∷ [])) b 0
+        at (yes l) = rw (List·getD-append (rest xs n) (n ∷ []) 0 a (omega arith), List·getD-append (rest xs n) (n ∷ []) 0 b l) (ih l)
+        at (no l) =
+            let last : b ≡ length (rest xs n) = omega (arith, length-append (rest xs n) (n ∷ [])) in
+            omega (arith, List·getD-append (rest xs n) (n ∷ []) 0 a (omega arith), getD-at (rest xs n) n [] 0 b (sym last), rest-each xs n a (omega arith))
 
 -- ---- how many the others are
 

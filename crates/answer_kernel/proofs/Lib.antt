@@ -1,0 +1,5 @@
+pub mod MarkLoop
+pub mod SettingLaws
+pub mod BlockLaws
+pub mod SettingsLoop
+pub mod BasisLaws

@@ -1,0 +1,4 @@
+pub mod Settings
+pub mod Held
+pub mod Needs
+pub mod Meaning
