@@ -259,6 +259,19 @@ def same_x_always():
     _spoil_answers(lambda plan, factors, y: Answer(True, (0,) * plan.n, (0,) * plan.m))
 
 
+def words_one_by_one():
+    """A question is held to be closed where a word in it is: the listener may hear no
+    word of a sum, but the sum."""
+
+    def wrong(plan, factors, y):
+        words = (j for j, value in enumerate(y) if value)
+        found = [answer(plan, factors, [int(i == j) for i in range(plan.m)]) for j in words]
+        closed = [word for word in found if not word.is_open]
+        return closed[0] if closed else answer(plan, factors, y)
+
+    _spoil_answers(wrong)
+
+
 def answers_from_two_sets():
     """Where the values have an odd sum, the answer is that of a set with other
     pivots: right by itself, but its x does not add up with the others."""
@@ -438,18 +451,33 @@ def blank_factors():
     certificate.write = lambda plan, factors: bytes(len(true_write(plan, factors)))
 
 
-def rank_made_up():
+def _spoil_rank(function):
+    """`function` has the plan and the right rank. All but the rank stays right."""
+
     def wrong(plan, lower, upper):
         factored = factor(plan, lower, upper)
         if isinstance(factored, Refusal):
             return factored
         factors = factored.factors
-        return factored._replace(factors=factors._replace(r=min(plan.n, plan.m)))
+        return factored._replace(factors=factors._replace(r=function(plan, factors.r)))
 
     report.factor = wrong
     report.open_words = lambda plan, factors: questions.open_words(
         plan, factor(plan, 10**6, 10**6).factors
     )
+
+
+def rank_made_up():
+    _spoil_rank(lambda plan, rank: min(plan.n, plan.m))
+
+
+def rank_one_too_large():
+    _spoil_rank(lambda plan, rank: rank + 1)
+
+
+def rank_one_too_small():
+    """Where it is not 0."""
+    _spoil_rank(lambda plan, rank: max(rank, 1) - 1)
 
 
 def totals_by_pivots():
@@ -664,6 +692,7 @@ DEFECTS = {
         storage_one_too_short,
         closed_always,
         same_x_always,
+        words_one_by_one,
         answers_from_two_sets,
         z_adds_up,
         contradiction_always,
@@ -684,6 +713,8 @@ DEFECTS = {
         rest_of_the_text_left_out,
         blank_factors,
         rank_made_up,
+        rank_one_too_large,
+        rank_one_too_small,
         totals_by_pivots,
         totals_on_a_refusal,
         refuses_all,

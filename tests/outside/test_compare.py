@@ -25,6 +25,7 @@ from generate.left import BLOCK
 from generate.texts import plain_text, varied_text
 from model.limits import GREATEST_TEXT
 from model.refusals import REPEATED
+from odds import odds_differences, odds_lines, worked_odds
 from programs import FILLER, Ask, Calls, Crash, Report, compile_driver
 from samples import PLAN
 from standin import DEFECTS
@@ -97,6 +98,7 @@ SHOWN_BY = {
     "storage_one_too_short": ("calls", "report"),
     "closed_always": ("report", "ask"),
     "same_x_always": ("report", "ask"),
+    "words_one_by_one": ("ask",),
     "answers_from_two_sets": ("ask",),
     "z_adds_up": ("ask",),
     "contradiction_always": ("ask",),
@@ -117,6 +119,8 @@ SHOWN_BY = {
     "rest_of_the_text_left_out": ("settings",),
     "blank_factors": ("calls",),
     "rank_made_up": ("report",),
+    "rank_one_too_large": ("report",),
+    "rank_one_too_small": ("report",),
     "totals_by_pivots": ("report",),
     "totals_on_a_refusal": ("report",),
     "refuses_all": ("calls", "report", "ask"),
@@ -137,6 +141,14 @@ SHOWN_BY = {
     "owners_past_the_limit": ("calls", "report"),
     "owners_asked": ("ask",),
     "leaves_refused_output": ("calls",),
+}
+
+
+# The plans whose settings are counted, and the defects that the numbers show in each of them.
+COUNTED = ("odds: plan D", "odds: modulo 2")
+COUNTING_SHOWS = {
+    "report": ("rank_made_up", "rank_one_too_large", "rank_one_too_small", "refuses_all"),
+    "ask": ("closed_always", "same_x_always", "words_one_by_one", "refuses_all"),
 }
 
 
@@ -229,6 +241,20 @@ class Notices(unittest.TestCase):
             lines = dict.fromkeys(right, line)
             self.assertEqual(len(list(model_differences(lines))), len(right))
             self.assertEqual(list(law_differences(sums, lines)), [])
+
+    def test_counting_shows_wrong_ranks_and_verdicts(self):
+        """By all settings of plan D and of two slots that are the same, without the
+        model; in each of the two, and with the other program right. The right
+        programs show no difference."""
+        several = [odds for odds in worked_odds() if odds.origin in COUNTED]
+        right = odds_lines(several, [standin("report"), standin("ask")])
+        self.assertEqual(list(odds_differences(several, right)), [])
+        for program, defects in COUNTING_SHOWS.items():
+            for defect in defects:
+                lines = {**right, **odds_lines(several, [standin(program, defect)])}
+                for odds in several:
+                    found = [case.call for case, _, _ in odds_differences([odds], lines)]
+                    self.assertIn(program, found, (defect, odds.origin))
 
     def test_small_plans_show_another_order_and_longer_cycles(self):
         """The worked plans without plan D."""

@@ -1,6 +1,6 @@
 """The worked cases of document 01 with their results, letter by letter (document 01, "Report and cases").
 Those of the structural pivots are worked by slip 9 of the change requests, those of owners by slip 4,
-sums by slip 14, slot values by slip 6, settings by slip 7.
+sums by slip 14, slot values by slip 6, settings by slip 7, their numbers by slip 8.
 
     PLAN_D        the text of plan D; FALLING_D and BY_COLUMN_D, the same plan in other orders
     OWNED_D       the same with a line of owners
@@ -18,6 +18,7 @@ sums by slip 14, slot values by slip 6, settings by slip 7.
     WORDS         texts and slot values, with what it prints by its verb `words`
     WORDS_ASKED   texts with slot values after the plan, and what it prints so
     SETTINGS      texts with what it prints by its verb `settings`
+    ODDS          texts by name, with how many settings give which slots, and questions which value
     EDITED        plan D's set with one number changed, and the refusal
     ROOMS         rooms for L and U on plan D, and the refusal, or None where they suffice
 """
@@ -658,6 +659,38 @@ SETTINGS = (
     (b"7\n1 1 M\n1 1 2147483648\n0 0 0\n", b"refused 6 at 3\n"),
     (PLAN_D + b"owners 1 1 2 2 256\n", b"refused 16 at 15\n"),
 )
+
+# How many lists of slots some setting gives, and how many settings give each of them; questions with
+# the values that these settings give them: how many, and by how many settings each.
+ODDS = {
+    "plan D": (
+        *(PLAN_D, 2_401, 7),
+        *(((0, 0, 0, 0, 1), 1, 7), ((0, 0, 1, 6, 0), 1, 7), ((1, 0, 0, 0, 0), 7, 1)),
+    ),
+    # The one setting is the empty one, also modulo the largest.
+    "no slots and no words": (b"7\n0 0 M\n0 0 0\n", 1, 1, ((), 1, 1)),
+    "no words": (NO_WORDS, 1, 1, ((), 1, 1)),
+    "no words, largest modulus": (b"4294967291\n2 0 M\n0 0 0\n", 1, 1, ((), 1, 1)),
+    # Without slots one list, the empty one; slots that hear nothing are always 0.
+    "no slots": (b"7\n0 2 M\n0 0 0\n", 1, 49, ((0, 0), 1, 49), ((1, 0), 7, 7), ((3, 4), 7, 7)),
+    "no slots, modulo 2": (b"2\n0 2 M\n0 0 0\n", 1, 4, ((0, 0), 1, 4), ((1, 1), 2, 2)),
+    "rank 0": (b"7\n2 2 M\n1 2 7\n0 0 0\n", 1, 49, ((0, 0), 1, 49), ((0, 1), 7, 7)),
+    # The slots fix every word.
+    "rank m": (b"7\n2 2 M\n2 1 1\n1 2 1\n0 0 0\n", 49, 1, ((0, 0), 1, 1), ((3, 4), 1, 1)),
+    "rank m, more slots": (ONE_WORD, 7, 1, ((0,), 1, 1), ((5,), 1, 1)),
+    "rank m, modulo 2": (b"2\n1 1 M\n1 1 1\n0 0 0\n", 2, 1, ((1,), 1, 1)),
+    # Two slots that are the same: both 0 or both 1.
+    "modulo 2": (
+        *(b"2\n2 3 M\n1 1 1\n1 2 1\n1 3 1\n2 1 1\n2 2 1\n2 3 1\n0 0 0\n", 2, 4),
+        *(((1, 1, 1), 1, 4), ((1, 0, 0), 2, 2), ((0, 1, 1), 2, 2)),
+    ),
+    # As many settings as are tried, and as many values: each by one setting alone.
+    "most settings": (
+        *(b"2\n1 12 M\n1 1 1\n1 12 1\n0 0 0\n", 2, 2_048),
+        *(((1, *(0,) * 10, 1), 1, 2_048), ((1,) * 12, 2, 1_024), ((0, *(1,) * 10, 0), 2, 1_024)),
+    ),
+    "most values": (b"4093\n0 1 M\n0 0 0\n", 1, 4_093, ((0,), 1, 4_093), ((4_092,), 4_093, 1)),
+}
 
 # Which factor, the place in its list of values, the new value, the refusal.
 EDITED = (

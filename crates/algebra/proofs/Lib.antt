@@ -16,3 +16,7 @@ pub mod Substitution
 pub mod Transpose
 pub mod Kernel
 pub mod Slots
+pub mod Shifts
+pub mod Narrowing
+pub mod Count
+pub mod Odds

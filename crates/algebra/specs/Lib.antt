@@ -11,3 +11,4 @@ pub mod Mixed
 pub mod Answer
 pub mod SlotAnswer
 pub mod Settings
+pub mod Odds

@@ -1,6 +1,7 @@
 -- What the two calls for C say, with what they returned and left.
 -- Checking, z is the number returned:
 --   checked-exactly    0 exactly if the text states a plan and the certificate passes against it
+--   checked-passes     0: the certificate passes against the plan that was read
 --   checked-product    0: A = PLUQ for the plan that was read
 --   checked-rank       0: r is its rank
 --   checked-judged     after a text that states a plan: one of 10 to 14 at most
@@ -48,6 +49,7 @@ use Rattle.text_plan.specs.Call.{ReadAnswer}
 use Rattle.text_plan.specs.Held.{planOf}
 use Rattle.text_owners.specs.Stating.{StatesText}
 use Rattle.call_check.specs.Calls.{checkCertificateOf}
+use Rattle.call_check.specs.Passing.{CertificatePasses}
 use Rattle.call_check.proofs.Theorems.{factors-exactly, certificate-exactly, stored-certificate, rest, rest-numbers, after-plan}
 use Rattle.call_write.specs.Call.{writeOutcome, bytesGiven}
 use Rattle.call_write.proofs.Theorems.{write-room}
@@ -132,6 +134,11 @@ module _ (text cert : List ℕ) where
 
     abbrev set : Set
     set = setOfCertificate n m cert
+
+    pub checked-passes : z ≡ 0 → CertificatePasses p n m A cert workLength
+    checked-passes e =
+        let h = checked-exactly .0 e in
+        record { plan = reading-good text (h .states); work = refl; layout = h .layout; passes = h .passes }
 
     pub checked-product : z ≡ 0 → Factors p n m (set .r) (matrix A) (vector (set .R)) (vector (set .C)) (matrix (set .L)) (matrix (set .U))
     checked-product e = checked-exactly .0 e .passes .factors

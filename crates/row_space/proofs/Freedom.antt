@@ -33,6 +33,7 @@ use Rattle.algebra.specs.Factors.{Factors}
 use Rattle.algebra.specs.Answer.{ClosedAnswer}
 use Rattle.algebra.proofs.Kernel.{KernelBasis, factors-basis}
 use Rattle.algebra.proofs.Unique.{closed-unique}
+use Rattle.algebra.proofs.Shifts.{alike-shifted, shifted-alike, shift-free, shift-only}
 use Rattle.sparse.specs.Row.{Below}
 use Rattle.sparse.specs.Matrix.{Compressed, matrix}
 use Rattle.sparse.specs.Set.{Set}
@@ -43,7 +44,6 @@ use Rattle.row_space.proofs.Substitutions.{δ-small, backU-small}
 use Rattle.row_space.proofs.ClosedAnswers.{Free, unit-kernel, closed-cells, closed-moved}
 use Rattle.row_space.proofs.Blocks.{blocks-length, blocks-at, blocks-below, blocks-same}
 use Rattle.row_space.proofs.FreeColumns as free
-use Rattle.row_space.proofs.Shifts.{alike-shifted, shifted-alike, shift-free, shift-only}
 use Rattle.row_space.proofs.Theorems.{product}
 
 pub setting-length : (p m : ℕ) (s : Set) (c : ℕ) → length (setting p m s c) ≡ m
@@ -134,7 +134,7 @@ module _ {p : ℕ} (prime : Prime p) (n m : ℕ) (A : Compressed) (s : Set) (lon
   same-free : (c : ℕ) → c < m → Free (s .r) (vector (s .C)) c ↔ Free (s .r) C′ c
   same-free c h = (λ g l k e. g l k (sym (C′-pivot l k) ∙ e), λ g l k e. g l k (C′-pivot l k ∙ e))
 
-  basis : KernelBasis p n m (matrix A) (m - s .r) (λ l. getD (freeColumns m s) l 0) (λ l j. getD (kernelBasis p m s) (l * m + j) 0)
+  pub basis : KernelBasis p n m (matrix A) (m - s .r) (λ l. getD (freeColumns m s) l 0) (λ l j. getD (kernelBasis p m s) (l * m + j) 0)
   basis =
       subst (λ (F : ℕ → ℕ). KernelBasis p n m (matrix A) (m - s .r) F (λ l j. getD (kernelBasis p m s) (l * m + j) 0)) (λ t l. C′-free l t)
       (factors-basis prime reordered (λ l j. getD (kernelBasis p m s) (l * m + j) 0)
@@ -143,7 +143,7 @@ module _ {p : ℕ} (prime : Prime p) (n m : ℕ) (A : Compressed) (s : Set) (lon
   -- ---- settings that give the same slots
 
   pub alike-exactly : (a b : Vector) → GiveAlike p n m (matrix A) a b ↔ ((c : Vector) × Shifted p m (m - s .r) (kernelBasis p m s) c a b)
-  unfolding Shifted
+  unfolding GiveAlike Shifted
   alike-exactly a b = (alike-shifted basis a b, λ e. shifted-alike basis a b (e .0) (e .1))
 
   pub shift-is : (a b c : Vector) → Shifted p m (m - s .r) (kernelBasis p m s) c a b

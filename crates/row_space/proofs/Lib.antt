@@ -5,8 +5,8 @@ pub mod UnitQuestions
 pub mod Blocks
 pub mod FreeColumns
 pub mod Theorems
-pub mod Shifts
 pub mod Freedom
+pub mod Odds
 pub mod Sums
 pub mod Diagonal
 pub mod RowParts

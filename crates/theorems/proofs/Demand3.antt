@@ -16,7 +16,15 @@
 --   agree                so all answers to one question agree, whichever sets they came from
 --   .. -one-value        open: two settings that give the same slots give y one value
 --   .. -every-value      closed: for every setting and every value some setting gives the same slots and gives y that value
-use Prim.Native.Nat.{ℕ, _≤_}
+-- Even odds (document 02, slip 8), also whenever a set passes, of the settings that give slot values h, of which t is one:
+--   .. -settings         they are p ^ (m - r)
+--   .. -closed-count     closed: p ^ (m - r - 1) of them give y the value v, whatever v
+--   .. -closed-room      closed: r is below m, so that nothing is cut off in m - r - 1
+--   .. -closed-even      closed: p times that many are all of them
+--   .. -open-count       open: all of them give y one value
+--   .. -open-none        open: and none gives it another
+--   one-count            a number of settings that is counted is the only one
+use Prim.Native.Nat.{ℕ, _*_, _≤_, _<_}
 use mathlib.Core.Path.{_≡_, refl}
 use mathlib.Core.Logic.{_↔_}
 use mathlib.Core.Bool.{true, false}
@@ -26,10 +34,14 @@ use Rattle.lists.specs.Tests.{among}
 use Rattle.refusals.specs.Table.{setFaults}
 use Rattle.refusals.specs.Refusals.{numberOf}
 use Rattle.refusals.specs.declared.Outcome.{Outcome}
-use Rattle.algebra.specs.Matrix.{vector}
+use Rattle.algebra.specs.Congruence.{_≈⟨_⟩_}
+use Rattle.algebra.specs.Sum.{dot}
+use Rattle.algebra.specs.Matrix.{Vector, vector}
 use Rattle.algebra.specs.Rank.{Rank}
 use Rattle.algebra.specs.Factors.{Factors}
 use Rattle.algebra.specs.Settings.{Determined, Undetermined}
+use Rattle.algebra.specs.Odds.{Count, SettingFor, SettingForValue, settingsFor, settingsPerValue}
+use Rattle.algebra.proofs.Count.{count-only}
 use Rattle.sparse.specs.Matrix.{Compressed, matrix}
 use Rattle.sparse.specs.Set.{Set, Storage}
 use Rattle.pluq.specs.Judge.{Passes}
@@ -52,6 +64,7 @@ use Rattle.call_answer.specs.Calls.{answerNumber, answerFactorsOf, answerCertif
 use Rattle.call_answer.specs.Meaning.{Askable, AnswersRight}
 use Rattle.call_answer.specs.declared.Answer.{Answer}
 use Rattle.call_answer.proofs.Theorems as answers
+use Rattle.call_answer.proofs.Odds as odds
 use Rattle.call_open.specs.Calls.{openFactorsOf, openCertificateOf, Lists}
 use Rattle.call_open.proofs.Theorems as columns
 use Rattle.call_owned.specs.Owned.{ownedOutcome, ownedFactors, ownedAnswer, ownedList}
@@ -76,6 +89,9 @@ module _ (p n m k : ℕ) (A : Compressed) (s : Set) (r : Outcome) (w₀ w : List
   pub stored-rank : numberOf r ≡ 0 → Rank p n m (matrix A) (s .r)
   stored-rank done = checks.stored-rank p n m A s r w₀ w (checks-done k m _ r w₀ w call done) done
 
+  pub stored-settings : numberOf r ≡ 0 → (h : Vector) (t : List ℕ) → SettingFor p n m (matrix A) h t → Count (SettingFor p n m (matrix A) h) (settingsFor p m (s .r))
+  stored-settings done = odds.stored-settings p n m A s (length w₀) (checks.stored-passes p n m A s r w₀ w (checks-done k m _ r w₀ w call done) .0 done)
+
 -- ---- the check of a certificate
 
 module _ (p n m k : ℕ) (A : Compressed) (cert : List ℕ) (r : Outcome) (w₀ w : List ℕ) (call : Checks (ownedOutcome k m (checkCertificateOf p n m A cert (length w₀))) r w₀ w) where
@@ -91,6 +107,9 @@ module _ (p n m k : ℕ) (A : Compressed) (cert : List ℕ) (r : Outcome) (w₀ 
   pub bytes-rank : numberOf r ≡ 0 → Rank p n m (matrix A) (held .r)
   bytes-rank done = checks.bytes-rank p n m A cert r w₀ w (checks-done k m _ r w₀ w call done) done
 
+  pub bytes-settings : numberOf r ≡ 0 → (h : Vector) (t : List ℕ) → SettingFor p n m (matrix A) h t → Count (SettingFor p n m (matrix A) h) (settingsFor p m (held .r))
+  bytes-settings done = odds.bytes-settings p n m A cert (length w₀) (checks.bytes-pass p n m A cert r w₀ w (checks-done k m _ r w₀ w call done) .0 done)
+
 -- ---- the call for C that checks; that it returns 0 exactly if the certificate passes is `check-text-exactly` of Demand1
 
 module _ (text cert : List ℕ) (z : ℕ) (call : z ≡ packed (checkTextOf text cert)) (passed : z ≡ 0) where
@@ -105,6 +124,10 @@ module _ (text cert : List ℕ) (z : ℕ) (call : z ≡ packed (checkTextOf text
 
   pub text-rank : let q = reading text .result in Rank (q .p) (q .n) (q .m) (matrix plan) (set .r)
   text-rank = texts.checked-rank text cert z call passed
+
+  pub text-settings : let q = reading text .result in (h : Vector) (t : List ℕ) → SettingFor (q .p) (q .n) (q .m) (matrix plan) h t
+      → Count (SettingFor (q .p) (q .n) (q .m) (matrix plan) h) (settingsFor (q .p) (q .m) (set .r))
+  text-settings = let q = reading text .result in odds.bytes-settings (q .p) (q .n) (q .m) plan cert workLength (texts.checked-passes text cert z call passed)
 
 -- ---- the engine's own
 
@@ -157,6 +180,25 @@ module _ (p n m k : ℕ) (A : Compressed) (s : Set) (y : List ℕ) (r : Answer) 
   pub stored-every-value : r ≡ Answer.Closed → Undetermined p n m (matrix A) (vector y)
   stored-every-value e = stored-right (rw e refl) .every-value e
 
+  stored-solved : answerNumber r ≡ 0 → answers.SolvedFrom p n m A s y r x z
+  stored-solved done = answers.stored-solved p n m A s y r x₀ x z₀ z w₀ w (answers-done k m _ r x₀ x z₀ z w₀ w call done) done
+
+  pub stored-closed-room : r ≡ Answer.Closed → s .r < m
+  stored-closed-room e = odds.closed-room p n m A s y r x z (stored-solved (rw e refl)) e
+
+  pub stored-closed-even : r ≡ Answer.Closed → p * settingsPerValue p m (s .r) ≡ settingsFor p m (s .r)
+  stored-closed-even e = odds.closed-even p n m A s y r x z (stored-solved (rw e refl)) e
+
+  module _ (h : Vector) (t : List ℕ) (some : SettingFor p n m (matrix A) h t) where
+    pub stored-closed-count : r ≡ Answer.Closed → (v : ℕ) → Count (SettingForValue p n m (matrix A) h (vector y) v) (settingsPerValue p m (s .r))
+    stored-closed-count e = odds.closed-count p n m A s y r x z (stored-solved (rw e refl)) h t some e
+
+    pub stored-open-count : r ≡ Answer.Open → Count (SettingForValue p n m (matrix A) h (vector y) (dot m (vector y) (vector t))) (settingsFor p m (s .r))
+    stored-open-count e = odds.open-count p n m A s y r x z (stored-solved (rw e refl)) h t some e
+
+    pub stored-open-none : r ≡ Answer.Open → (v : ℕ) → ¬ (v ≈⟨ p ⟩ dot m (vector y) (vector t)) → Count (SettingForValue p n m (matrix A) h (vector y) v) 0
+    stored-open-none e = odds.open-none p n m A s y r x z (stored-solved (rw e refl)) h t some e
+
 -- ---- questions to a certificate
 
 module _ (p n m k : ℕ) (A : Compressed) (cert y : List ℕ) (r : Answer) (x₀ x z₀ z w₀ w : List ℕ)
@@ -178,6 +220,28 @@ module _ (p n m k : ℕ) (A : Compressed) (cert y : List ℕ) (r : Answer) (x₀
   pub bytes-every-value : r ≡ Answer.Closed → Undetermined p n m (matrix A) (vector y)
   bytes-every-value e = bytes-right (rw e refl) .every-value e
 
+  abbrev set-held : Set
+  set-held = setOfCertificate n m cert
+
+  bytes-solved : answerNumber r ≡ 0 → answers.SolvedFrom p n m A set-held y r x z
+  bytes-solved done = answers.bytes-solved p n m A cert y r x₀ x z₀ z w₀ w (answers-done k m _ r x₀ x z₀ z w₀ w call done) done
+
+  pub bytes-closed-room : r ≡ Answer.Closed → set-held .r < m
+  bytes-closed-room e = odds.closed-room p n m A set-held y r x z (bytes-solved (rw e refl)) e
+
+  pub bytes-closed-even : r ≡ Answer.Closed → p * settingsPerValue p m (set-held .r) ≡ settingsFor p m (set-held .r)
+  bytes-closed-even e = odds.closed-even p n m A set-held y r x z (bytes-solved (rw e refl)) e
+
+  module _ (h : Vector) (t : List ℕ) (some : SettingFor p n m (matrix A) h t) where
+    pub bytes-closed-count : r ≡ Answer.Closed → (v : ℕ) → Count (SettingForValue p n m (matrix A) h (vector y) v) (settingsPerValue p m (set-held .r))
+    bytes-closed-count e = odds.closed-count p n m A set-held y r x z (bytes-solved (rw e refl)) h t some e
+
+    pub bytes-open-count : r ≡ Answer.Open → Count (SettingForValue p n m (matrix A) h (vector y) (dot m (vector y) (vector t))) (settingsFor p m (set-held .r))
+    bytes-open-count e = odds.open-count p n m A set-held y r x z (bytes-solved (rw e refl)) h t some e
+
+    pub bytes-open-none : r ≡ Answer.Open → (v : ℕ) → ¬ (v ≈⟨ p ⟩ dot m (vector y) (vector t)) → Count (SettingForValue p n m (matrix A) h (vector y) v) 0
+    bytes-open-none e = odds.open-none p n m A set-held y r x z (bytes-solved (rw e refl)) h t some e
+
 -- r and r′ are what two calls answered to y, each from stored factors or from a certificate, whoever made them
 pub agree : (p n m : ℕ) (A : Compressed) (y : List ℕ) (r r′ : Answer) → OwnedAnswerOf p n m A y r → OwnedAnswerOf p n m A y r′
     → ((r ≡ Answer.Open) ↔ (r′ ≡ Answer.Open)) × ((r ≡ Answer.Closed) ↔ (r′ ≡ Answer.Closed))
@@ -192,3 +256,8 @@ list-stored-judged p n m k A s r l₀ l w₀ w call e = columns.stored-judged p 
 pub list-bytes-judged : (p n m k : ℕ) (A : Compressed) (cert : List ℕ) (r : Outcome) (l₀ l w₀ w : List ℕ) → Lists (ownedList k m (openCertificateOf p n m A cert (length l₀) (length w₀))) r l₀ l w₀ w
     → k ≡ m → GoodPlan p n m A → length w₀ ≡ workLength → length l₀ ≡ m → (among (numberOf r) setFaults ≡ false) ↔ ((headerOk p n m cert ≡ true) × Passes p n m A (setOfCertificate n m cert))
 list-bytes-judged p n m k A cert r l₀ l w₀ w call e = columns.bytes-judged p n m A cert r l₀ l w₀ w (lists-right k m _ r l₀ l w₀ w call e)
+
+-- ---- a number that is counted
+
+pub one-count : (P : List ℕ → Type 0) (k k′ : ℕ) → Count P k → Count P k′ → k ≡ k′
+one-count = count-only

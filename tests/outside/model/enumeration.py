@@ -1,5 +1,5 @@
 """The same notions by trying everything, for tiny plans (document 01, "Factors": rank; "Questions";
-slot values and settings by slips 6 and 7 of the change requests).
+slot values, settings and their numbers by slips 6 to 8 of the change requests).
 
 No factors are used but for which rows and columns are pivots. A matrix is a
 list of full rows.
@@ -12,14 +12,20 @@ list of full rows.
     silent       all settings that have no effect on any slot
     free_settings   those of them that slip 7 asks for
     combined     how many combinations of settings give each setting
-    values       the values y.s over the settings s that give certain slots
+    MOST_SETTINGS   of a plan, so that all of them are soon tried
+    settings_by_slots   all settings, in a group for each list of slots that some of them give
+    value_counts    for each group by how many of its settings each value y.s is taken
+    values       for each group the values y.s
 """
 
 from collections import Counter
 from itertools import combinations as subsets
 from itertools import product
+from operator import mul
 
 from .storage import row
+
+MOST_SETTINGS = 4_096
 
 
 def full_rows(plan):
@@ -121,11 +127,25 @@ def _zero_off(cells, places):
     return all(not value or place in places for place, value in enumerate(cells))
 
 
+def settings_by_slots(plan):
+    """There is always a group: the setting of zeros gives some slots. Without words it
+    is the only setting."""
+    rows = full_rows(plan)
+    groups = {}
+    for s in combinations(plan.p, plan.m):
+        groups.setdefault(times_setting(rows, s, plan.p), []).append(s)
+    return groups
+
+
+def value_counts(p, groups, y):
+    """A value that no setting of the group gives is not counted."""
+    return {
+        slots: Counter(sum(map(mul, y, s)) % p for s in settings)
+        for slots, settings in groups.items()
+    }
+
+
 def values(plan, y):
     """For each list of slots that some setting gives, the set of values y.s."""
-    rows = full_rows(plan)
-    found = {}
-    for s in combinations(plan.p, plan.m):
-        slots = times_setting(rows, s, plan.p)
-        found.setdefault(slots, set()).add(sum(a * b for a, b in zip(y, s)) % plan.p)
-    return found
+    counted = value_counts(plan.p, settings_by_slots(plan), y)
+    return {slots: set(counts) for slots, counts in counted.items()}
