@@ -1,9 +1,9 @@
 """What the programs that time print, as numbers.
 
     output        what a command prints
-    stage_times   factoring and the whole report within one process
-    words_time    the words from slot values within one process
-    call_times    the C calls within one process
+    tool_time     what one program times within one process: factoring, the
+                  whole report, or the words from slot values
+    call_times    the C calls that make and check a certificate
 """
 
 import subprocess
@@ -18,19 +18,10 @@ def output(command, file=None):
     return done.stdout.decode()
 
 
-def stage_times(program, runs, file):
-    """The rank and the seconds of each, by `stages` on a plan text."""
-    found, factoring, reported, whole = output([program, runs, file]).split()
-    return {
-        "factoring": (int(found), float(factoring)),
-        "in process": (int(reported), float(whole)),
-    }
-
-
-def words_time(program, runs, file):
-    """The rank and the seconds, by `words` on a plan text."""
+def tool_time(tool, program, runs, file):
+    """The rank and the seconds, by a tool's program on a plan text."""
     rank, seconds = output([program, runs, file]).split()
-    return {"words": (int(rank), float(seconds))}
+    return {tool: (int(rank), float(seconds))}
 
 
 def call_times(program, runs, file):

@@ -9,23 +9,44 @@
 
 #include "plq.h"
 
-/* A text may have 65,536 bytes; one more is read, so that a longer one is noticed. */
-enum { LARGEST_TEXT = 65536 };
-
-static uint8_t text[LARGEST_TEXT + 1];
 static uint8_t made[PLQ_LARGEST_CERTIFICATE];
-static uint8_t back[PLQ_LARGEST_CERTIFICATE];
 
-static size_t load(const char *path, uint8_t *into, size_t room)
+static void stop(const char *path)
 {
+    perror(path);
+    exit(2);
+}
+
+/* All bytes of a file, however many: a text that is too long is refused by the call. */
+static uint8_t *load(const char *path, size_t *length)
+{
+    uint8_t *bytes = NULL;
+    size_t room = 0, count;
     FILE *file = fopen(path, "rb");
-    if (!file) {
-        perror(path);
-        exit(2);
-    }
-    size_t length = fread(into, 1, room, file);
+    if (!file)
+        stop(path);
+    *length = 0;
+    do {
+        if (*length == room) {
+            room = 2 * room + 65536;
+            bytes = realloc(bytes, room);
+            if (!bytes)
+                stop(path);
+        }
+        count = fread(bytes + *length, 1, room - *length, file);
+        *length += count;
+    } while (count != 0);
+    if (ferror(file))
+        stop(path);
     fclose(file);
-    return length;
+    return bytes;
+}
+
+static void store(const char *path, const uint8_t *bytes, size_t length)
+{
+    FILE *file = fopen(path, "wb");
+    if (!file || fwrite(bytes, 1, length, file) != length || fclose(file) != 0)
+        stop(path);
 }
 
 static int refused(const char *what, uint64_t result)
@@ -40,18 +61,16 @@ int main(int count, char **arguments)
         fprintf(stderr, "usage: %s PLAN CERTIFICATE\n", arguments[0]);
         return 2;
     }
-    size_t text_length = load(arguments[1], text, sizeof text);
+    size_t text_length, length;
+    uint8_t *text = load(arguments[1], &text_length);
     uint64_t result = plq_make_certificate(text, text_length, made, sizeof made);
     if (result != 0)
         return refused("making", result);
-    size_t length = (size_t)plq_certificate_length(made);
-    FILE *file = fopen(arguments[2], "wb");
-    if (!file || fwrite(made, 1, length, file) != length || fclose(file) != 0) {
-        perror(arguments[2]);
-        return 2;
-    }
-    size_t read = load(arguments[2], back, sizeof back);
-    result = plq_check_certificate(text, text_length, back, read);
+    store(arguments[2], made, (size_t)plq_certificate_length(made));
+    uint8_t *back = load(arguments[2], &length);
+    result = plq_check_certificate(text, text_length, back, length);
+    free(text);
+    free(back);
     if (result != 0)
         return refused("checking", result);
     printf("certificate of %zu bytes written, read back and passed\n", length);

@@ -9,18 +9,33 @@
 
 #include "plq.h"
 
-/* A text may have 65,536 bytes; one more is read, so that a longer one is noticed. A certificate may have as many as its lists need. */
-enum { LARGEST_TEXT = 65536, ROOM = 1 << 24 };
-
-static uint8_t *load(const char *path, size_t room, size_t *length)
+static void stop(const char *path)
 {
+    perror(path);
+    exit(2);
+}
+
+/* All bytes of a file, however many: a certificate that somebody else made may have 33,603,621. */
+static uint8_t *load(const char *path, size_t *length)
+{
+    uint8_t *bytes = NULL;
+    size_t room = 0, count;
     FILE *file = fopen(path, "rb");
-    uint8_t *bytes = malloc(room);
-    if (!file || !bytes) {
-        perror(path);
-        exit(2);
-    }
-    *length = fread(bytes, 1, room, file);
+    if (!file)
+        stop(path);
+    *length = 0;
+    do {
+        if (*length == room) {
+            room = 2 * room + 65536;
+            bytes = realloc(bytes, room);
+            if (!bytes)
+                stop(path);
+        }
+        count = fread(bytes + *length, 1, room - *length, file);
+        *length += count;
+    } while (count != 0);
+    if (ferror(file))
+        stop(path);
     fclose(file);
     return bytes;
 }
@@ -32,8 +47,8 @@ int main(int count, char **arguments)
         return 2;
     }
     size_t text_length, certificate_length;
-    uint8_t *text = load(arguments[1], LARGEST_TEXT + 1, &text_length);
-    uint8_t *certificate = load(arguments[2], ROOM, &certificate_length);
+    uint8_t *text = load(arguments[1], &text_length);
+    uint8_t *certificate = load(arguments[2], &certificate_length);
     uint64_t result = plq_check_certificate(text, text_length, certificate, certificate_length);
     free(text);
     free(certificate);

@@ -1,6 +1,6 @@
-/* What the benchmark times within one process: three calls that serve measuring alone.
+/* What the benchmark times within one process beside the calls of plq.h: two calls that serve measuring alone.
  *
- * Link with target/staticlib/libbench_calls.a, which `rt staticlib bench_calls` writes, and not with libplq.a too: both hold the same functions.
+ * Link with target/staticlib/libbench_calls.a, which `rt staticlib bench_calls` writes; libplq.a may be linked to the same program.
  *
  * A call needs about 680 KiB of stack, whatever the plan, and no other memory; the library keeps nothing between calls.
  */
@@ -20,18 +20,12 @@ extern "C" {
  *   leaves   nothing: the text is only read */
 uint64_t plq_time_factoring(const uint8_t *text, size_t text_length);
 
-/* The bytes that hold any report, and any line of words. */
-#define PLQ_REPORT_ROOM 65536
-
-/* Writes the report of a text: what the report program prints for it, refusals too.
- *   takes    a text, and a buffer of any length and content
- *   gives    the length of the report, which stands in the buffer; 0 for a buffer of fewer than PLQ_REPORT_ROOM bytes
- *   leaves   the buffer zero past the report; the text is only read */
-uint64_t plq_time_report(const uint8_t *text, size_t text_length, uint8_t *out, size_t out_length);
+/* The bytes that hold any line of words. */
+#define PLQ_WORDS_ROOM 65536
 
 /* Writes the line of the words that give slot values: what the question program prints for a text with the verb `words`, refusals too.
  *   takes    a text, slot values of any number, and a buffer of any length and content
- *   gives    the length of the line, which stands in the buffer; 0 for a buffer of fewer than PLQ_REPORT_ROOM bytes, or for more than 2,049 values
+ *   gives    the length of the line, which stands in the buffer; 0 for a buffer of fewer than PLQ_WORDS_ROOM bytes, or for more than 2,049 values
  *   leaves   the buffer zero past the line; the text and the values are only read */
 uint64_t plq_time_words(const uint8_t *text, size_t text_length, const uint32_t *values, size_t values_length, uint8_t *out, size_t out_length);
 

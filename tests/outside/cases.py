@@ -10,8 +10,8 @@ import json
 from pathlib import Path
 from typing import NamedTuple
 
+from model import calls
 from model.ask import ask, ask_by_text, ask_settings, ask_words, ask_words_by_text
-from model.calls import check_certificate, make_certificate
 from model.report import report
 
 KEPT = Path(__file__).parent / "kept"
@@ -20,21 +20,23 @@ VALUES_TAKEN = {"ask": (ask, ask_by_text), "words": (ask_words, ask_words_by_tex
 
 
 class Case(NamedTuple):
-    """`call` is report, ask, words, settings, make or check; the other fields as it needs
-    them. For words the question is slot values. One that is not given as arguments
-    may follow the plan in `text`."""
+    """`call` is report, ask, words or settings by a program, or make, check, plq_report or
+    plq_answer in C; the other fields as it needs them. For words the question is slot
+    values. One that is not given as arguments may follow the plan in `text`."""
 
     call: str
     text: bytes
     question: tuple = ()
     certificate: bytes = b""
     buffer_length: int = 0
+    x_length: int = 0
+    z_length: int = 0
     origin: str = "by hand"
 
 
 def expected(case):
-    """What is printed; for a C call the number returned and the certificate
-    bytes as the call leaves them."""
+    """What is printed; for a C call the number returned and what is lent, as the
+    call leaves it."""
     if case.call == "report":
         return report(case.text)
     if case.call == "settings":
@@ -42,9 +44,18 @@ def expected(case):
     if case.call in VALUES_TAKEN:
         by_arguments, by_text = VALUES_TAKEN[case.call]
         return by_arguments(case.text, case.question) if case.question else by_text(case.text)
+    return _called(case)
+
+
+def _called(case):
     if case.call == "make":
-        return make_certificate(case.text, case.buffer_length)
-    return check_certificate(case.text, case.certificate), case.certificate
+        return calls.make_certificate(case.text, case.buffer_length)
+    if case.call == "check":
+        return calls.check_certificate(case.text, case.certificate), b""
+    if case.call == "plq_report":
+        return calls.report(case.text, case.buffer_length)
+    lent = (case.x_length, case.z_length)
+    return calls.answer(case.text, case.certificate, case.question, *lent)
 
 
 def keep(case, folder=KEPT):
@@ -56,6 +67,8 @@ def keep(case, folder=KEPT):
             "question": list(case.question),
             "certificate": case.certificate.hex(),
             "buffer_length": case.buffer_length,
+            "x_length": case.x_length,
+            "z_length": case.z_length,
             "origin": case.origin,
         },
         indent=1,
@@ -75,6 +88,8 @@ def load(path):
         tuple(content["question"]),
         bytes.fromhex(content["certificate"]),
         content["buffer_length"],
+        content.get("x_length", 0),
+        content.get("z_length", 0),
         content["origin"],
     )
 

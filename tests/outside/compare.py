@@ -3,9 +3,11 @@
     plan_cases       all cases of one random plan
     tiny_cases       every question, all slot values and the settings on one tiny plan
     asked_cases      questions that follow a plan and its owners
+    cut_cases        texts that are cut off after each of their bytes
     words_cases      the worked slot values
     settings_cases   the worked settings
-    fixed_cases      worked cases, limits, sweeps and damages of plan D
+    fixed_cases      worked cases, limits, sweeps and damages of plan D; those of the C calls that
+                     report and answer stand in answers.py
     differences      the cases on which a program and the model differ
 """
 
@@ -13,11 +15,20 @@ from itertools import islice, product
 from random import Random
 from typing import Any, NamedTuple
 
+from answers import (
+    answer_cases,
+    fixed_answer_cases,
+    limit_cases,
+    report_cases,
+    tiny_answer_cases,
+)
 from cases import Case, expected
 from generate.certificates import (
+    SMALL,
     broken_certificates,
     bytes_changed,
     foreign_certificates,
+    is_small,
     resized,
     words_replaced,
 )
@@ -44,6 +55,7 @@ from sweeps import EMPTY, buffer_cases, modulus_cases
 from worked import (
     AFTER_D,
     ASKED,
+    CUT,
     EARLIER_D,
     EDITED,
     FACTORED,
@@ -60,7 +72,6 @@ from worked import (
     WORDS_ASKED,
 )
 
-SMALL = 1_500  # cells of a plan up to which its sets are varied at length
 SAMPLE = 24  # bytes or numbers changed in one certificate
 FEW = 6  # bytes changed where there are many entries to multiply
 MODULI = 66_101  # every number below it is put as a modulus
@@ -129,7 +140,7 @@ def _certificates(rng, plan, factors):
     own = write(plan, factors)
     yield from resized(rng, own)
     yield from bytes_changed(rng, own, SAMPLE if len(plan.rows.columns) <= SMALL else FEW)
-    if plan.n * plan.m > SMALL:
+    if not is_small(plan):
         yield own
         return
     yield from foreign_certificates(rng, plan, factors, 2)
@@ -160,21 +171,25 @@ def plan_cases(seed, index):
     yield from _call_cases(rng, plan, text, origin)
     yield from _words_cases(rng, plan, text, origin)
     yield from _settings_cases(rng, text, origin)
+    yield from report_cases(rng, text, origin)
+    yield from answer_cases(rng, plan, text, origin)
 
 
 def tiny_cases(seed, index, most):
-    """Up to `most` questions on a tiny plan, spread over all of them, as many slot
-    values, and its settings."""
+    """Up to `most` questions on a tiny plan, spread over all of them, by the program and by
+    the C call, as many slot values, and its settings."""
     rng = Random(f"tiny {seed} {index}")
     origin = f"seed {seed} tiny {index}"
     plan = tiny_plan(rng)
     text = varied_text(rng, plan)
-    questions = list(product(range(plan.p), repeat=plan.m))
-    for y in rng.sample(questions, min(most, len(questions))):
+    every = list(product(range(plan.p), repeat=plan.m))
+    questions = rng.sample(every, min(most, len(every)))
+    for y in questions:
         yield Case("ask", text, question=y, origin=origin)
     for h in every_slots(rng, plan, most):
         yield Case("words", text, question=h, origin=origin)
     yield Case("settings", text, origin=origin)
+    yield from tiny_answer_cases(rng, plan, text, questions, origin)
 
 
 def _plan_d_cases():
@@ -190,6 +205,7 @@ def _plan_d_cases():
         for certificate in (own, write(plan, EARLIER_D)):
             yield Case("check", text, certificate=certificate, origin="plan D")
     yield from asked_cases()
+    yield from cut_cases()
     yield from words_cases()
     yield from settings_cases()
     for which, place, value, _ in EDITED:
@@ -208,6 +224,14 @@ def asked_cases():
         yield Case("ask", text, origin="question by text")
     for after, _ in AFTER_D:
         yield Case("ask", PLAN_D + after + b"0 0 0 0 1\n", origin="question by text")
+
+
+def cut_cases():
+    """By every verb, and by the report."""
+    for text in CUT:
+        for end in range(len(text) + 1):
+            for call in ("report", "ask", "words", "settings"):
+                yield Case(call, text[:end], origin=f"cut off after {end} bytes")
 
 
 def words_cases():
@@ -252,7 +276,7 @@ def _words_edge_cases(rng):
         plan = build(rng, dense, p, n, m)
         yield from _words_cases(rng, plan, varied_text(rng, plan), f"words {p} {n} {m}")
     (plan, h), (other, values) = longest_lines(rng)
-    after = b" ".join(b"%d" % value for value in values)
+    after = b" ".join(b"%d" % value for value in values) + b"\n"
     yield Case("words", plain_text(plan), question=h, origin="longest line")
     yield Case("words", plain_text(other) + after, origin="longest line by text")
     plan = lower_edge(65_521, GREATEST_ENTRIES + 1)
@@ -304,6 +328,7 @@ def fixed_cases(seed):
         yield Case("report", text, origin="worked or limit")
         yield Case("make", text, buffer_length=ANY_CERTIFICATE, origin="worked or limit")
         yield Case("check", text, certificate=b"", origin="worked or limit")
+        yield from limit_cases(text)
     yield from _plan_d_cases()
     yield from _large_modulus_cases()
     yield from _large_set_cases()
@@ -313,6 +338,7 @@ def fixed_cases(seed):
         yield from buffer_cases(text, f"buffers {p} {n} {m}")
     yield from _words_edge_cases(rng)
     yield from _settings_edge_cases(rng)
+    yield from fixed_answer_cases(seed)
     yield from modulus_cases(range(MODULI))
 
 

@@ -3,6 +3,7 @@ prints and the verdicts of the question program (slip 8 of the change requests).
 part in what is counted.
 
     has_even_groups, has_even_values, has_one_value   the three sentences
+    bears_out        the second or the third, by the verdict
     worked_odds      the plans that are worked, with their questions
     fixed_odds       the same plans with more questions
     random_odds      a random tiny plan with its questions
@@ -47,11 +48,19 @@ def has_one_value(plan, groups, y):
     return all(len(counts) == 1 for counts in value_counts(plan.p, groups, y).values())
 
 
+def bears_out(plan, groups, rank, verdict, y):
+    """Of a verdict that is none, no."""
+    if verdict == "open":
+        return has_one_value(plan, groups, y)
+    return verdict == "closed" and has_even_values(plan, groups, rank, y)
+
+
 def worked_odds():
-    return [
-        Odds(read_plan(text, GREATEST_ENTRIES), text, tuple(y for y, _, _ in asked), f"odds: {name}")
-        for name, (text, _, _, *asked) in ODDS.items()
-    ]
+    found = []
+    for name, (text, _, _, *asked) in ODDS.items():
+        plan, questions = read_plan(text, GREATEST_ENTRIES), tuple(y for y, _, _ in asked)
+        found.append(Odds(plan, text, questions, f"odds: {name}"))
+    return found
 
 
 def fixed_odds(seed):
@@ -106,15 +115,8 @@ def odds_differences(several, lines):
             continue
         for y in odds.questions:
             line = lines[_ask_case(odds, y)]
-            if not _is_borne_out(odds.plan, groups, rank, y, line):
+            if not bears_out(odds.plan, groups, rank, _verdict(line), y):
                 yield _ask_difference(odds, groups, rank, y, line)
-
-
-def _is_borne_out(plan, groups, rank, y, line):
-    verdict = _verdict(line)
-    if verdict == "open":
-        return has_one_value(plan, groups, y)
-    return verdict == "closed" and has_even_values(plan, groups, rank, y)
 
 
 def _report_difference(odds, groups, rank, report):

@@ -1,7 +1,10 @@
 """The programs under test, each with the calls that it answers.
 
     Report, Ask  programs that read a plan text on standard input
-    Calls        the driver of the two C calls, many cases in one process
+    Calls        the driver of the C calls, many cases in one process
+    PROTOCOL     the C calls as the driver knows them
+    parts        what a request hands to one of them
+    cells, numbers   numbers of 32 bits as bytes, and back
     compile_driver   the driver for a static library and its header
     Crash        what stands for the result where a program did not end well
 """
@@ -13,8 +16,18 @@ from pathlib import Path
 from typing import NamedTuple, Optional
 
 FILLER = b"\xa5"
-REQUEST = struct.Struct("<cII")
+# The letter of each call, and one for each of its parts: bytes or cells of 32 bits, in capitals
+# where they are lent for writing.
+PROTOCOL = {
+    "make": (b"M", "bB"),
+    "check": (b"C", "bb"),
+    "plq_report": (b"R", "bB"),
+    "plq_answer": (b"A", "bbcCCB"),
+}
+CELL = {"b": 1, "c": 4}
 RESPONSE = struct.Struct("<QB")
+KEPT = 1
+FAULTS = {0: "memory that was not lent changed", 2: "otherwise with NULL for what is empty"}
 BATCH = 200
 PATIENCE = 120
 
@@ -85,7 +98,7 @@ class Ask(Program):
 class Calls:
     """Speaks the protocol of driver.c."""
 
-    calls = ("make", "check")
+    calls = tuple(PROTOCOL)
 
     def __init__(self, command):
         self.command = command
@@ -106,25 +119,53 @@ class Calls:
             waiting = waiting[len(results) :]
 
 
-def _lent(case):
-    return FILLER * case.buffer_length if case.call == "make" else case.certificate
+def cells(values):
+    return struct.pack(f"<{len(values)}I", *values)
+
+
+def numbers(content):
+    return struct.unpack(f"<{len(content) // CELL['c']}I", content)
+
+
+def parts(case):
+    """What is lent for writing is full of other bytes."""
+    if case.call == "check":
+        return [case.text, case.certificate]
+    if case.call != "plq_answer":
+        return [case.text, FILLER * case.buffer_length]
+    lent = (CELL["c"] * case.x_length, CELL["c"] * case.z_length, 1)
+    return [case.text, case.certificate, cells(case.question), *(FILLER * size for size in lent)]
 
 
 def _request(case):
-    lent = _lent(case)
-    call = b"M" if case.call == "make" else b"C"
-    return REQUEST.pack(call, len(case.text), len(lent)) + case.text + lent
+    letter, kinds = PROTOCOL[case.call]
+    contents = parts(case)
+    lengths = [len(content) // CELL[kind.lower()] for kind, content in zip(kinds, contents)]
+    return letter + cells(lengths) + b"".join(contents)
 
 
 def _responses(batch, output):
     place = 0
     for case in batch:
-        start, end = place + RESPONSE.size, place + RESPONSE.size + len(_lent(case))
+        _, kinds = PROTOCOL[case.call]
+        sizes = [len(content) for kind, content in zip(kinds, parts(case)) if kind.isupper()]
+        end = place + RESPONSE.size + sum(sizes)
         if end > len(output):
             return
         number, kept = RESPONSE.unpack_from(output, place)
-        yield (number, output[start:end]) if kept else Crash("memory that was not lent changed")
+        left = output[place + RESPONSE.size : end]
+        yield _result(case, number, kept, left)
         place = end
+
+
+def _result(case, number, kept, left):
+    """As the model has it: the number with the bytes lent, or all that an answer is."""
+    if kept != KEPT:
+        return Crash(FAULTS.get(kept, "the driver itself changed"))
+    if case.call != "plq_answer":
+        return number, left
+    end = CELL["c"] * case.x_length
+    return number, left[-1], numbers(left[:end]), numbers(left[end:-1])
 
 
 def compile_driver(library, header_folder, target):

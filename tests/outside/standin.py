@@ -5,7 +5,8 @@
 The wrong ones show that the comparison would notice: a test that cannot fail
 tells nothing.
 
-    DEFECTS      by name, a function that spoils the model
+    DEFECTS      by name, a function that spoils the model; those of the C calls that report
+                 and answer stand in wrong_calls.py
 """
 
 import sys
@@ -36,11 +37,12 @@ from model.refusals import Refusal
 from model.slots import SlotSolution, contradictions, setting, slots_from_factors, solve_slots
 from model.storage import row, store
 from model.sums import mixed
-from programs import REQUEST, RESPONSE
+from programs import CELL, KEPT, PROTOCOL, RESPONSE, cells, numbers
+from wrong_calls import WRONG_CALLS
 
 
 def _spoil_factoring(function):
-    report.factor = calls.factor = function
+    report.factor = function
 
 
 def _spoil_reading(function):
@@ -663,6 +665,22 @@ def owners_asked():
     ask.plan_end = lambda text: len(b"".join(text.partition(b"\n0 0 0\n")[:2]))
 
 
+def takes_cut_values():
+    """The last value is taken without its line feed, as before."""
+    right = ask._by_text
+
+    def wrong(text, by_values):
+        is_cut = not text.endswith(b"\n") and ask.plan_end(text) < len(text)
+        return right(text + b"\n" if is_cut else text, by_values)
+
+    ask._by_text = wrong
+
+
+def cut_values_before_the_plan():
+    """That they are cut off is told before what the plan is refused by."""
+    ask._reading_refusal = lambda text: None
+
+
 def leaves_refused_output():
     """A refusal leaves the lent buffer as it was."""
     true_make = calls.make_certificate
@@ -734,21 +752,35 @@ DEFECTS = {
         rest_before_large_owners,
         owners_past_the_limit,
         owners_asked,
+        takes_cut_values,
+        cut_values_before_the_plan,
         leaves_refused_output,
     )
-}
+} | WRONG_CALLS
 
 
 def _answer_calls(source, sink):
     """The protocol of driver.c."""
-    while opening := source.read(REQUEST.size):
-        call, text_length, length = REQUEST.unpack(opening)
-        text, lent = source.read(text_length), source.read(length)
-        if call == b"M":
-            number, lent = calls.make_certificate(text, length)
-        else:
-            number = calls.check_certificate(text, lent)
-        sink.write(RESPONSE.pack(number, 1) + lent)
+    calls_by_letter = {letter: (call, kinds) for call, (letter, kinds) in PROTOCOL.items()}
+    while letter := source.read(1):
+        call, kinds = calls_by_letter[letter]
+        lengths = numbers(source.read(CELL["c"] * len(kinds)))
+        parts = [source.read(CELL[kind.lower()] * n) for kind, n in zip(kinds, lengths)]
+        number, left = _called(call, *parts)
+        sink.write(RESPONSE.pack(number, KEPT) + left)
+
+
+def _called(call, text, second, *rest):
+    """The number returned, and what is lent for writing as bytes."""
+    if call == "make":
+        return calls.make_certificate(text, len(second))
+    if call == "check":
+        return calls.check_certificate(text, second), b""
+    if call == "plq_report":
+        return calls.report(text, len(second))
+    y, x, z = map(numbers, rest[:-1])
+    number, verdict, x, z = calls.answer(text, second, y, len(x), len(z))
+    return number, cells(x) + cells(z) + bytes([verdict])
 
 
 def _answer_asked(text, words):

@@ -9,6 +9,14 @@ from itertools import chain, islice
 from pathlib import Path
 from random import Random
 
+from answers import (
+    answer_cases,
+    limit_cases,
+    no_room_cases,
+    report_buffer_cases,
+    report_cases,
+    worked_answer_cases,
+)
 from cases import Case, expected, keep, load
 from compare import (
     ANY_CERTIFICATE,
@@ -27,7 +35,7 @@ from model.limits import GREATEST_TEXT
 from model.refusals import REPEATED
 from odds import odds_differences, odds_lines, worked_odds
 from programs import FILLER, Ask, Calls, Crash, Report, compile_driver
-from samples import PLAN
+from samples import PLAN, small_plans
 from standin import DEFECTS
 from sums import found_lines, law_differences, model_differences, random_sums, worked_sums
 from sweeps import EMPTY, modulus_cases
@@ -44,25 +52,38 @@ from worked import (
 )
 
 HERE = Path(__file__).parent
-STUB_HEADER = """
-#include <stddef.h>
-#include <stdint.h>
-#define PLQ_MAKES_CERTIFICATES
-uint64_t plq_make_certificate(const uint8_t *, size_t, uint8_t *, size_t);
-uint64_t plq_check_certificate(const uint8_t *, size_t, const uint8_t *, size_t);
-"""
-# Makes nothing of the buffer's content and leaves its length there; refuses
-# texts that open with x, and steps outside its buffer where they open with y.
+HEADER = HERE.parents[1] / "include"
+# Makes nothing of what it is lent, and leaves lengths there; refuses texts that open with x,
+# steps outside of what it is lent where they open with y, and changes what it may only read
+# where they open with w. Where they open with v it takes NULL for something else.
 STUB_SOURCE = """
 #include "plq.h"
+static int opens(const uint8_t *text, size_t n, char with) { return n && text[0] == with; }
 uint64_t plq_make_certificate(const uint8_t *text, size_t n, uint8_t *c, size_t m) {
     for (size_t i = 0; i < m; i++) c[i] = (uint8_t)m;
-    if (n && text[0] == 'y') c[m] = 0;
-    return n && text[0] == 'x' ? 3 + 256 * 70000 : 0;
+    if (opens(text, n, 'y')) c[m] = 0;
+    return opens(text, n, 'x') ? 3 + 256 * 70000 : 0;
 }
 uint64_t plq_check_certificate(const uint8_t *text, size_t n, const uint8_t *c, size_t m) {
-    if (n && text[0] == 'z') __builtin_trap();
+    if (opens(text, n, 'z')) __builtin_trap();
+    if (opens(text, n, 'w')) ((uint8_t *)c)[m - 1] ^= 1;
     return n + m + (m ? c[0] : 0) + (n ? text[n - 1] : 0);
+}
+uint64_t plq_report(const uint8_t *text, size_t n, uint8_t *b, size_t m) {
+    if (m) b[m - 1] = (uint8_t)m;
+    if (opens(text, n, 'y')) b[-1] = 0;
+    return opens(text, n, 'x') ? 9 : opens(text, n, 'v') && !b;
+}
+uint64_t plq_answer(const uint8_t *text, size_t n, const uint8_t *c, size_t m,
+                    const uint32_t *y, size_t k, uint32_t *x, size_t a, uint32_t *z, size_t b,
+                    uint8_t *verdict) {
+    if (opens(text, n, 'w')) ((uint32_t *)y)[k - 1] += 1;
+    if (opens(text, n, 'y')) z[b] = 0;
+    if (opens(text, n, 'v') && !y) x[0] = 1;
+    if (a) x[a - 1] = k ? y[k - 1] : 7;
+    if (b) z[0] = (uint32_t)(m ? c[m - 1] : 8);
+    if (!opens(text, n, 'x')) *verdict = (uint8_t)(a + b);
+    return ((uintptr_t)x | (uintptr_t)z | (uintptr_t)y) % 4;
 }
 """
 
@@ -73,18 +94,38 @@ class Settings(Ask):
     calls = ("settings",)
 
 
-KINDS = {"report": Report, "ask": Ask, "settings": Settings, "calls": Calls}
+class ReportCall(Calls):
+    """The C call that reports alone."""
+
+    calls = ("plq_report",)
+
+
+class AnswerCall(Calls):
+    """The C call that answers alone."""
+
+    calls = ("plq_answer",)
+
+
+# By name the programs, and of which stand-in they are.
+KINDS = {
+    "report": (Report, "report"),
+    "ask": (Ask, "ask"),
+    "settings": (Settings, "ask"),
+    "calls": (Calls, "calls"),
+    "plq_report": (ReportCall, "calls"),
+    "plq_answer": (AnswerCall, "calls"),
+}
 
 
 def standin(program, *defect):
-    name = "ask" if program == "settings" else program
-    return KINDS[program]([sys.executable, str(HERE / "standin.py"), name, *defect])
+    kind, name = KINDS[program]
+    return kind([sys.executable, str(HERE / "standin.py"), name, *defect])
 
 
 # The programs that must show each defect.
 SHOWN_BY = {
     "passes_all": ("calls",),
-    "passes_own_bytes_only": ("calls",),
+    "passes_own_bytes_only": ("calls", "plq_answer"),
     "compares_stored_entries_only": ("calls",),
     "structural_pivots_only": ("calls", "report", "ask"),
     "stored_rows_left_out": ("calls", "report"),
@@ -96,7 +137,7 @@ SHOWN_BY = {
     "sees_cycles_of_two_only": ("calls", "report"),
     "no_storage": ("calls", "report", "ask"),
     "storage_one_too_short": ("calls", "report"),
-    "closed_always": ("report", "ask"),
+    "closed_always": ("report", "ask", "plq_answer"),
     "same_x_always": ("report", "ask"),
     "words_one_by_one": ("ask",),
     "answers_from_two_sets": ("ask",),
@@ -132,7 +173,7 @@ SHOWN_BY = {
     "names_the_earlier_line": ("calls", "report"),
     "repeats_a_zero": ("calls", "report"),
     "unstated_owners_are_pads": ("report",),
-    "first_owner_always": ("report",),
+    "first_owner_always": ("report", "plq_report"),
     "open_pads_left_out": ("report",),
     "pads_left_out_of_the_plan": ("calls", "report", "ask"),
     "owners_modulo_256": ("calls", "report", "ask"),
@@ -140,7 +181,33 @@ SHOWN_BY = {
     "rest_before_large_owners": ("calls", "report"),
     "owners_past_the_limit": ("calls", "report"),
     "owners_asked": ("ask",),
+    "takes_cut_values": ("ask",),
+    "cut_values_before_the_plan": ("ask",),
     "leaves_refused_output": ("calls",),
+    "verdict_exchanged": ("plq_answer",),
+    "verdict_left_on_a_refusal": ("plq_answer",),
+    "x_left_on_a_refusal": ("plq_answer",),
+    "z_left_where_open": ("plq_answer",),
+    "own_factors_always": ("plq_answer",),
+    "factors_beside_a_certificate": ("plq_answer",),
+    "no_certificate_is_a_wrong_one": ("plq_answer",),
+    "certificate_not_checked": ("plq_answer",),
+    "lengths_before_reading": ("plq_answer",),
+    "lengths_before_factoring": ("plq_answer",),
+    "lengths_after_the_certificate": ("plq_answer",),
+    "values_before_the_certificate": ("plq_answer",),
+    "values_from_one": ("plq_answer",),
+    "last_large_value": ("plq_answer",),
+    "p_is_a_residue": ("plq_answer",),
+    "x_of_any_length": ("plq_answer",),
+    "z_of_any_length": ("plq_answer",),
+    "first_in_column_order": ("plq_answer",),
+    "rows_from_one": ("plq_report", "plq_answer"),
+    "report_not_padded": ("plq_report",),
+    "exact_buffer_refused": ("plq_report",),
+    "report_cut": ("plq_report",),
+    "refusal_in_the_buffer": ("plq_report",),
+    "buffer_before_reading": ("plq_report",),
 }
 
 
@@ -199,6 +266,24 @@ def given_cases():
     yield from chain.from_iterable(plan_cases("noticed", index) for index in range(25))
 
 
+CALLED = ("plq_report", "plq_answer")
+
+
+def called_cases():
+    """For the C calls that report and answer: plan D, small plans, damaged texts, buffers,
+    and one plan without room, in any order."""
+    rng = Random("called")
+    cases = rng.sample(list(worked_answer_cases(rng)), 40)
+    for random, plan in small_plans("called", 20):
+        text = varied_text(random, plan)
+        cases += [*answer_cases(random, plan, text, "called")]
+        cases += [*report_cases(random, text, "called")]
+    cases += chain.from_iterable(limit_cases(text) for text, _ in REFUSALS[::20])
+    cases += islice(report_buffer_cases(), 16)
+    cases += islice(no_room_cases(rng), 18)
+    return rng.sample(cases, len(cases))
+
+
 def notices(cases, program):
     """Whether a difference is found, by few cases at a time: most are found by
     the first."""
@@ -214,11 +299,17 @@ class Notices(unittest.TestCase):
 
     def test_every_defect_is_noticed(self):
         self.assertEqual(set(SHOWN_BY), set(DEFECTS))
-        cases = list(given_cases())
+        given = [case for case in given_cases() if case.call not in CALLED]
+        called = called_cases()
         for defect, programs in SHOWN_BY.items():
             for program in programs:
+                cases = called if program in CALLED else given
                 with self.subTest(defect=defect, program=program):
                     self.assertTrue(notices(cases, standin(program, defect)))
+
+    def test_calls_show_no_difference_on_the_same_cases(self):
+        """So that what a wrong stand-in shows is its defect."""
+        self.assertEqual(list(differences(called_cases(), [standin("calls")])), [])
 
     def test_sums_show_what_does_not_add_up(self):
         """By the program's own answers, without the model's, on plan D and on two
@@ -264,15 +355,17 @@ class Notices(unittest.TestCase):
 
 
 class Reaches(unittest.TestCase):
-    """The cases reach every number that the programs can return."""
+    """The cases reach every number that the programs can return, and the calls but for
+    those of test_answers.py."""
 
     @classmethod
     def setUpClass(cls):
-        calls = (*Report.calls, *Ask.calls, *Calls.calls)
+        calls = (*Report.calls, *Ask.calls, "make", "check")
         cls.results = {call: [] for call in calls}
         cases = chain(fixed_cases("reach"), *(plan_cases("reach", i) for i in range(30)))
         for case in cases:
-            cls.results[case.call].append(expected(case))
+            if case.call in calls:
+                cls.results[case.call].append(expected(case))
 
     def test_numbers_of_the_calls(self):
         numbers = {number % 256 for number, _ in self.results["make"] + self.results["check"]}
@@ -312,16 +405,16 @@ class Files(unittest.TestCase):
 
 @unittest.skipUnless(shutil.which("cc"), "no C compiler")
 class Driver(unittest.TestCase):
-    """driver.c with a library of a few lines."""
+    """driver.c with the header and a library of a few lines."""
 
     @classmethod
     def setUpClass(cls):
         cls.folder = tempfile.TemporaryDirectory()
         place = Path(cls.folder.name)
-        (place / "plq.h").write_text(STUB_HEADER)
         (place / "stub.c").write_text(STUB_SOURCE)
-        subprocess.run(["cc", "-c", "stub.c", "-o", "stub.o"], cwd=place, check=True)
-        cls.driver = Calls(compile_driver(place / "stub.o", place, place))
+        compiler = ["cc", "-Wall", "-Wextra", "-Werror", "-I", HEADER]
+        subprocess.run([*compiler, "-c", "stub.c", "-o", "stub.o"], cwd=place, check=True)
+        cls.driver = Calls(compile_driver(place / "stub.o", HEADER, place))
 
     @classmethod
     def tearDownClass(cls):
@@ -330,24 +423,61 @@ class Driver(unittest.TestCase):
     def results(self, *cases):
         return list(self.driver.results(cases))
 
+    def assert_crash(self, case, word):
+        (found,) = self.results(case)
+        self.assertIsInstance(found, Crash)
+        self.assertIn(word, found.reason)
+
     def test_results_in_order(self):
         found = self.results(
             Case("make", b"ab", buffer_length=3),
             Case("make", b"x", buffer_length=0),
             Case("check", b"abc", certificate=b"\x10\x00"),
             Case("check", b"", certificate=b""),
+            Case("plq_report", b"ab", buffer_length=3),
+            Case("plq_report", b"x", buffer_length=0),
         )
         wanted = [
             (0, b"\3\3\3"),
             (3 + 256 * 70_000, b""),
-            (3 + 2 + 16 + ord("c"), b"\x10\x00"),
+            (3 + 2 + 16 + ord("c"), b""),
             (0, b""),
+            (0, FILLER * 2 + b"\3"),
+            (9, b""),
+        ]
+        self.assertEqual(found, wanted)
+
+    def test_answers(self):
+        """Every cell, the untouched ones as they were; cells of 32 bits at addresses that
+        suit them; empty parts."""
+        other = int.from_bytes(FILLER * 4, "little")
+        question = {"question": (1, 2**32 - 2), "certificate": b"\1\2"}
+        found = self.results(
+            Case("plq_answer", b"a", **question, x_length=3, z_length=2),
+            Case("plq_answer", b"x", **question, x_length=1, z_length=1),
+            Case("plq_answer", b"", x_length=2, z_length=1),
+            Case("plq_answer", b"a"),
+        )
+        wanted = [
+            (0, 5, (other, other, 2**32 - 2), (2, other)),
+            (0, FILLER[0], (2**32 - 2,), (2,)),
+            (0, 3, (other, 7), (8,)),
+            (0, 0, (), ()),
         ]
         self.assertEqual(found, wanted)
 
     def test_steps_outside_are_reported(self):
-        (found,) = self.results(Case("make", b"y", buffer_length=3))
-        self.assertIsInstance(found, Crash)
+        self.assert_crash(Case("make", b"y", buffer_length=3), "not lent")
+        self.assert_crash(Case("plq_report", b"y", buffer_length=3), "not lent")
+        self.assert_crash(Case("plq_answer", b"y", x_length=1, z_length=2), "not lent")
+
+    def test_changes_of_what_is_only_read_are_reported(self):
+        self.assert_crash(Case("check", b"w", certificate=b"ab"), "not lent")
+        self.assert_crash(Case("plq_answer", b"w", question=(1, 2)), "not lent")
+
+    def test_null_for_what_is_empty(self):
+        self.assert_crash(Case("plq_report", b"v"), "NULL")
+        self.assert_crash(Case("plq_answer", b"v", x_length=2, z_length=1), "NULL")
 
     def test_a_crash_costs_one_case(self):
         found = self.results(

@@ -13,12 +13,12 @@ from model import enumeration
 from model.certificate import parse, write
 from model.enumeration import MOST_SETTINGS, settings_by_slots, value_counts
 from model.plan_text import read_plan
-from model.questions import answer
+from model.questions import answer, open_words
 from odds import (
+    bears_out,
     fixed_odds,
     has_even_groups,
     has_even_values,
-    has_one_value,
     odds_differences,
     odds_lines,
     random_odds,
@@ -40,11 +40,12 @@ class Model:
         return map(expected, cases)
 
 
-def bears_out(plan, groups, rank, is_open, y):
-    """Whether the verdict and the rank tell how many settings give y each value."""
-    if is_open:
-        return has_one_value(plan, groups, y)
-    return has_even_values(plan, groups, rank, y)
+def verdict(plan, factors, y):
+    return "open" if answer(plan, factors, y).is_open else "closed"
+
+
+def other(verdict):
+    return "closed" if verdict == "open" else "open"
 
 
 def with_rank(report, change):
@@ -88,7 +89,7 @@ class Sentences(unittest.TestCase):
 
     def test_sets_of_any_maker(self):
         """As certificates: the rank, and the verdicts on questions of every sort."""
-        opened = closed = 0
+        counted = Counter()
         for rng, plan in sampled_plans("odds sets", 50):
             groups = settings_by_slots(plan)
             questions = all_questions(rng, plan)
@@ -96,11 +97,11 @@ class Sentences(unittest.TestCase):
                 held = parse(plan, write(plan, factors))
                 self.assertTrue(has_even_groups(plan, groups, held.r))
                 for y in questions:
-                    is_open = answer(plan, held, y).is_open
-                    self.assertTrue(bears_out(plan, groups, held.r, is_open, y), (plan, y))
-                    opened, closed = opened + is_open, closed + (not is_open)
-        self.assertGreater(opened, 500)
-        self.assertGreater(closed, 500)
+                    told = verdict(plan, held, y)
+                    self.assertTrue(bears_out(plan, groups, held.r, told, y), (plan, y))
+                    counted[told] += 1
+        self.assertGreater(counted["open"], 500)
+        self.assertGreater(counted["closed"], 500)
 
     def test_every_question(self):
         """On plans of at most a hundred settings, thus of at most as many questions."""
@@ -109,8 +110,8 @@ class Sentences(unittest.TestCase):
                 continue
             groups, factors = settings_by_slots(plan), factors_of(plan)
             for y in enumeration.combinations(plan.p, plan.m):
-                is_open = answer(plan, factors, y).is_open
-                self.assertTrue(bears_out(plan, groups, factors.r, is_open, y), (plan, y))
+                told = verdict(plan, factors, y)
+                self.assertTrue(bears_out(plan, groups, factors.r, told, y), (plan, y))
 
     def test_as_many_groups_as_the_rank_tells(self):
         """p to the power r; the rank is that of the rows, by trying everything."""
@@ -133,8 +134,8 @@ class Sentences(unittest.TestCase):
         for rng, plan in sampled_plans("odds wrong verdicts", 50):
             groups, factors = settings_by_slots(plan), factors_of(plan)
             for y in all_questions(rng, plan):
-                is_open = answer(plan, factors, y).is_open
-                self.assertFalse(bears_out(plan, groups, factors.r, not is_open, y), (plan, y))
+                told = other(verdict(plan, factors, y))
+                self.assertFalse(bears_out(plan, groups, factors.r, told, y), (plan, y))
 
     def test_one_setting_in_another_group_is_noticed(self):
         """Though the number of groups and of settings stays."""
@@ -163,8 +164,9 @@ class Named(unittest.TestCase):
             groups, factors = settings_by_slots(odds.plan), factors_of(odds.plan)
             self.assertTrue(has_even_groups(odds.plan, groups, factors.r), odds.origin)
             for y, values, _ in asked:
-                self.assertEqual(answer(odds.plan, factors, y).is_open, values == 1)
-                self.assertTrue(bears_out(odds.plan, groups, factors.r, values == 1, y))
+                told = verdict(odds.plan, factors, y)
+                self.assertEqual(told, "open" if values == 1 else "closed")
+                self.assertTrue(bears_out(odds.plan, groups, factors.r, told, y))
 
     def test_limit(self):
         """All but plan D are within it, and one reaches it."""
@@ -318,15 +320,16 @@ class Reaches(unittest.TestCase):
     def test_open_questions_of_closed_words(self):
         """Several words, none of them open."""
 
-        def is_sum(odds):
-            verdicts = self.verdicts(odds)
-            words = [tuple(int(i == j) for i in range(odds.plan.m)) for j in range(odds.plan.m)]
-            return any(
-                is_open and any(y) and not any(verdicts[words[j]] for j, value in enumerate(y) if value)
-                for y, is_open in verdicts.items()
-            )
+        def is_sum(odds, y):
+            opened = open_words(odds.plan, factors_of(odds.plan))
+            return any(y) and not any(y[j] for j in opened)
 
-        self.assertGreater(sum(map(is_sum, self.several)), 20)
+        found = [
+            odds
+            for odds in self.several
+            if any(is_open and is_sum(odds, y) for y, is_open in self.verdicts(odds).items())
+        ]
+        self.assertGreater(len(found), 20)
 
     def test_a_closed_question_unless_the_slots_fix_every_word(self):
         for odds in self.several:

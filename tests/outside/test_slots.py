@@ -236,8 +236,8 @@ class Refusals(unittest.TestCase):
         for rng, plan in plans_of_all_sorts("slots printed", 60):
             text = plain_text(plan)
             for h in several_slots(rng, plan):
-                after = " ".join(map(str, h)).encode() + rng.choice((b"", b"\n"))
-                after = after if h else b""
+                between = rng.choice((" ", "\n"))
+                after = between.join(map(str, h)).encode() + b"\n" if h else b""
                 self.assertEqual(ask_words_by_text(text + after), ask_words(text, h))
 
 

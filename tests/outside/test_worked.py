@@ -21,6 +21,7 @@ from samples import FACTORS, PLAN, factors_of
 from sweeps import AMPLE, modulus_cases, sieve
 from worked import (
     ASKED,
+    CUT,
     EARLIER_D,
     EDITED,
     FACTORED,
@@ -80,6 +81,18 @@ class WorkedCases(unittest.TestCase):
     def test_questions_by_text(self):
         for text, output in ASKED:
             self.assertEqual(ask_by_text(text), output, text)
+
+    def test_texts_that_are_cut_off(self):
+        """Each is refused; by 3 at its last line where that has no line feed, and in
+        plan D too, where owners may follow it."""
+        for text in (*CUT, OWNED_D + b"0 0 1 6 0\n"):
+            self.assertFalse(ask_by_text(text).startswith(b"refused"), text)
+            for end in range(len(text)):
+                cut = text[:end]
+                for output in (ask_by_text(cut), ask_words_by_text(cut)):
+                    self.assertTrue(output.startswith(b"refused "), cut)
+                    if cut and not cut.endswith(b"\n"):
+                        self.assertEqual(output, b"refused 3 at %d\n" % (cut.count(b"\n") + 1))
 
     def test_words(self):
         for text, h, output in WORDS:

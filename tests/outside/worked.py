@@ -7,14 +7,17 @@ sums by slip 14, slot values by slip 6, settings by slip 7, their numbers by sli
     EIGHT_LEFT    the text of a plan with eight rows that have no structural pivot
     FACTORED      texts with the number of structural pivots and the factors
     EARLIER_D     plan D's factors as they were made before slip 9: they pass too
+    OTHER_D       factors of plan D with other pivots, which pass as well
     REPORTS       texts with what the report program prints
     AFTER_D       what may follow the last line of plan D, with the refusal
     REFUSALS      texts with the refusal that the report program prints, those of AFTER_D among them
     LARGEST_VALUES   a plan modulo the largest modulus, with values near it
     LARGE_PRIMES, NO_LARGE_MODULI   moduli past the table of divisors, accepted and refused
     QUESTIONS     questions on plan D with what the question program prints
+    ANSWERS       the same questions, the verdict, and x or z from its own factors and from OTHER_D
     SUMS          weights and questions on plan D, with what it prints for each and for their sum
     ASKED         texts with a question after the plan, and what it prints
+    CUT           such texts; cut off after any of their bytes but the last they are refused
     WORDS         texts and slot values, with what it prints by its verb `words`
     WORDS_ASKED   texts with slot values after the plan, and what it prints so
     SETTINGS      texts with what it prints by its verb `settings`
@@ -200,6 +203,13 @@ EARLIER_D = _set(
     C=(0, 1, 4, 2, 3),
     L=[{0: 2}, {1: 3}, {2: 3}, {1: 1, 3: 5}, {0: 4, 1: 3}],
     U=[{0: 1, 2: 4}, {1: 1, 3: 5}, {4: 1}, {2: 1, 3: 6}],
+)
+# Row 2, which is twice row 0 and row 1, is a pivot and row 1 is none; of the columns 1 is none.
+OTHER_D = _set(
+    R=(0, 2, 3, 4, 1),
+    C=(0, 3, 2, 4, 1),
+    L=[{0: 2}, {0: 4, 1: 1}, {2: 5}, {3: 3}, {1: 1}],
+    U=[{0: 1, 2: 4}, {1: 3, 3: 1}, {1: 3, 2: 1}, {4: 1}],
 )
 
 REPORTS = (
@@ -489,6 +499,14 @@ QUESTIONS = (
     ((1, 0, 0, 0, 0), b"closed 3 2 1 1 0\n"),
 )
 
+# From OTHER_D, row 1 is row 2 less twice row 0: of x, 6 at row 1 is 6 at row 2 and -12, which is
+# 2, at row 0. And z is 1 at column 1: a half of what it was, which is 4 times as much.
+ANSWERS = (
+    ((0, 0, 0, 0, 1), 1, (0, 0, 0, 0, 5), (0, 0, 0, 0, 5)),
+    ((0, 0, 1, 6, 0), 1, (0, 6, 0, 3, 0), (2, 0, 6, 3, 0)),
+    ((1, 0, 0, 0, 0), 0, (3, 2, 1, 1, 0), (5, 1, 4, 4, 0)),
+)
+
 SUMS = (
     # Two closed questions that add up to an open one.
     (
@@ -518,8 +536,9 @@ SUMS = (
 ASKED = (
     (PLAN_D + b"0 0 0 0 1\n", b"open 0 0 0 0 5\n"),
     (OWNED_D + b"0 0 0 0 1\n", b"open 0 0 0 0 5\n"),
-    (OWNED_D + b"0\n0\n1\n6\n0", b"open 0 6 0 3 0\n"),
-    (OWNED_D + b"1 0 0 0 0", b"closed 3 2 1 1 0\n"),
+    (OWNED_D + b"0\n0\n1\n6\n0\n", b"open 0 6 0 3 0\n"),
+    (OWNED_D + b"1 0 0 0 0\n", b"closed 3 2 1 1 0\n"),
+    (OWNED_D + b"0 0\n1 6\n0\n", b"open 0 6 0 3 0\n"),
     (b"7\n0 0 M\n0 0 0\nowners\n", b"open\n"),
     (b"7\n0 1 M\n0 0 0\nowners 0\n1\n", b"closed 1\n"),
     # The line of owners is the plan's, whatever stands in it.
@@ -531,6 +550,25 @@ ASKED = (
     (PLAN_D + b"owners", b"refused 3 at 15\n"),
     (PLAN_D + b"owners 1 1 2 2 256\n0 0 0 0 1\n", b"refused 16 at 15\n"),
     (PLAN_D + b"owners 256 1 2 2 01\n0 0 0 0 1\n", b"refused 3 at 15\n"),
+    # The last line has no line feed: it is refused, after the plan and before the values.
+    (PLAN_D + b"0 0 0 0 1", b"refused 3 at 15\n"),
+    (PLAN_D + b"0", b"refused 3 at 15\n"),
+    (PLAN_D + b"x 9", b"refused 3 at 15\n"),
+    (PLAN_D + b" ", b"refused 3 at 15\n"),
+    (PLAN_D + b"\n0", b"refused 3 at 16\n"),
+    (OWNED_D + b"1 0 0 0 0", b"refused 3 at 16\n"),
+    (OWNED_D + b"0\n0\n1\n6\n0", b"refused 3 at 20\n"),
+    (OWNED_D + b"0 0\n1 6\n0", b"refused 3 at 18\n"),
+    (OWNED_D + b"owners", b"refused 3 at 16\n"),
+    (PLAN_D + b"owner", b"refused 3 at 15\n"),
+    (PLAN_D + b"owners 1 1 2 2 256\n0 0 0 0 1", b"refused 16 at 15\n"),
+    (PLAN_D + b"owners 1 1 2 2\n0 0 0 0 1", b"refused 3 at 15\n"),
+    (PLAN_D.replace(b"2 4 1\n", b"2 6 1\n") + b"0 0 0 0 1", b"refused 4 at 6\n"),
+    (PLAN_D.replace(b"7", b"8", 1) + b"0 0 0 0 1", b"refused 1 at 0\n"),
+    (b"7\n0 0 M\n0 0 0\n0", b"refused 3 at 4\n"),
+    (b"7\n0 0 M\n0 0 0\n", b"open\n"),
+    (b"7\n0 0 M\n0 0 0\n\n", b"open\n"),
+    (b"7\n0 0 M\n0 0 0", b"refused 3 at 3\n"),
     # Any other line is the question's, and so is a second one: six values, or five.
     (OWNED_D + b"owners 1 1 2 2 0\n", b"refused 9 at 0\n"),
     (OWNED_D + b"owners 1 1 2 2\n", b"refused 15 at 1\n"),
@@ -538,6 +576,13 @@ ASKED = (
     (PLAN_D + b"owners\t 0 0 0 1\n", b"refused 15 at 1\n"),
     (PLAN_D + b"0 owners 0 0 1\n", b"refused 15 at 2\n"),
     (PLAN_D + b"0 0 0 0 1\nowners 1 1 2 2 0\n", b"refused 9 at 0\n"),
+)
+
+# Of the first, cut within its last line, 1, 12, 123 or 1234 would be another question.
+CUT = (
+    b"65521\n1 1 M\n1 1 3\n0 0 0\n12345\n",
+    b"13\n2 2 M\n2 1 -1\n1 2 12\n0 0 0\nowners 10 200\n11 12\n",
+    b"13\n2 2 M\n2 1 -1\n1 2 12\n0 0 0\nowners 10 200\n11\n12\n",
 )
 
 NO_WORDS = b"7\n2 0 M\n0 0 0\n"
@@ -581,8 +626,11 @@ WORDS = (
 
 WORDS_ASKED = (
     (PLAN_D + b"1 2 4 3 5\n", b"words 4 3 0 0 4\n"),
-    (PLAN_D + b"1\n2\n5\n3\n5", b"contradiction 5 6 1 0 0\n"),
-    (OWNED_D + b"1 2 4 3 5", b"words 4 3 0 0 4\n"),
+    (PLAN_D + b"1\n2\n5\n3\n5\n", b"contradiction 5 6 1 0 0\n"),
+    (OWNED_D + b"1 2 4 3 5\n", b"words 4 3 0 0 4\n"),
+    (PLAN_D + b"1\n2\n5\n3\n5", b"refused 3 at 19\n"),
+    (OWNED_D + b"1 2 4 3 5", b"refused 3 at 16\n"),
+    (PLAN_D + b"owners 1 1 2 2 256\n1 2 4 3 5", b"refused 16 at 15\n"),
     (OWNED_D + b"1 2 5 3 5\n", b"contradiction 5 6 1 0 0\n"),
     (b"7\n0 0 M\n0 0 0\n", b"words\n"),
     (b"7\n0 3 M\n0 0 0\n", b"words 0 0 0\n"),

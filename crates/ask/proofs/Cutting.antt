@@ -12,7 +12,7 @@ use borrow.Author.Tests.{eq-eqb, ne-eqb, lt-ltb, le-ltb}
 use Rattle.lists.proofs.Steps.{drop-take}
 use Rattle.text_fields.specs.Number.{numberIn}
 use Rattle.text_fields.specs.declared.numbers.Number.the-variants.{Value}
-use Rattle.ask.specs.Values.{noResidue, valueRead, isSeparator, valuesFrom, endedAt, nextStart, valuesEnd, questionIn, Added}
+use Rattle.ask.specs.Values.{noResidue, valueRead, isSeparator, valuesFrom, endedAt, nextStart, questionIn, Added}
 use Rattle.ask.proofs.Kept.{none-added, added-then}
 
 -- ---- a value
@@ -135,36 +135,15 @@ module _ (l y₀ y : List ℕ) (k start i : ℕ) (g : Going l y₀ y k start i) 
             ∙ g .rest;
       }
 
--- ---- the end
+-- ---- the whole
 
-pub end-empty : (l : List ℕ) → length l ≡ 0 → 0 ≡ valuesEnd l
-unfolding valuesEnd
-end-empty [] h = refl
-end-empty (x ∷ l) h = absurd (omega arith)
-
-pub end-fed : (l : List ℕ) → getD l (length l - 1) 0 ≡ 10 → length l - 1 ≡ valuesEnd l
-unfolding valuesEnd
-end-fed l e = ap (λ (t : Bool). cond t (length l - 1) (length l)) (sym (eq-eqb (getD l (length l - 1) 0) 10 e))
-
-pub end-plain : (l : List ℕ) → (getD l (length l - 1) 0 ≡ 10 → ⊥) → length l ≡ valuesEnd l
-unfolding valuesEnd
-end-plain l h = ap (λ (t : Bool). cond t (length l - 1) (length l)) (sym (ne-eqb (getD l (length l - 1) 0) 10 h))
-
-pub end-inside : (l : List ℕ) (e : ℕ) → e ≡ valuesEnd l → e ≤ length l
-unfolding valuesEnd
-end-inside l e q = subst (λ (j : ℕ). j ≤ length l) (sym q) (go (eqb (getD l (length l - 1) 0) 10))
-  where
-    go : (t : Bool) → cond t (length l - 1) (length l) ≤ length l
-    go true = omega arith
-    go false = omega arith
-
-pub no-question : (l : List ℕ) (e : ℕ) → e ≡ valuesEnd l → e ≡ 0 → (y : List ℕ) → Added y 0 y 0 (questionIn l)
+pub no-question : (l : List ℕ) → length l < 2 → (y : List ℕ) → Added y 0 y 0 (questionIn l)
 unfolding questionIn
-no-question l e q z y =
-    subst (Added y 0 y 0) (ap (λ (t : Bool). cond t [] (valuesFrom [] (take (valuesEnd l) l))) (sym (eq-eqb (valuesEnd l) 0 (sym q ∙ z)))) (none-added y 0 (omega arith))
+no-question l h y =
+    subst (Added y 0 y 0) (ap (λ (t : Bool). cond t [] (valuesFrom [] (take (length l - 1) l))) (sym (eq-eqb (length l - 1) 0 (omega arith)))) (none-added y 0 (omega arith))
 
-pub the-question : (l : List ℕ) (e : ℕ) → e ≡ valuesEnd l → (e ≡ 0 → ⊥) → (y y′ : List ℕ) (r : ℕ) → Added y 0 y′ r (valuesFrom [] (take e l)) → Added y 0 y′ r (questionIn l)
+pub the-question : (l : List ℕ) → 2 ≤ length l → (y y′ : List ℕ) (r : ℕ) → Added y 0 y′ r (valuesFrom [] (take (length l - 1) l)) → Added y 0 y′ r (questionIn l)
 unfolding questionIn
-the-question l e q z y y′ r a =
-    subst (Added y 0 y′ r)
-    (ap (λ (j : ℕ). valuesFrom [] (take j l)) q ∙ ap (λ (t : Bool). cond t [] (valuesFrom [] (take (valuesEnd l) l))) (sym (ne-eqb (valuesEnd l) 0 (λ s. z (q ∙ s))))) a
+the-question l h y y′ r a =
+    let some : length l - 1 ≡ 0 → ⊥ = λ e. omega arith in
+    subst (Added y 0 y′ r) (ap (λ (t : Bool). cond t [] (valuesFrom [] (take (length l - 1) l))) (sym (ne-eqb (length l - 1) 0 some))) a

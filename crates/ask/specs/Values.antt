@@ -6,8 +6,7 @@
 --   endedAt l s i        the value of the field from place s on where a separator at place i ends it; none where there is no separator
 --   nextStart b s i      where the field of place i + 1 begins, b being the byte at place i
 --   FieldReady ..        what adding such a value needs
---   valuesEnd l          where the values of a text end: before a line feed at its end
---   questionIn l         the question that a text says: none where nothing stands before its end
+--   questionIn l         the question that a text says whose last byte is a line feed: the values before it, or none where nothing stands there
 --   Added y₀ k y r vs    the contract of adding values to the first k of a question: as many are kept as its list has room for
 use Prim.Native.Nat.{ℕ, _+_, _-_, _≤_, _<_}
 use mathlib.Core.Path.{_≡_}
@@ -48,11 +47,8 @@ pub record FieldReady (l : List ℕ) (start i : ℕ) (y : List ℕ) (k : ℕ) : 
   pub place : i < length l
   pub count-fits : k ≤ length y
 
-unfoldable pub valuesEnd : List ℕ → ℕ
-valuesEnd l = cond (eqb (getD l (length l - 1) 0) 10) (length l - 1) (length l)
-
 unfoldable pub questionIn : List ℕ → List ℕ
-questionIn l = cond (eqb (valuesEnd l) 0) [] (valuesFrom [] (take (valuesEnd l) l))
+questionIn l = let size = length l - 1 in cond (eqb size 0) [] (valuesFrom [] (take size l))
 
 pub record Added (y₀ : List ℕ) (k : ℕ) (y : List ℕ) (r : ℕ) (vs : List ℕ) : Type 0 where
   pub inside : r ≤ length y

@@ -10,12 +10,17 @@ ghost use lib.ListN.{length};
 ghost use Rattle.limits.specs.Limits.{startsLength};
 ghost use Rattle.byte_buffer.specs.Fills.{Fills};
 ghost use Rattle.ask_lib.specs.Asking.{AskLists};
-ghost use Rattle.ask.specs.Verb.{lineFor};
+ghost use Rattle.ask.specs.Verb.{lineFor, textLine, TextLists};
 use limits::PRINT_ROOM;
 use limits::START_CELLS;
 use limits::WORK_CELLS;
+use output::print_only;
+use standard_io::Input;
+use standard_io::read_input;
 
 mod arguments;
+mod cut;
+mod output;
 mod question;
 mod settings;
 mod text;
@@ -31,13 +36,27 @@ fn write_line(words: bool, plan: &[u8], y: &[u32], out: &mut [u8], work: &mut [u
     }
 }
 
+// Writes the line for a text in which the values follow the plan.
+fn write_text_line(words: bool, text: &[u8], out: &mut [u8], work: &mut [u64]) -> usize
+    requires { ⌜ TextLists (now text) (now out) (now work) ⌝ }
+    ensures { λ size. ⌜ Fills (now (out .entry)) (now (out .exit)) size (textLine words (now (text .entry))) ⌝ }
+{
+    let end = text::plan_end(text);
+    if cut::is_cut(&text[end..]) {
+        return cut::write_cut_line(&text[..end], cut::last_line(text), out);
+    }
+    let mut y = [0u32; START_CELLS];
+    let count = question::from_text(&text[end..], &mut y);
+    write_line(words, &text[..end], &y[..count], out, work)
+}
+
 fn print_answer(words: bool, plan: &[u8], y: &[u32])
     requires { ⌜ length (now y) ≤ startsLength ⌝ }
 {
     let mut out = [0u8; PRINT_ROOM];
     let mut work = [0u64; WORK_CELLS];
     let size = write_line(words, plan, y, &mut out, &mut work);
-    io::write_all(1, &out[..size]);
+    print_only(&out[..size]);
 }
 
 // All of the text is the plan; the values are the arguments from the first-th on.
@@ -50,10 +69,10 @@ fn ask_by_arguments(words: bool, first: usize, text: &[u8]) {
 fn ask_by_text(words: bool, text: &[u8])
     requires { ⌜ length (now text) + 1 < 2 ^ 32 ⌝ }
 {
-    let mut y = [0u32; START_CELLS];
-    let end = text::plan_end(text);
-    let count = question::from_text(&text[end..], &mut y);
-    print_answer(words, &text[..end], &y[..count]);
+    let mut out = [0u8; PRINT_ROOM];
+    let mut work = [0u64; WORK_CELLS];
+    let size = write_text_line(words, text, &mut out, &mut work);
+    print_only(&out[..size]);
 }
 
 // A question, or with the verb `words` slot values, as arguments or after the plan.
@@ -69,13 +88,22 @@ fn ask_values(text: &[u8])
     }
 }
 
+// What the input asks for.
+fn run(text: &[u8])
+    requires { ⌜ length (now text) + 1 < 2 ^ 32 ⌝ }
+{
+    if arguments::says_settings() {
+        settings::print_settings(text);
+    } else {
+        ask_values(text);
+    }
+}
+
 // A plan has at most 65,536 bytes, and 2,049 values have at most 22,539 with what separates them.
 fn main() {
     let mut text = [0u8; 98304];
-    let size = io::read_full(0, &mut text);
-    if arguments::says_settings() {
-        settings::print_settings(&text[..size]);
-    } else {
-        ask_values(&text[..size]);
-    }
+    let Input::Read(size) = read_input(&mut text, b"ask: standard input") else {
+        return;
+    };
+    run(&text[..size]);
 }

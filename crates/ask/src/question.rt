@@ -4,7 +4,7 @@ ghost use mathlib.Core.Path.{_≡_};
 ghost use Prim.Native.Nat.{_^_, _≤_, _<_};
 ghost use lib.ListN.{length};
 ghost use Rattle.text_fields.specs.Number.{numberIn};
-ghost use Rattle.ask.specs.Values.{valueRead, isSeparator, valuesFrom, endedAt, nextStart, FieldReady, valuesEnd, questionIn, Added};
+ghost use Rattle.ask.specs.Values.{valueRead, isSeparator, valuesFrom, endedAt, nextStart, FieldReady, questionIn, Added};
 use text_fields::numbers::Number;
 use text_fields::numbers::number_of;
 
@@ -85,28 +85,13 @@ fn values(text: &[u8], y: &mut [u32]) -> usize
     put(y, count, value(&text[start..i]))
 }
 
-// Where the values end: before a line feed at the end.
-fn values_end(text: &[u8]) -> usize
-    ensures { λ r. ⌜ r ≡ valuesEnd (now (text .entry)) ⌝ }
-{
-    let size = text.len();
-    if size == 0 {
-        return 0;
-    }
-    if text[size - 1] == LINE_FEED {
-        size - 1
-    } else {
-        size
-    }
-}
-
-// The question that follows a plan; how many values were kept.
+// The question that follows a plan, its last byte a line feed; how many values were kept.
 pub fn from_text(text: &[u8], y: &mut [u32]) -> usize
     ensures { λ r. ⌜ Added (now (y .entry)) 0 (now (y .exit)) r (questionIn (now (text .entry))) ⌝ }
 {
-    let end = values_end(text);
-    if end == 0 {
+    let size = text.len();
+    if size < 2 {
         return 0;
     }
-    values(&text[..end], y)
+    values(&text[..size - 1], y)
 }

@@ -1,6 +1,8 @@
 // The settings that give every slot 0, printed a line each: the basis of the largest plan would fill 16 MB.
 ghost use Rattle.sparse.specs.Views.{storedAt};
 ghost use Rattle.ask.specs.Settings.{LinesReady};
+use crate::output::end;
+use crate::output::print;
 use ask_settings::Begun;
 use ask_settings::begin;
 use ask_settings::setting_line;
@@ -10,7 +12,7 @@ use limits::SIZE_CELLS;
 use limits::START_CELLS;
 use limits::WORK_CELLS;
 
-// Prints the lines of the columns, rising; a pivot column has none.
+// Prints the lines of the columns, rising, to the last or to one that cannot be written; a pivot column has none.
 fn print_lines(
     g: Begun,
     co: &[u32],
@@ -26,9 +28,12 @@ fn print_lines(
     let mut c = 0;
     while c < columns {
         let size = setting_line(g, co, us, uc, uv, marks, c, out);
-        io::write_all(1, &out[..size]);
+        if !print(&out[..size]) {
+            return;
+        }
         c += 1;
     }
+    end();
 }
 
 // Prints the settings for a plan's text: how many columns are free, then a line for each of them; or the line of a refusal.
@@ -48,6 +53,8 @@ pub fn print_settings(text: &[u8]) {
         &mut out,
         &mut work,
     );
-    io::write_all(1, &out[..g.size]);
+    if !print(&out[..g.size]) {
+        return;
+    }
     print_lines(g, &co, &us, &uc, &uv, &work, &mut out);
 }

@@ -2,8 +2,7 @@
 --   ifPassed o k         k where the outcome is passed, else 0
 --   heldRank s           the rank that stages found, 0 where one of them refused
 --   timedRank text       the rank of a text's plan by reading and factoring, 0 where one of them refuses
---   timedReport text b   the report of a text, for a buffer of b bytes; nothing where these are too few
---   timedWords text h b  the line of the words that give slot values, for such a buffer; nothing where the values are more than 2,049
+--   timedWords text h b  the line of the words that give slot values, for a buffer of b bytes; nothing where these are too few, or the values more than 2,049
 use Prim.Native.Nat.{ℕ}
 use mathlib.Core.Bool.{cond}
 use mathlib.Core.List.{List, []}
@@ -15,7 +14,6 @@ use Rattle.refusals.specs.declared.Outcome.{Outcome}
 use Rattle.refusals.specs.declared.Outcome.the-variants.{Passed, Refused}
 use Rattle.stages.specs.declared.Stages.{Stages}
 use Rattle.stages.specs.Stages.{reading, factoredOf}
-use Rattle.report_lib.specs.Reporting.{reportOf}
 use Rattle.ask_words.specs.Solving.{wordsOf}
 
 -- ---- reading and factoring
@@ -32,11 +30,6 @@ timedRank text =
     let x = reading text in
     let f = factoredOf x in
     ifPassed (x .result .outcome ▷ f .outcome) (f .rank)
-
--- ---- the report
-
-unfoldable pub timedReport : List ℕ → ℕ → List ℕ
-timedReport text b = cond (ltb b printRoom) [] (reportOf text)
 
 -- ---- the words
 

@@ -1,9 +1,9 @@
-// What the benchmark times within one process (include/plq_timing.h): the stages alone, the whole report, and the words from slot values. They need no
-// storage of the caller's but the buffer, so that a time is that of the work and of clearing the lists, and of nothing else.
+// What the benchmark times within one process (include/plq_timing.h) beside the calls of the library: the stages alone, and the words from slot values. They
+// need no storage of the caller's but the buffer, so that a time is that of the work and of clearing the lists, and of nothing else.
 ghost use mathlib.Core.Path.{_≡_};
 ghost use lib.ListN.{length};
 ghost use Rattle.byte_buffer.specs.Fills.{Fills};
-ghost use Rattle.bench_calls.specs.Timed.{heldRank, timedRank, timedReport, timedWords};
+ghost use Rattle.bench_calls.specs.Timed.{heldRank, timedRank, timedWords};
 ghost use Rattle.sparse.specs.Views.{before, after};
 use ask_words::words;
 use limits::ENTRY_CELLS;
@@ -13,7 +13,6 @@ use limits::START_CELLS;
 use limits::WORK_CELLS;
 use lists::clear_bytes;
 use refusals::Outcome;
-use report_lib::report;
 use stages::Stages;
 use stages::factor_text;
 
@@ -70,22 +69,6 @@ pub extern "C" fn plq_time_factoring(text: &[u8]) -> u64
         &mut work,
     );
     rank_staged(s)
-}
-
-// Writes the report of a text: what the report program prints for it, refusals too.
-//   takes    a text, and a buffer of any length and content
-//   gives    the length of the report, which stands in the buffer; 0 for a buffer of fewer than 65,536 bytes
-//   leaves   the buffer zero past the report; the text is only read
-#[no_mangle]
-pub extern "C" fn plq_time_report(text: &[u8], out: &mut [u8]) -> u64
-    ensures { λ size. ⌜ Fills (before out) (after out) size (timedReport (before text) (length (before out))) ⌝ }
-{
-    if out.len() < PRINT_ROOM {
-        clear_bytes(out);
-        return 0;
-    }
-    let mut work = [0u64; WORK_CELLS];
-    report(text, out, &mut work) as u64
 }
 
 // Writes the line of the words that give slot values: what the question program prints for a text with the verb `words`, refusals too.

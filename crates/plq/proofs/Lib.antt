@@ -1,4 +1,9 @@
+pub mod Answers
 pub mod Checking
 pub mod Making
+pub mod Numbers
 pub mod Own
+pub mod Reporting
+pub mod Reports
 pub mod Texts
+pub mod Writing

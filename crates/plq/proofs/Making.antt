@@ -26,7 +26,7 @@ use Rattle.plq.specs.Held.{heldCertificate, writtenOf, stagedOutcome, Pu
 use Rattle.plq.specs.Needs.{StagedFits}
 
 -- a refusal leaves the buffer all zero
-refusal : (o : Outcome) (cert : List ℕ) (r : Outcome) (b₀ b : List ℕ) {k d : ℕ} → r ≡ Refused k d → r ≡ o → b ≡ zeros (length b₀) → Puts o cert r b₀ b
+pub refusal : (o : Outcome) (cert : List ℕ) (r : Outcome) (b₀ b : List ℕ) {k d : ℕ} → r ≡ Refused k d → r ≡ o → b ≡ zeros (length b₀) → Puts o cert r b₀ b
 refusal o cert r b₀ b e q z =
     record {
       outcome = q;

@@ -2,7 +2,7 @@
 --   heldCertificate s h         the certificate of the set that stands in the lists
 --   writtenOf s A h room        writing it into a buffer with so much room
 --   stagedOutcome s A h room    what comes of any stages: the first refusal, or the above
---   Puts o cert r b₀ b          the outcome r is o, and the buffer holds the certificate, zero past its end; all zero where o is a refusal
+--   Puts o bytes r b₀ b         the outcome r is o, and the buffer holds the bytes, zero past their end; all zero where o is a refusal
 use Prim.Native.Nat.{ℕ}
 use mathlib.Core.Path.{_≡_}
 use mathlib.Core.List.{List}
@@ -27,6 +27,6 @@ writtenOf s A h room = let r = s .reading in writeOutcome (r .p) (r .n) (r .m) (
 unfoldable pub stagedOutcome : Stages → Compressed → Storage → (room : ℕ) → Outcome
 stagedOutcome s A h room = s .reading .outcome ▷ s .factored .outcome ▷ writtenOf s A h room
 
-pub record Puts (o : Outcome) (cert : List ℕ) (r : Outcome) (b₀ b : List ℕ) : Type 0 where
+pub record Puts (o : Outcome) (bytes : List ℕ) (r : Outcome) (b₀ b : List ℕ) : Type 0 where
   pub outcome : r ≡ o
-  pub buffer : b ≡ filled (length b₀) (bytesGiven o cert)
+  pub buffer : b ≡ filled (length b₀) (bytesGiven o bytes)

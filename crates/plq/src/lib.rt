@@ -1,5 +1,5 @@
 // The library. For programs in Rattle: reading a plan's text, and the calls on stored plans with the owners of their words. For planning programs in C
-// (include/plq.h): two calls that take a plan as its text and need no storage of the caller's.
+// (include/plq.h): the calls that take a plan as its text and need no storage of the caller's to work in.
 pub use call_kernel::from_certificate::kernel_basis_from_certificate;
 pub use call_owned::answer::answer_from_certificate;
 pub use call_owned::answer::answer_from_factors;
@@ -13,19 +13,27 @@ pub use call_slots::from_certificate::solve_slots_from_certificate;
 pub use call_slots::from_factors::solve_slots_from_factors;
 pub use text_owners::read as read_plan;
 ghost use mathlib.Core.Path.{_≡_};
-ghost use Rattle.plq.specs.Calls.{checkTextOf, packed, Makes};
+ghost use Rattle.plq.specs.Calls.{checkTextOf, packed, Makes, ReportsText, AnswersText};
 ghost use Rattle.sparse.specs.Views.{before, after};
+use answer::pack_answer;
+use answer::verdict_byte;
+use answer_lib::answer_text;
 use check::check_text;
 use limits::ENTRY_CELLS;
+use limits::PRINT_ROOM;
 use limits::SIZE_CELLS;
 use limits::START_CELLS;
 use limits::WORK_CELLS;
 use make::make_staged;
 use refusals::Outcome;
+use report::deliver;
+use report_lib::report_all;
 use stages::factor_text;
 
+pub mod answer;
 pub mod check;
 pub mod make;
+pub mod report;
 
 // An outcome as one number: the table's number plus 256 times its detail.
 fn pack(o: Outcome) -> u64
@@ -112,4 +120,44 @@ pub extern "C" fn plq_check_certificate(text: &[u8], certificate: &[u8]) -> u64
         &mut vals,
         &mut work,
     ))
+}
+
+// Reports on a plan: its sizes, its rank, and its open words with their owners.
+//   takes    a plan text, and a buffer of any length and content; 65,536 bytes hold any report
+//   gives    0, and the report's lines in the buffer, zero past their end
+//   refuses  reading: 2, then the first line at fault; then factoring: 7 at a row; then a buffer that does not hold the report: 9
+//   leaves   after a refusal the buffer all zero; the text is only read
+#[no_mangle]
+pub extern "C" fn plq_report(text: &[u8], buffer: &mut [u8]) -> u64
+    ensures { λ z. ⌜ ReportsText (before text) z (before buffer) (after buffer) ⌝ }
+{
+    let mut printed = [0u8; PRINT_ROOM];
+    let mut work = [0u64; WORK_CELLS];
+    let reported = report_all(text, &mut printed, &mut work);
+    let outcome = reported.outcome;
+    let size = reported.size;
+    pack(deliver(outcome, &printed[..size], buffer))
+}
+
+// Answers a question about a plan: from a certificate, anybody's, which is checked first; or, where it has no bytes, from the engine's own factors.
+//   takes    a plan text; the bytes of a certificate, or none; a question y of m values; n cells for x, m cells for z, and one byte for the verdict
+//   gives    0, and the verdict: 1, open, with the x where x A = y; or 0, closed, with a z where A z = 0 and y z is not 0
+//   refuses  reading: 2, then the first line at fault; without a certificate then factoring: 7 at a row; then 9 for the lengths of y, x and z;
+//            10 to 14 for the certificate; 15 at the first index
+//   leaves   the one of x and z that is not the answer all zero; after a refusal both, and the verdict; the text, the certificate and y are only read
+#[no_mangle]
+pub extern "C" fn plq_answer(
+    text: &[u8],
+    certificate: &[u8],
+    y: &[u32],
+    x: &mut [u32],
+    z: &mut [u32],
+    verdict: &mut u8,
+) -> u64
+    ensures { λ q. ⌜ AnswersText (before text) (before certificate) (before y) q (before x) (after x) (before z) (after z) (now (verdict .exit)) ⌝ }
+{
+    let mut work = [0u64; WORK_CELLS];
+    let answer = answer_text(text, certificate, y, x, z, &mut work);
+    *verdict = verdict_byte(answer);
+    pack_answer(answer)
 }

@@ -4,3 +4,4 @@ pub mod Counting
 pub mod Room
 pub mod Example
 pub mod Shown
+pub mod Bytes

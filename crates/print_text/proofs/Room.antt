@@ -1,5 +1,5 @@
 -- A buffer of 65,536 bytes holds whatever the programs print: a report of at most 2,048 words, a refusal, an answer of at most
--- 2,048 values.
+-- 2,048 values. `-short`: how long each is at most.
 use mathlib.Core.Bool.{Bool, true, false, cond}
 use mathlib.Core.List.{List, [], _∷_, _++_, flatten}
 use mathlib.Core.Path.{_≡_}
@@ -70,9 +70,13 @@ totals-short : (cells : List ℕ) → length (totalsLine cells) ≤ 41
 unfolding totalsLine flatten
 totals-short cells = simp length-append (omega (arith, labelled-short totalsLabel (openCount cells), labelled-short closedLabel (closedCount cells)))
 
-report-short : (s : Summary) (owners cells : List ℕ) → length cells ≤ 2048 → length (reportText s owners cells) ≤ 177 + 27 * length cells
+pub report-short : (s : Summary) (owners cells : List ℕ) → length cells ≤ 2048 → length (reportText s owners cells) ≤ 177 + 27 * length cells
 unfolding reportText flatten
 report-short s owners cells h = simp length-append (omega (arith, sizes-short s, rank-short s, lines-short 0 owners cells (omega arith), totals-short cells))
+
+pub refusal-short : (k d : ℕ) → length (refusalText k d) ≤ 33
+unfolding refusalText flatten
+refusal-short k d = simp length-append (omega (arith, labelled-short refusedLabel k, labelled-short atLabel d))
 
 values-short : (xs : List ℕ) → length (valuesText xs) ≤ 11 * length xs
 unfolding valuesText
@@ -96,8 +100,7 @@ pub report-room : (s : Summary) (owners cells out : List ℕ) → length owners 
 report-room s owners cells out e h l = record { columns = h; owned = e; room = omega (arith, report-short s owners cells h) }
 
 pub refusal-room : (k d : ℕ) (out : List ℕ) → 65536 ≤ length out → length (refusalText k d) ≤ length out
-unfolding refusalText flatten
-refusal-room k d out l = simp length-append (omega (arith, labelled-short refusedLabel k, labelled-short atLabel d))
+refusal-room k d out l = omega (arith, refusal-short k d)
 
 pub line-room : (label xs out : List ℕ) → length label ≤ 13 → length xs ≤ 2048 → 65536 ≤ length out → length (valuesLine label xs) ≤ length out
 line-room label xs out short few l = omega (arith, line-short label xs)

@@ -1,4 +1,4 @@
 pub mod Printing
-pub mod Reported
+pub mod Reporting
 pub mod Totals
 pub mod Theorems

@@ -9,7 +9,7 @@ use Rattle.refusals.specs.declared.Outcome.{Outcome}
 use Rattle.refusals.specs.declared.Outcome.the-variants.{Passed, Refused}
 use Rattle.lists.proofs.Filled.{filled-whole}
 use Rattle.sparse.specs.Matrix.{Compressed}
-use Rattle.sparse.specs.Set.{Storage}
+use Rattle.sparse.specs.Set.{Set, Storage}
 use Rattle.row_space.specs.Solve.{openColumns}
 use Rattle.byte_buffer.specs.Fills.{Fills}
 use Rattle.limits.specs.Limits.{workLength}
@@ -32,17 +32,16 @@ listed-whole : (o : Outcome) (l : List ℕ) → listed o l .outcome ≡ Passed �
 listed-whole Passed l e = refl
 listed-whole (Refused k d) l e = absurd (not-passed refl e)
 
+pub open-length : (p n m : ℕ) (A : Compressed) (s : Set) → openFactorsOf p n m A s m workLength .outcome ≡ Passed → length (openFactorsOf p n m A s m workLength .list) ≡ m
+unfolding openFactorsOf
+open-length p n m A s e = ap length (listed-whole (columnsAfter (checkFactorsOf p n m A s workLength) m m) (openColumns p m s) e) ∙ columns-long p m s
+
 module _ (s : Stages) (A : Compressed) (h : Storage) where
   abbrev list : Listed
   list = heldList s A h (s .reading .m) workLength
 
-  abbrev check : Outcome
-  check =
-      let r = s .reading in columnsAfter (checkFactorsOf (r .p) (r .n) (r .m) (heldPlan r A) (heldSet s h) workLength) (r .m) (r .m)
-
   list-length : list .outcome ≡ Passed → length (list .list) ≡ s .reading .m
-  unfolding openFactorsOf
-  list-length e = ap length (listed-whole check (openColumns (s .reading .p) (s .reading .m) (heldSet s h)) e) ∙ columns-long (s .reading .p) (s .reading .m) (heldSet s h)
+  list-length = open-length (s .reading .p) (s .reading .n) (s .reading .m) (heldPlan (s .reading) A) (heldSet s h)
 
   -- ---- reading and factoring passed
 

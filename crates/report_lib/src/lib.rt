@@ -5,7 +5,7 @@ ghost use Rattle.stages.specs.Staged.{Fits};
 ghost use Rattle.print_text.specs.Printed.{Prints};
 ghost use Rattle.report_lib.specs.Held.{heldSummary, heldList, heldText, stagedText};
 ghost use Rattle.report_lib.specs.Needs.{HeldReady, ReportStagedReady};
-ghost use Rattle.report_lib.specs.Reporting.{ReportLists, Reports};
+ghost use Rattle.report_lib.specs.Reporting.{ReportLists, Reports, ReportsAll};
 ghost use Rattle.sparse.specs.Views.{before, after, storedAt, storedBefore, storageAt, storageBefore};
 use call_open::from_factors::open_columns_from_factors;
 use limits::ENTRY_CELLS;
@@ -19,6 +19,13 @@ use refusals::Outcome;
 use refusals::numbers::STORAGE_TOO_SHORT;
 use stages::Stages;
 use stages::factor_owned;
+use stages::first_refusal;
+
+// What reporting returns: the first refusal, by reading or by factoring, and the length of what is printed.
+pub struct Reported {
+    pub outcome: Outcome,
+    pub size: usize,
+}
 
 // The numbers of a report.
 fn summary(s: Stages) -> Summary
@@ -187,11 +194,11 @@ fn report_staged(
 
 // Reads a plan's text, factors the plan, and writes what the report program prints.
 //   takes    a text, a buffer of at least 65,536 bytes, which hold any report, and a working row
-//   gives    the length of the report, which stands in the buffer
+//   gives    the length of the report, which stands in the buffer, and the first refusal, whose line the report is then
 //   leaves   the buffer zero past the report, and the working row all zero
-pub fn report(text: &[u8], out: &mut [u8], work: &mut [u64]) -> usize
+pub fn report_all(text: &[u8], out: &mut [u8], work: &mut [u64]) -> Reported
     requires { ⌜ ReportLists (now out) (now work) ⌝ }
-    ensures { λ size. ⌜ Reports (before text) size (before out) (after out) (before work) (after work) ⌝ }
+    ensures { λ r. ⌜ ReportsAll (before text) r (before out) (after out) (before work) (after work) ⌝ }
 {
     let mut starts = [0u32; START_CELLS];
     let mut cols = [0u32; ENTRY_CELLS];
@@ -222,7 +229,7 @@ pub fn report(text: &[u8], out: &mut [u8], work: &mut [u64]) -> usize
         &mut uv,
         work,
     );
-    report_staged(
+    let size = report_staged(
         s,
         &starts,
         &cols,
@@ -239,5 +246,16 @@ pub fn report(text: &[u8], out: &mut [u8], work: &mut [u64]) -> usize
         &mut marks,
         out,
         work,
-    )
+    );
+    let outcome = first_refusal(s);
+    Reported { outcome, size }
+}
+
+// The same for a caller that only prints: the length alone.
+pub fn report(text: &[u8], out: &mut [u8], work: &mut [u64]) -> usize
+    requires { ⌜ ReportLists (now out) (now work) ⌝ }
+    ensures { λ size. ⌜ Reports (before text) size (before out) (after out) (before work) (after work) ⌝ }
+{
+    let reported = report_all(text, out, work);
+    reported.size
 }

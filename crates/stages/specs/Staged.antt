@@ -1,6 +1,7 @@
 -- What the stages leave: A are the lists of the plan, ow the owners, h the lists of the set.
 --   Fits s A h             the lists are at least as long as what stands in them
 --   heldSet s h            the set that stands in the lists
+--   stagesOutcome s        the first refusal of the stages, by reading or by factoring, or none
 --   FactorsHeld x s A h    after a reading x that passed: the plan, the outcome and the numbers of its factoring, and where that passed too, the set
 --   Staged text s A w₀ h   the contract: the reading, what stands in the lists after it, and the working row, which was w₀, left all zero
 --   StagedOwned ..         the same with the owners that were read
@@ -9,7 +10,8 @@ use mathlib.Core.Path.{_≡_}
 use mathlib.Core.List.{List}
 use lib.ListN.{length, take}
 use Rattle.lists.specs.Filled.{zeros}
-use Rattle.refusals.specs.Refusals.{detailOf}
+use Rattle.refusals.specs.Refusals.{_▷_, detailOf}
+use Rattle.refusals.specs.declared.Outcome.{Outcome}
 use Rattle.refusals.specs.declared.Outcome.the-variants.{Passed}
 use Rattle.sparse.specs.Matrix.{Compressed, compressed}
 use Rattle.sparse.specs.Set.{Set, setOf, Storage}
@@ -36,6 +38,9 @@ heldSet s h =
     setOf (s .factored .rank) (take (s .reading .n) (h .R)) (take (s .reading .m) (h .C))
     (compressed (take (s .reading .n + 1) (h .L .starts)) (take (s .lower) (h .L .cols)) (take (s .lower) (h .L .vals)))
     (compressed (take (s .factored .rank + 1) (h .U .starts)) (take (s .upper) (h .U .cols)) (take (s .upper) (h .U .vals)))
+
+abbrev pub stagesOutcome : Stages → Outcome
+stagesOutcome s = s .reading .outcome ▷ s .factored .outcome
 
 pub record FactorsHeld (x : ReadAnswer) (s : Stages) (A : Compressed) (h : Storage) : Type 0 where
   pub fits : Fits s A h

@@ -1,8 +1,9 @@
 // A plan's text, read and then factored: the stages that the calls on a text begin with. They work in lists of the largest lengths.
+ghost use mathlib.Core.Path.{_≡_};
 ghost use Rattle.sparse.specs.Views.{before, after, storedAt, storedBefore, storedAfter, storageAt, storageAfter};
 ghost use Rattle.stages.specs.Lists.{StageLists, OwnedLists};
 ghost use Rattle.stages.specs.Needs.{Lendable, HeldFactored};
-ghost use Rattle.stages.specs.Staged.{Staged, StagedOwned};
+ghost use Rattle.stages.specs.Staged.{stagesOutcome, Staged, StagedOwned};
 use call_factor::factor_accepted;
 use factor_all::factor::Factored;
 use limits::SIZE_CELLS;
@@ -156,4 +157,17 @@ pub fn factor_text(
         uv,
         work,
     )
+}
+
+// The first refusal of the stages, if any, by reading or by factoring: a row counts from 0 here, from 1 in print.
+pub fn first_refusal(s: Stages) -> Outcome
+    ensures { λ o. ⌜ o ≡ stagesOutcome s ⌝ }
+{
+    let r = s.reading;
+    let f = s.factored;
+    let reading = r.outcome;
+    let Outcome::Passed = reading else {
+        return reading;
+    };
+    f.outcome
 }

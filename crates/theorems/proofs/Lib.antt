@@ -5,3 +5,4 @@ pub mod Owners
 pub mod Sums
 pub mod Slots
 pub mod Freedom
+pub mod Texts

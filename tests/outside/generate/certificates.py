@@ -1,10 +1,13 @@
 """Certificates, foreign, mixed and damaged.
 
+    is_small               whether a plan's sets are varied at length
     bytes_changed          some bytes in turn, by a random change
     words_replaced         some 32-bit numbers in turn, by an odd number
     resized                shorter and longer certificates
     foreign_certificates   of sets that pass
     broken_certificates    of sets that are mixed, renamed or damaged
+    one_that_passes        a set that passes
+    one_broken             the certificate of a set with one change
 """
 
 from model.certificate import OPENING, write
@@ -19,6 +22,11 @@ from .sets import (
 )
 
 BEFORE_WORDS = 5
+SMALL = 1_500  # cells
+
+
+def is_small(plan):
+    return plan.n * plan.m <= SMALL
 
 
 def bytes_changed(rng, certificate, count):
@@ -71,3 +79,28 @@ def broken_certificates(rng, plan, factors, count):
         yield write(plan, reordered_set(rng, start))
         yield write(plan, changed_product(rng, plan, start))
         yield write(plan, damaged_set(rng, plan, start))
+
+
+def one_that_passes(rng, plan, factors):
+    """A set, most often with other pivots. Of a large plan the engine's own."""
+    sort = rng.choice((None, shuffled_tail, foreign_set, foreign_set)) if is_small(plan) else None
+    if sort is foreign_set:
+        return foreign_set(rng, plan)
+    return shuffled_tail(rng, factors) if sort else factors
+
+
+def one_broken(rng, plan, factors):
+    """The certificate of a set with one change; now and then it passes, where this
+    alters nothing. Of a large plan a byte is changed."""
+    sort = rng.choice(("byte", "length", "set", "set", "set")) if is_small(plan) else "byte"
+    if sort == "set":
+        changes = (
+            lambda: mixed_set(rng, plan, factors) or factors,
+            lambda: reordered_set(rng, factors),
+            lambda: changed_product(rng, plan, factors),
+            lambda: damaged_set(rng, plan, factors),
+        )
+        return write(plan, rng.choice(changes)())
+    certificate = write(plan, factors)
+    changed = resized if sort == "length" else lambda rng, whole: bytes_changed(rng, whole, 1)
+    return rng.choice(list(changed(rng, certificate)))

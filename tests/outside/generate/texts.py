@@ -282,11 +282,11 @@ def question_text(rng, plan):
 
 
 def values_text(rng, values):
-    """Between spaces or line feeds, with or without a line feed at the end;
-    now and then a field that is odd, one more or one fewer, or a byte changed."""
+    """Between spaces or line feeds, and now and then without a line feed at the end,
+    with a field that is odd, one more or one fewer, or with a byte changed."""
     fields = [b"%d" % value for value in values]
     if fields and rng.random() < 0.3:
         place = rng.randrange(len(fields))
         fields[place : place + 1] = rng.choice(([], [b"0", b"0"], [rng.choice(ODD_FIELDS)]))
-    text = rng.choice((b" ", b"\n")).join(fields) + rng.choice((b"", b"\n"))
+    text = rng.choice((b" ", b"\n")).join(fields) + rng.choice((b"", b"\n", b"\n", b"\n"))
     return rng.choice(DAMAGES[:5])(rng, text) if text and rng.random() < 0.2 else text

@@ -14,8 +14,10 @@ own; the line of owners and the verbs `words` and `settings`, slips 4, 6 and 7 o
 import re
 
 from .kernel import settings
+from .limits import GREATEST_ENTRIES
+from .plan_text import read_plan
 from .questions import answer_from_factors
-from .refusals import QUESTION_VALUE, Refusal
+from .refusals import MALFORMED, Refusal
 from .report import printed, refused, stages
 from .slots import slots_from_factors
 
@@ -35,17 +37,13 @@ def ask_words(text, h):
 
 
 def _output(text, values, call, line):
-    """The line of what the call gives, or a refusal. The index of a value that
-    is no residue counts from 1, as in all printed text."""
+    """The line of what the call gives, or a refusal."""
     result = stages(text)
     if isinstance(result, Refusal):
         return refused(result)
     plan, (factors, _) = result
     found = call(plan, factors, values)
-    if isinstance(found, Refusal):
-        counted = found.detail + (found.number == QUESTION_VALUE)
-        return refused(Refusal(found.number, counted))
-    return line(found)
+    return refused(found) if isinstance(found, Refusal) else line(found)
 
 
 def answer_line(answer):
@@ -62,12 +60,12 @@ def _line(verdict, cells):
 
 def ask_by_text(text):
     """What follows the plan's text is the question."""
-    return ask(*_parts(text))
+    return _by_text(text, ask)
 
 
 def ask_words_by_text(text):
     """What follows the plan's text are the slot values."""
-    return ask_words(*_parts(text))
+    return _by_text(text, ask_words)
 
 
 def ask_settings(text):
@@ -84,11 +82,21 @@ def settings_lines(found):
     return b"".join([_line("free", [len(found)]), *(_line("setting", s) for s in found)])
 
 
-def _parts(text):
-    """The plan's text and the values that follow it."""
+def _by_text(text, by_values):
+    """The lines are judged in order: those of the plan, then a last one that has no
+    line feed, then the values."""
     text = text[:GREATEST_INPUT]
     end = plan_end(text)
-    return text[:end], _values(text[end:])
+    plan, after = text[:end], text[end:]
+    if after and not after.endswith(b"\n"):
+        return refused(_reading_refusal(plan) or Refusal(MALFORMED, text.count(b"\n") + 1))
+    return by_values(plan, _values(after))
+
+
+def _reading_refusal(text):
+    """By which a plan's text is refused when it is read, or None."""
+    plan = read_plan(text, GREATEST_ENTRIES)
+    return plan if isinstance(plan, Refusal) else None
 
 
 def plan_end(text):
@@ -100,7 +108,7 @@ def plan_end(text):
 
 def _values(text):
     """Decimal numbers without sign or leading zero, between single spaces or
-    line feeds; one line feed may end them."""
+    line feeds; a line feed ends them."""
     text = text.removesuffix(b"\n")
     return tuple(map(_value, re.split(b"[ \n]", text))) if text else ()
 

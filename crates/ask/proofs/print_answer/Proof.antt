@@ -18,11 +18,11 @@ write-line-requires c κs = search needs
 array-share-prefix-out : tie.Need-array-share-prefix-out
 array-share-prefix-out c = let a = c .before .before .write-line in line-inside _ _ _ _ (a .kept .1 .1 .1 .0) (a .ensures)
 
-slice-aggregate-write-all : tie.Need-slice-aggregate-write-all
-slice-aggregate-write-all c = let a = c .before .before .before .write-line in sym (length-take-le _ _ (line-inside _ _ _ _ (a .kept .1 .1 .1 .0) (a .ensures)))
+slice-aggregate-print-only : tie.Need-slice-aggregate-print-only
+slice-aggregate-print-only c = let a = c .before .before .before .write-line in sym (length-take-le _ _ (line-inside _ _ _ _ (a .kept .1 .1 .1 .0) (a .ensures)))
 
-write-all-requires : tie.Need-write-all-requires
-write-all-requires c κs = search needs
+print-only-requires : tie.Need-print-only-requires
+print-only-requires c κs = search needs
 
 returns : tie.Need-returns
 returns c = search needs
@@ -35,6 +35,6 @@ print-answer-spec =
     slice-aggregate-write-line-2
     write-line-requires
     array-share-prefix-out
-    slice-aggregate-write-all
-    write-all-requires
+    slice-aggregate-print-only
+    print-only-requires
     returns)

@@ -1,6 +1,6 @@
 -- `plq_time_words` meets its contract. Assumes nothing.
 use borrow.Author.Needs.{needs}
-use Rattle.bench_calls.proofs.Written.{words-too-short, words-too-many, words-written}
+use Rattle.bench_calls.proofs.Written.{too-short, too-many, written}
 use Rattle.bench_calls.proofs.plq_time_words.Statement.{statement}
 use Rattle.bench_calls.proofs.plq_time_words.Tie as tie
 
@@ -11,7 +11,7 @@ same-length : tie.Need-same-length
 same-length c = search needs
 
 returns : tie.Need-returns
-returns c = words-too-short _ _ _ _ (c .before .before .before .before .if1 .taken) (c .before .before .clear-bytes .ensures)
+returns c = too-short _ _ _ _ (c .before .before .before .before .if1 .taken) (c .before .before .clear-bytes .ensures)
 
 clear-bytes-requires-2 : tie.Need-clear-bytes-requires-2
 clear-bytes-requires-2 c κs = search needs
@@ -20,7 +20,7 @@ same-length-2 : tie.Need-same-length-2
 same-length-2 c = search needs
 
 returns-2 : tie.Need-returns-2
-returns-2 c = words-too-many _ _ _ _ (c .before .before .before .before .before .if1 .left) (c .before .before .before .before .if2 .taken) (c .before .before .clear-bytes2 .ensures)
+returns-2 c = too-many _ _ _ _ (c .before .before .before .before .before .if1 .left) (c .before .before .before .before .if2 .taken) (c .before .before .clear-bytes2 .ensures)
 
 slice-aggregate-words : tie.Need-slice-aggregate-words
 slice-aggregate-words c = search needs
@@ -33,7 +33,7 @@ same-length-3 c = search needs
 
 returns-3 : tie.Need-returns-3
 returns-3 c =
-    words-written _ _ _ _ (c .before .before .before .before .before .before .before .if1 .left) (c .before .before .before .before .before .before .if2 .left) _ _ _
+    written _ _ _ _ (c .before .before .before .before .before .before .before .if1 .left) (c .before .before .before .before .before .before .if2 .left) _ _ _
     (c .before .before .before .words .ensures)
 
 pub plq-time-words-spec : {M : Type 1} → statement M

@@ -1,19 +1,20 @@
 -- `from_text` meets its contract. Assumes nothing.
 use mathlib.Core.Path.{sym}
+use native.Mathlib.Omega.{arith}
 use lib.Seq.{length-take-le}
-use Rattle.ask.proofs.Cutting.{end-inside, no-question, the-question}
+use Rattle.ask.proofs.Cutting.{no-question, the-question}
 use borrow.Author.Needs.{needs}
 use Rattle.ask.proofs.question.from_text.Statement.{statement}
 use Rattle.ask.proofs.question.from_text.Tie as tie
 
-values-end-requires : tie.Need-values-end-requires
-values-end-requires c κs = search needs
-
 returns : tie.Need-returns
-returns c = no-question _ _ (c .before .values-end .ensures) (c .if1 .taken) _
+returns c = no-question _ (c .if1 .taken) _
+
+sub-values : tie.Need-sub-values
+sub-values c = search needs
 
 slice-aggregate-values : tie.Need-slice-aggregate-values
-slice-aggregate-values c = sym (length-take-le _ _ (end-inside _ _ (c .before .before .values-end .ensures)))
+slice-aggregate-values c = sym (length-take-le _ _ (omega arith))
 
 values-requires : tie.Need-values-requires
 values-requires c κs = search needs
@@ -22,15 +23,9 @@ same-length : tie.Need-same-length
 same-length c = search needs
 
 returns-2 : tie.Need-returns-2
-returns-2 c = the-question _ _ (c .before .before .before .before .before .before .values-end .ensures) (c .before .before .before .before .before .if1 .left) _ _ _ (c .before .before .values .ensures)
+returns-2 c = the-question _ (c .before .before .before .before .before .if1 .left) _ _ _ (c .before .before .values .ensures)
 
 pub from-text-spec : {M : Type 1} → statement M
 from-text-spec =
     tie.close
-    (tie.spec
-    values-end-requires
-    returns
-    slice-aggregate-values
-    values-requires
-    same-length
-    returns-2)
+    (tie.spec returns sub-values slice-aggregate-values values-requires same-length returns-2)

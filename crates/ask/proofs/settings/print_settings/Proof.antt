@@ -30,11 +30,14 @@ begin-requires c κs = search needs
 array-share-prefix-out : tie.Need-array-share-prefix-out
 array-share-prefix-out c = let a = c .before .before .before .before .before .before .begin in line-inside _ _ (a .result .size) _ (a .kept .1 .1 .1 .1 .1 .0) (a .ensures .first)
 
-slice-aggregate-write-all : tie.Need-slice-aggregate-write-all
-slice-aggregate-write-all c = let a = c .before .before .before .before .before .before .before .begin in sym (length-take-le _ _ (line-inside _ _ (a .result .size) _ (a .kept .1 .1 .1 .1 .1 .0) (a .ensures .first)))
+slice-aggregate-print : tie.Need-slice-aggregate-print
+slice-aggregate-print c = let a = c .before .before .before .before .before .before .before .begin in sym (length-take-le _ _ (line-inside _ _ (a .result .size) _ (a .kept .1 .1 .1 .1 .1 .0) (a .ensures .first)))
 
-write-all-requires : tie.Need-write-all-requires
-write-all-requires c κs = search needs
+print-requires : tie.Need-print-requires
+print-requires c κs = search needs
+
+returns : tie.Need-returns
+returns c = search needs
 
 slice-aggregate-print-lines : tie.Need-slice-aggregate-print-lines
 slice-aggregate-print-lines c = search needs
@@ -57,8 +60,8 @@ slice-aggregate-print-lines-6 c = search needs
 print-lines-requires : tie.Need-print-lines-requires
 print-lines-requires c κs = search needs
 
-returns : tie.Need-returns
-returns c = search needs
+returns-2 : tie.Need-returns-2
+returns-2 c = search needs
 
 pub print-settings-spec : {M : Type 1} → statement M
 print-settings-spec =
@@ -72,8 +75,9 @@ print-settings-spec =
     slice-aggregate-begin-6
     begin-requires
     array-share-prefix-out
-    slice-aggregate-write-all
-    write-all-requires
+    slice-aggregate-print
+    print-requires
+    returns
     slice-aggregate-print-lines
     slice-aggregate-print-lines-2
     slice-aggregate-print-lines-3
@@ -81,4 +85,4 @@ print-settings-spec =
     slice-aggregate-print-lines-5
     slice-aggregate-print-lines-6
     print-lines-requires
-    returns)
+    returns-2)

@@ -1,9 +1,10 @@
--- What is printed of the stages of a text is its report.
+-- What is printed of the stages of a text is its report, and their first refusal is the report's outcome.
 use mathlib.Core.Path.{_≡_, refl, sym, ap, _∙_, subst}
 use mathlib.Core.List.{List}
 use Prim.Native.Nat.{ℕ, _≤_}
 use lib.ListN.{length, take}
 use Rattle.lists.specs.Filled.{zeros}
+use Rattle.refusals.specs.Refusals.{_▷_}
 use Rattle.refusals.specs.declared.Outcome.{Outcome}
 use Rattle.refusals.specs.declared.Outcome.the-variants.{Passed, Refused}
 use Rattle.refusals.specs.Table.{storageTooShort}
@@ -21,7 +22,7 @@ use Rattle.stages.specs.Stages.{reading, factoredOf}
 use Rattle.stages.specs.Staged.{FactorsHeld, StagedOwned}
 use Rattle.report_lib.specs.Held.{heldSummary, heldList, heldText, stagedText}
 use Rattle.report_lib.specs.Needs.{ReportStagedReady}
-use Rattle.report_lib.specs.Reporting.{summaryOf, openListOf, reportReadOf, reportOf, ReportLists, Reports}
+use Rattle.report_lib.specs.Reporting.{summaryOf, openListOf, reportReadOf, reportOf, reportOutcome, ReportLists, Reports, ReportsAll}
 
 -- what follows a test counts only where it passes
 after-test : (o : Outcome) (x y : List ℕ) → (o ≡ Passed → x ≡ y) → printed o x ≡ printed o y
@@ -31,6 +32,10 @@ after-test (Refused k d) x y e = refl
 after-counted : (o : Outcome) (j : ℕ) (x y : List ℕ) → (o ≡ Passed → x ≡ y) → printed (countedFromOne j o) x ≡ printed (countedFromOne j o) y
 after-counted Passed j x y e = e refl
 after-counted (Refused k d) j x y e = refl
+
+after-outcome : (t o o′ : Outcome) → (t ≡ Passed → o ≡ o′) → (t ▷ o) ≡ (t ▷ o′)
+after-outcome Passed o o′ e = e refl
+after-outcome (Refused k d) o o′ e = refl
 
 module _ (x : ReadAnswer) (ow : List ℕ) (s : Stages) (A : Compressed) (h : Storage) (same : s .reading ≡ x .result) where
   -- the report after reading, and after factoring
@@ -88,7 +93,7 @@ module _ (text : List ℕ) (s : Stages) (A : Compressed) (ow w₀ : List ℕ) (h
         clear = staged .cleared ∙ ap zeros (sym same);
       }
 
-  pub reported : (size : ℕ) (out out′ w′ : List ℕ) → Prints (stagedText s A ow h) size out out′ (h .work) w′ → Reports text size out out′ w₀ w′
+  reported : (size : ℕ) (out out′ w′ : List ℕ) → Prints (stagedText s A ow h) size out out′ (h .work) w′ → Reports text size out out′ w₀ w′
   unfolding reportOf
   reported size out out′ w′ p =
       let staged = owned .stages in
@@ -99,3 +104,14 @@ module _ (text : List ℕ) (s : Stages) (A : Compressed) (ow w₀ : List ℕ) (h
             .text-is;
         cleared = p .cleared ∙ ap zeros (ap length (staged .cleared) ∙ length-zeros (length w₀));
       }
+
+  outcome-is : (s .reading .outcome ▷ s .factored .outcome) ≡ reportOutcome text
+  unfolding reportOutcome
+  outcome-is =
+      let staged = owned .stages in
+      after-outcome (s .reading .outcome) (s .factored .outcome) (factoredOf (reading text) .outcome) (λ e. staged .factors e .outcome-is)
+      ∙ ap (λ (r : Reading). r .outcome ▷ factoredOf (reading text) .outcome) (staged .reading-is)
+
+  pub reported-all : (o : Outcome) (size : ℕ) (out out′ w′ : List ℕ) → o ≡ (s .reading .outcome ▷ s .factored .outcome) → Prints (stagedText s A ow h) size out out′ (h .work) w′
+      → ReportsAll text (record { outcome = o; size = size }) out out′ w₀ w′
+  reported-all o size out out′ w′ e p = record { outcome = e ∙ outcome-is; reports = reported size out out′ w′ p }

@@ -1,0 +1,26 @@
+// What was printed, put in a buffer of any length.
+ghost use lib.ListN.{length};
+ghost use Rattle.certificate.specs.Writing.{roomFor};
+ghost use Rattle.refusals.specs.Refusals.{_▷_};
+ghost use Rattle.plq.specs.Held.{Puts};
+ghost use Rattle.sparse.specs.Views.{before, after};
+use byte_buffer::put_bytes;
+use lists::clear_bytes;
+use refusals::Outcome;
+use refusals::numbers::WRONG_LENGTH;
+
+// Puts bytes in a buffer, zero past their end, where nothing was refused and the buffer holds them.
+// It is cleared first, so that every refusal leaves it all zero.
+pub fn deliver(o: Outcome, bytes: &[u8], buffer: &mut [u8]) -> Outcome
+    ensures { λ r. ⌜ Puts (o ▷ roomFor (length (before buffer)) (before bytes)) (before bytes) r (before buffer) (after buffer) ⌝ }
+{
+    clear_bytes(buffer);
+    let Outcome::Passed = o else {
+        return o;
+    };
+    if buffer.len() < bytes.len() {
+        return Outcome::Refused(WRONG_LENGTH, 0);
+    }
+    put_bytes(bytes, buffer, 0);
+    Outcome::Passed
+}
