@@ -53,13 +53,15 @@ impl Modulus {
         }
     }
 
-    // -a
+    // -a: p less a, or 0 itself, and nothing is divided
     pub fn negate(self, a: u32) -> u32
         requires { ⌜ a < self .p ⌝ }
         ensures { λ r. ⌜ Residue (self .p) (negMod (self .p) a) r ⌝ }
     {
-        let p = self.p as u64;
-        self.reduce(p - a as u64)
+        if a == 0 {
+            return 0;
+        }
+        self.p - a
     }
 
     // a b
@@ -79,19 +81,28 @@ impl Modulus {
         if negative { self.negate(r) } else { r }
     }
 
-    // The inverse of a, by division of p: t * a = x modulo p throughout, and x falls to 1.
+    // The inverse of a, by Euclid's divisions of p and a: t1 * x0 + t0 * x1 = p throughout, and t1 * a is x1 or -x1 modulo p.
     pub fn invert(self, a: u32) -> u32
         requires { ⌜ Invertible (self .p) a ⌝ }
         ensures { λ r. ⌜ Residue (self .p) (invMod (self .p) a) r ⌝ }
     {
         let p = self.p;
-        let mut x = a;
-        let mut t: u32 = 1;
-        while x != 1 {
-            t = self.negate(self.multiply(p / x, t));
-            x = p % x;
+        let mut x0 = p;
+        let mut x1 = a;
+        let mut t0: u32 = 0;
+        let mut t1: u32 = 1;
+        let mut odd = false;
+        while x1 != 1 {
+            let d = x0 / x1;
+            let x2 = x0 - d * x1;
+            let t2 = t0 + d * t1;
+            x0 = x1;
+            x1 = x2;
+            t0 = t1;
+            t1 = t2;
+            odd = !odd;
         }
-        t
+        if odd { p - t1 } else { t1 }
     }
 }
 
