@@ -39,7 +39,7 @@ module _ (p r : ℕ) (U : Compressed) (C o₀ w₀ : List ℕ) (d : ColumnsReady
   row-part = length-take-le (length o₀) w₀ (d .room)
 
   pub columns-ready : PivotsReady p r U C o₀ (take (length o₀) w₀)
-  columns-ready = record { factor = d .factor; long = sym row-part; clear = cleared (take (length o₀) w₀) (length o₀) (zeros-take (length o₀) w₀ (d .room) (d .clear)) }
+  columns-ready = record { factor = d .factor; narrow = d .narrow; long = sym row-part; clear = cleared (take (length o₀) w₀) (length o₀) (zeros-take (length o₀) w₀ (d .room) (d .clear)) }
 
   pub columns-done : (o part : List ℕ) → length part ≡ length (take (length o₀) w₀) → ColumnsListed (tabulate (length o₀) (openCell p (length o₀) (vector C) (matrix U) r)) o part
       → AllColumns p r C U o (part ++ drop (length o₀) w₀)

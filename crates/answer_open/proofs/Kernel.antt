@@ -3,7 +3,7 @@ use mathlib.Core.Path.{_≡_, refl, sym, ap, _∙_}
 use mathlib.Core.Logic.{_⊎_, inl, inr}
 use mathlib.Core.Bool.{Bool, cond}
 use Prim.Native.Nat.{ℕ, zero, suc, _+_, _-_, _*_, _%_, _≤_, _<_}
-use native.Mathlib.Nat.{mod-eq-of-lt, add-mul-mod-self-left}
+use native.Mathlib.Nat.{mod-eq-of-lt, zero-mod, add-mul-mod-self-left}
 use native.Mathlib.Omega.{arith}
 use lib.Dec.{eqb, leb}
 use borrow.Author.Tests.{le-leb, lt-leb}
@@ -18,10 +18,12 @@ use Rattle.algebra.specs.Reduction.{reduced, AllZero, Lowest}
 use Rattle.algebra.proofs.Congruence.{exact, _⊙_}
 use Rattle.algebra.proofs.Inverse.{one-not-zero}
 use Rattle.algebra.proofs.Dot.{dot-δ, δ-same, δ-other}
+use Rattle.algebra.proofs.Substitution.{right-none}
 use Rattle.algebra.proofs.Verdict.{not-both, verdict, closed-answer}
-use Rattle.row_space.proofs.Substitutions.{δ-small}
+use Rattle.row_space.proofs.Substitutions.{δ-small, backU-small, backU-right}
 use Rattle.row_space.proofs.Solutions.{lowest-cases}
 use Rattle.row_space.specs.Solve.{lowestOf}
+use Rattle.row_space.specs.Substitution.{backU}
 use Rattle.answer_open.specs.Opening.{openCell}
 
 -- y that is 0 at the pivot columns of the first k rows is not changed by them
@@ -123,6 +125,14 @@ module _ {p : ℕ} (prime : Prime p) (m r : ℕ) (C : Vector) (U : Matrix) (colu
       go : Cases j → cell j ≡ 0
       go (inl (q, none)) = absurd (d (zero-vanishes j h none z k))
       go (inr (q, low)) = q
+
+  -- substitution through U from values that are 0 at the pivot columns ends at 0 in every open column
+  pub filled-closed : (z : Vector) → ((t : ℕ) → z t < p) → ((l : ℕ) → l < r → z (C l) ≡ 0) → (j : ℕ) → j < m → (backU p m C U r z j ≡ 0 → ⊥) → cell j ≡ 0
+  filled-closed z residues off j h nonzero =
+      let e = backU-small p m C U r z (omega (arith, prime .two)) residues j in
+      differs-closed j h (backU p m C U r z)
+      (right-none prime factors (backU p m C U r z) (backU-right prime factors r (omega arith) z (record { done = λ l b g. absurd (omega arith); todo = off })))
+      (λ q. nonzero (sym (mod-eq-of-lt e) ∙ q .same ∙ zero-mod p))
 
   -- a column that is no pivot column is never open
   pub other-closed : (i : ℕ) → r ≤ i → i < m → cell (C i) ≡ 0

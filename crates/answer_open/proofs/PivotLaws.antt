@@ -1,4 +1,4 @@
--- The pivot column of a row of U, by the number of closed columns beside it: none makes it open, one makes it closed.
+-- The pivot column of a row of U, by its mark and by the number of closed columns beside it: none makes it open, one makes it closed.
 use mathlib.Core.Path.{_≡_, sym, ap, _∙_}
 use mathlib.Core.Logic.{_≢_}
 use mathlib.Core.List.{List}
@@ -82,6 +82,12 @@ module _ (p r : ℕ) (U : Compressed) (C : List ℕ) (m : ℕ) (f : EchelonPasse
 module _ (p k r : ℕ) (U : Compressed) (C o w : List ℕ) (d : PivotCellReady p k r U C o w) where
   pub count-ready : CountReady p k U o
   count-ready = record { formed = rw (d .long) (d .unit .factor .formed); inside = omega (arith, d .unit .inside, d .unit .factor .rows) }
+
+  pub pivot-place : (c : ℕ) → c ≡ getD C k 0 → c < length o
+  pivot-place c e = omega (arith, e, d .long, pivot-inside p r U C (length w) (d .unit .factor) k (d .unit .inside))
+
+  pub pivot-marked : (c : ℕ) → c ≡ getD C k 0 → (getD o c 0 ≡ 0 → ⊥) → PivotCell (openCell p (length w) (vector C) (matrix U) r (getD C k 0)) 0 w
+  pivot-marked c e nonzero = record { value = sym (d .marked (λ q. nonzero (ap (λ (i : ℕ). getD o i 0) e ∙ q))); row = d .unit .clear }
 
   module _ (c v : ℕ) (ec : c ≡ getD C k 0) (ev : v ≡ closedOthers c o (rowOf (U .starts) k (U .cols))) where
     counted : closedOthers (getD C k 0) o (rowOf (U .starts) k (U .cols)) ≡ v

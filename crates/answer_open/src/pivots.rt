@@ -2,17 +2,18 @@
 ghost use lib.ListN.{length, getD};
 ghost use Rattle.lists.specs.Tabulate.{tabulate};
 ghost use Rattle.sparse.specs.Views.{before, after, viewAt, viewBefore, viewedAt, viewedBefore, vectorBefore, matrixBefore};
-ghost use Rattle.answer_open.specs.Opening.{openCell, PivotCell, ColumnsListed, AllColumns};
-ghost use Rattle.answer_open.specs.Needs.{PivotCellReady, PivotsReady, ColumnsReady};
+ghost use Rattle.answer_open.specs.Opening.{openCell, Settled, PivotCell, ColumnsListed, AllColumns};
+ghost use Rattle.answer_open.specs.Needs.{PivotCellReady, CountingReady, LeftReady, PivotsReady, ColumnsReady};
 use crate::count::row_closed;
 use crate::unit::unit_open;
+use crate::witness::mark_closed;
 use lists::clear;
 use lists::index;
 use residue::Modulus;
 use sparse::words::word;
 
-// 1 where row k's pivot column is open, else 0. It is open where all other columns of the row are, closed where one is not;
-// only where more are not open its unit question is reduced.
+// 1 where row k's pivot column is open, else 0. It is closed where it is marked, open where all other columns of the row are, closed
+// where one is not; only where more are not open its unit question is reduced.
 fn pivot_open(
     q: Modulus,
     us: &[u32],
@@ -32,6 +33,9 @@ fn pivot_open(
     ensures { λ v. ⌜ PivotCell (openCell (q .p) (length (before work)) (vectorBefore co cob) (matrixBefore us usb uc ucb uv uvb) r (getD (viewBefore co cob) k 0)) v (after work) ⌝ }
 {
     let d = word(co, cob, k);
+    if marks[index(d)] != 0 {
+        return 0;
+    }
     let closed = row_closed(us, usb, uc, ucb, uv, uvb, marks, q.p, k, d);
     if closed == 0 {
         return 1;
@@ -40,6 +44,64 @@ fn pivot_open(
         return 0;
     }
     unit_open(q, us, usb, uc, ucb, uv, uvb, co, cob, k, r, work)
+}
+
+// The verdicts of the pivot columns from the last row up, while each row has at most one closed column beside its own; gives how many rows
+// are left.
+fn settle_by_counts(
+    p: u32,
+    us: &[u32],
+    usb: &[u8],
+    uc: &[u32],
+    ucb: &[u8],
+    uv: &[u32],
+    uvb: &[u8],
+    co: &[u32],
+    cob: &[u8],
+    r: usize,
+    marks: &mut [u32],
+) -> usize
+    requires { ⌜ CountingReady p r (viewedAt us usb uc ucb uv uvb) (viewAt co cob) (now marks) ⌝ }
+    ensures { λ k. ⌜ Settled p r (viewedBefore us usb uc ucb uv uvb) (viewBefore co cob) (length (before marks)) (after marks) k ⌝ }
+{
+    let mut k = r;
+    while 0 < k {
+        let d = word(co, cob, k - 1);
+        let closed = row_closed(us, usb, uc, ucb, uv, uvb, marks, p, k - 1, d);
+        if 1 < closed {
+            return k;
+        }
+        marks[index(d)] = (1 - closed) as u32;
+        k -= 1;
+    }
+    k
+}
+
+// The verdicts of the pivot columns of the first `left` rows, where the others are settled.
+fn settle_left(
+    q: Modulus,
+    us: &[u32],
+    usb: &[u8],
+    uc: &[u32],
+    ucb: &[u8],
+    uv: &[u32],
+    uvb: &[u8],
+    co: &[u32],
+    cob: &[u8],
+    r: usize,
+    left: usize,
+    marks: &mut [u32],
+    work: &mut [u64],
+)
+    requires { ⌜ LeftReady (q .p) r left (viewedAt us usb uc ucb uv uvb) (viewAt co cob) (now marks) (now work) ⌝ }
+    ensures { λ _. ⌜ ColumnsListed (tabulate (length (before marks)) (openCell (q .p) (length (before marks)) (vectorBefore co cob) (matrixBefore us usb uc ucb uv uvb) r)) (after marks) (after work) ⌝ }
+{
+    let mut k = left;
+    while 0 < k {
+        k -= 1;
+        let j = index(word(co, cob, k));
+        marks[j] = pivot_open(q, us, usb, uc, ucb, uv, uvb, co, cob, marks, k, r, work);
+    }
 }
 
 // The open columns, where the working row has a cell for each column.
@@ -61,12 +123,9 @@ fn open_pivots(
     ensures { λ _. ⌜ ColumnsListed (tabulate (length (before marks)) (openCell (q .p) (length (before marks)) (vectorBefore co cob) (matrixBefore us usb uc ucb uv uvb) r)) (after marks) (after work) ⌝ }
 {
     clear(marks);
-    let mut k = r;
-    while 0 < k {
-        k -= 1;
-        let j = index(word(co, cob, k));
-        marks[j] = pivot_open(q, us, usb, uc, ucb, uv, uvb, co, cob, marks, k, r, work);
-    }
+    let left = settle_by_counts(q.p, us, usb, uc, ucb, uv, uvb, co, cob, r, marks);
+    mark_closed(q, us, usb, uc, ucb, uv, uvb, co, cob, r, left, marks);
+    settle_left(q, us, usb, uc, ucb, uv, uvb, co, cob, r, left, marks, work);
 }
 
 // Fills the list `marks` with 1 for each open column and 0 for each closed one.

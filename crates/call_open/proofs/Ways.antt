@@ -1,7 +1,7 @@
 -- One law for each way out of a call that lists the open columns. `check` is the check of the set, stored or in a certificate.
 use mathlib.Core.Path.{_≡_, refl, sym, ap, subst, _∙_}
 use mathlib.Core.List.{List}
-use Prim.Native.Nat.{ℕ}
+use Prim.Native.Nat.{ℕ, _≤_}
 use native.Mathlib.Omega.{arith}
 use lib.Dec.{eqb}
 use lib.ListN.{length}
@@ -19,17 +19,19 @@ use Rattle.answer_question.proofs.Passed.{passed-ready}
 use Rattle.answer_open.specs.Needs.{EchelonPassed, ColumnsReady}
 use Rattle.answer_open.specs.Opening.{ColumnsListed, AllColumns}
 use Rattle.answer_open.proofs.AllColumns.{set-factor}
+use Rattle.limits.specs.Limits.{largestSize}
 use Rattle.call_check.specs.Calls.{Checks}
 use Rattle.call_check.proofs.Checked.{Checked}
 use Rattle.call_open.specs.Calls.{columnsAfter, Listed, listed, Lists}
 
 -- what the open columns need
-pub columns-ready : (p n m : ℕ) (A : Compressed) (s : Set) (l w : List ℕ) (width : ℕ) → length l ≡ m → Checked p n m A s width → w ≡ zeros width
+pub columns-ready : (p n m : ℕ) (A : Compressed) (s : Set) (l w : List ℕ) (width : ℕ) → length l ≡ m → m ≤ largestSize → Checked p n m A s width → w ≡ zeros width
     → ColumnsReady p (s .r) (s .U) (s .C) l w
-columns-ready p n m A s l w width long c clear =
+columns-ready p n m A s l w width long few c clear =
     let wide : length w ≡ width = ap length clear ∙ length-zeros width in
     record {
       factor = subst (EchelonPassed p (s .r) (s .U) (s .C)) (sym long) (set-factor p n m s (passed-ready p n m A s (c .prime) (c .sized .row-order) (c .sized .column-order) (c .sized .lower-starts) (c .sized .upper-starts) (c .judged)));
+      narrow = omega arith;
       room = omega (arith, c .room);
       clear = clear ∙ ap zeros (sym wide);
     }

@@ -3,7 +3,6 @@
 --   LowerReady p L w           L is well formed and lower triangular, with a column for each cell of w
 --   LowerRowReady p k L w      the same, and k is one of its rows
 --   LowerOrder p L R w x       R gives each row of L a place in x, which is all zero
---   RowTimesReady p cs vs z    the columns cs and values vs are a row of a well-formed matrix with a column for each cell of z; z has residues
 --   UpperRowReady p k U z      U is well formed, with a column for each cell of z, and k is one of its rows; z has residues
 --   UpperReady p r U C z       the same for the first r rows of U, and C gives each a place in z
 use Prim.Native.Nat.{ℕ, _+_, _*_, _≤_, _<_}
@@ -13,7 +12,7 @@ use mathlib.Core.List.{List}
 use lib.ListN.{length}
 use Rattle.lists.specs.Filled.{zeros}
 use Rattle.algebra.specs.Prime.{Prime}
-use Rattle.sparse.specs.Row.{Below, Row}
+use Rattle.sparse.specs.Row.{Below}
 use Rattle.sparse.specs.Matrix.{Compressed, matrix, form}
 use Rattle.pluq.specs.Order.{permutation}
 use Rattle.pluq.specs.Shape.{lower}
@@ -43,11 +42,6 @@ pub record LowerOrder (p : ℕ) (L : Compressed) (R w x : List ℕ) : Type 0 whe
   pub long : length R ≡ length x
   pub rank : length w ≤ length x
   pub clear : x ≡ zeros (length x)
-
-pub record RowTimesReady (p : ℕ) (cols vals z : List ℕ) : Type 0 where
-  pub positive : 0 < p
-  pub row : Row p (length z) cols vals
-  pub small : Below p z
 
 pub record UpperRowReady (p k : ℕ) (U : Compressed) (z : List ℕ) : Type 0 where
   pub positive : 0 < p

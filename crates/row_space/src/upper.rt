@@ -1,36 +1,16 @@
 // z by substitution through U, from its last row up.
 ghost use mathlib.Core.Path.{_≡_};
-ghost use Prim.Native.Nat.{_%_};
 ghost use lib.ListN.{length};
 ghost use Rattle.algebra.specs.Matrix.{vector};
-ghost use Rattle.residue.specs.Arithmetic.{Residue};
-ghost use Rattle.sparse.specs.Row.{weigh};
-ghost use Rattle.sparse.specs.Views.{before, after, viewAt, viewBefore, viewedAt, vectorBefore, matrixBefore};
+ghost use Rattle.sparse.specs.Views.{before, after, viewAt, viewedAt, vectorBefore, matrixBefore};
 ghost use Rattle.row_space.specs.Substitution.{missing, throughU};
-ghost use Rattle.row_space.specs.Needs.{RowTimesReady, UpperRowReady, UpperReady};
+ghost use Rattle.row_space.specs.Needs.{UpperRowReady, UpperReady};
 use lists::index;
 use residue::Modulus;
+use sparse::dense::dot;
 use sparse::words::bytes_part;
-use sparse::words::count;
 use sparse::words::list_part;
 use sparse::words::word;
-
-// The product of a sparse row and z.
-fn row_times(q: Modulus, cols: &[u32], cb: &[u8], vals: &[u32], vb: &[u8], z: &[u32]) -> u32
-    requires { ⌜ RowTimesReady (q .p) (viewAt cols cb) (viewAt vals vb) (now z) ⌝ }
-    ensures { λ s. ⌜ Residue (q .p) (weigh (viewBefore cols cb) (viewBefore vals vb) (vector (before z)) % q .p) s ⌝ }
-{
-    let n = count(cols, cb);
-    let mut s: u32 = 0;
-    let mut t = 0;
-    while t < n {
-        let j = index(word(cols, cb, t));
-        let v = word(vals, vb, t);
-        s = q.add(s, q.multiply(v, z[j]));
-        t += 1;
-    }
-    s
-}
 
 // What row k of a stored matrix times z lacks to be 0.
 pub fn missing_value(
@@ -49,7 +29,7 @@ pub fn missing_value(
 {
     let a = index(word(us, usb, k));
     let e = index(word(us, usb, k + 1));
-    q.negate(row_times(
+    q.negate(dot(
         q,
         list_part(uc, a, e),
         bytes_part(uc.len(), ucb, a, e),

@@ -8,6 +8,7 @@ use Rattle.sparse.specs.Set.{Set}
 use Rattle.certificate.specs.Reading.{setOfCertificate}
 use Rattle.certificate.proofs.Passed.{headed}
 use Rattle.call_check.specs.Calls.{checkCertificateOf}
+use Rattle.call_check.proofs.Theorems.{certificate-exactly}
 use Rattle.call_check.proofs.Checked.{header-passed, certificate-checked}
 use Rattle.call_open.specs.Calls.{openCertificateOf}
 use Rattle.call_open.proofs.Ways.{columns-ready, wrong-length, refuses, lists}
@@ -72,7 +73,7 @@ open-columns-of-parts-requires : tie.Need-open-columns-of-parts-requires
 open-columns-of-parts-requires c κs = let t = c .before .before in let k = t .before .before .before .before in let e = k .before .before in let s = start (e .before) in
     record {
       long = headed (s .args .p) (s .args .n) (s .args .m) (s .args .cert .now) (header-passed (s .args .p) (s .args .n) (s .args .m) (plan s) (length (s .args .work .now)) (s .args .cert .now) (passed t)) .long;
-      ready = columns-ready (s .args .p) (s .args .n) (s .args .m) (plan s) (set s) (s .args .marks .now) _ (length (s .args .work .now)) (e .if1 .left) (certificate-checked (s .args .p) (s .args .n) (s .args .m) (plan s) (length (s .args .work .now)) (s .args .cert .now) (passed t)) (k .check-bytes .ensures .cleared);
+      ready = columns-ready (s .args .p) (s .args .n) (s .args .m) (plan s) (set s) (s .args .marks .now) _ (length (s .args .work .now)) (e .if1 .left) (certificate-exactly (s .args .p) (s .args .n) (s .args .m) (plan s) (s .args .cert .now) (length (s .args .work .now)) .0 (passed t) .plan .few-columns) (certificate-checked (s .args .p) (s .args .n) (s .args .m) (plan s) (length (s .args .work .now)) (s .args .cert .now) (passed t)) (k .check-bytes .ensures .cleared);
     }
 
 same-length-5 : tie.Need-same-length-5

@@ -7,6 +7,7 @@ use Rattle.sparse.specs.Matrix.{Compressed, compressed}
 use Rattle.sparse.specs.Set.{Set, setOf}
 use Rattle.call_check.specs.Calls.{checkFactorsOf}
 use Rattle.call_check.proofs.Stored.{set-lists}
+use Rattle.call_check.proofs.Theorems.{factors-exactly}
 use Rattle.call_check.proofs.Checked.{factors-checked}
 use Rattle.call_open.specs.Calls.{openFactorsOf}
 use Rattle.call_open.proofs.Ways.{columns-ready, ready-by, columns-of, wrong-length, refuses, lists}
@@ -85,7 +86,7 @@ slice-aggregate-open-columns-4 c = search needs
 open-columns-requires : tie.Need-open-columns-requires
 open-columns-requires c κs = let t = c .before .before .before .before .before .before in let k = t .before .before .before .before in let e = k .before .before in let s = start (e .before) in
     ready-by (s .args .p) _ (set s) (s .args .marks .now) _ (set-lists (s .args .r) (s .args .ro .now) (s .args .co .now) (s .args .ls .now) (s .args .lc .now) (s .args .lv .now) (s .args .us .now) (s .args .uc .now) (s .args .uv .now))
-    (columns-ready (s .args .p) (s .args .n) (s .args .m) (plan s) (set s) (s .args .marks .now) _ (length (s .args .work .now)) (e .if1 .left) (factors-checked (s .args .p) (s .args .n) (s .args .m) (plan s) (length (s .args .work .now)) (set s) (passed t)) (k .check-stored .ensures .cleared))
+    (columns-ready (s .args .p) (s .args .n) (s .args .m) (plan s) (set s) (s .args .marks .now) _ (length (s .args .work .now)) (e .if1 .left) (factors-exactly (s .args .p) (s .args .n) (s .args .m) (plan s) (set s) (length (s .args .work .now)) .0 (passed t) .plan .few-columns) (factors-checked (s .args .p) (s .args .n) (s .args .m) (plan s) (length (s .args .work .now)) (set s) (passed t)) (k .check-stored .ensures .cleared))
 
 same-length-5 : tie.Need-same-length-5
 same-length-5 c = c .before .before .before .before .open-columns .kept .1 .1 .1 .1 .1 .1 .1 .1 .1 .1 .0

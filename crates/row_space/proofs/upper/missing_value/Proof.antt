@@ -80,16 +80,16 @@ list-part-requires-2 c κs = bounds (c .before .before) .0
 bytes-part-requires-2 : tie.Need-bytes-part-requires-2
 bytes-part-requires-2 c κs = let b = bounds (c .before .before .before) in (b .0, omega (arith, b .2, length-view (start (c .before .before .before) .args .uv .now) (start (c .before .before .before) .args .uvb .now)))
 
-row-times-requires : tie.Need-row-times-requires
-row-times-requires c κs = let s = start (c .before .before .before .before) in record { positive = s .pre .positive; row = rw (columns c, numbers c) (row s); small = s .pre .small }
+dot-requires : tie.Need-dot-requires
+dot-requires c κs = let s = start (c .before .before .before .before) in record { positive = s .pre .positive; row = rw (columns c, numbers c) (row s); below = s .pre .small }
 
 negate-requires : tie.Need-negate-requires
-negate-requires c κs = c .row-times .ensures .below
+negate-requires c κs = c .dot .ensures .below
 
 returns : tie.Need-returns
 returns c = let d = c .before .before in let s = start (d .before .before .before .before) in
     c .negate .ensures .value
-    ∙ ap (λ (x : ℕ). (s .args .q .p - x) % s .args .q .p) (c .before .row-times .ensures .value)
+    ∙ ap (λ (x : ℕ). (s .args .q .p - x) % s .args .q .p) (c .before .dot .ensures .value)
     ∙ ap (λ (x : ℕ). (s .args .q .p - x % s .args .q .p) % s .args .q .p)
     ((λ i. weigh (columns d i) (numbers d i) (vector (s .args .z .now))) ∙ weigh-dot (length (s .args .z .now)) _ _ (vector (s .args .z .now)) (row-columns _ _ _ _ (row s)))
 
@@ -106,6 +106,6 @@ missing-value-spec =
     bytes-part-requires
     list-part-requires-2
     bytes-part-requires-2
-    row-times-requires
+    dot-requires
     negate-requires
     returns)
