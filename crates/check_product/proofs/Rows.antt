@@ -19,7 +19,7 @@ use Rattle.algebra.specs.Sum.{dot}
 use Rattle.algebra.proofs.Congruence.{exact, turn, _⊙_, _⊕_, same-refl, minus, cancel, cancel-zero}
 use Rattle.sparse.specs.Matrix.{Compressed, rowOf, matrix, form}
 use Rattle.sparse.specs.Row.{Below, weigh}
-use Rattle.sparse.specs.WorkingRow.{Subtracted}
+use Rattle.sparse.specs.WorkingRow.{SubtractedTo, Subtracted}
 use Rattle.sparse.proofs.Entries.{weigh-dot, row-columns}
 use Rattle.sparse.proofs.Rows.{form-row}
 use Rattle.pluq.specs.Judge.{agrees}
@@ -59,7 +59,7 @@ eqb-same a b c d h g = go (eqb a b) refl
 -- ---- the test of a row
 
 -- b taken away from the working row: all cells stand for 0 exactly if the row was b modulo p
-row-agrees : (p m : ℕ) (b : Vector) (w₀ w : List ℕ) → length w₀ ≡ m → Subtracted p b w₀ w
+row-agrees : {e : ℕ} (p m : ℕ) (b : Vector) (w₀ w : List ℕ) → length w₀ ≡ m → SubtractedTo p e b w₀ w
     → all m (λ j. eqb (getD w j 0 % p) 0) ≡ all m (λ j. eqb (getD w₀ j 0 % p) (b j % p))
 row-agrees p m b w₀ w long d =
     all-same m (λ j. eqb (getD w j 0 % p) 0) (λ j. eqb (getD w₀ j 0 % p) (b j % p))
@@ -141,7 +141,7 @@ pub zero-below : (p : ℕ) (w : List ℕ) → 0 < p → w ≡ zeros (length w) �
 zero-below p w h z i g = omega (arith, ap (λ (l : List ℕ). getD l i 0) z ∙ zeros-at (length w) i, mul-le-mul-left {m = 1} {n = p} p h)
 
 -- the product taken away, and the row tested and cleared
-pub cleared-combination : (p : ℕ) (ks vs : List ℕ) (U : Matrix) (w₀ w w′ : List ℕ) (z : Bool) → Subtracted p (λ j. weigh ks vs (λ k. U k j)) w₀ w → TestedAndCleared p w w′ z
+pub cleared-combination : {e : ℕ} (p : ℕ) (ks vs : List ℕ) (U : Matrix) (w₀ w w′ : List ℕ) (z : Bool) → SubtractedTo p e (λ j. weigh ks vs (λ k. U k j)) w₀ w → TestedAndCleared p w w′ z
     → (z ≡ isCombination p w₀ ks vs U) × (w′ ≡ zeros (length w₀))
 unfolding isCombination
 cleared-combination p ks vs U w₀ w w′ z d t = (

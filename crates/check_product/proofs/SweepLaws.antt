@@ -18,7 +18,7 @@ use Rattle.lists.proofs.Filled.{zeros-at, length-zeros}
 use Rattle.lists.proofs.Tests.{all-at, all-pass}
 use Rattle.sparse.specs.Row.{weigh, entry}
 use Rattle.sparse.specs.Matrix.{Compressed, rowOf, matrix, form}
-use Rattle.sparse.specs.WorkingRow.{Subtracted}
+use Rattle.sparse.specs.WorkingRow.{SubtractedTo, Subtracted}
 use Rattle.sparse.proofs.Entries.{row-columns, entry-absent}
 use Rattle.sparse.proofs.Rows.{form-starts, form-row}
 use Rattle.check_product.specs.Sweep.{Some, Among, AmongRows, Swept, TestedAndCleared}
@@ -157,7 +157,7 @@ module _ (p r : ℕ) (cols ks vs : List ℕ) (U : Compressed) (w₀ w : List ℕ
       (λ s h e. none (record { place = t; upto = g; holds = record { place = s; upto = h; holds = e } })))
 
   -- the product taken away from a working row with A's row in it: only cells at their columns are other than 0
-  pub clears-touched : Subtracted p (λ j. weigh ks vs (λ k. matrix U k j)) w₀ w → ClearsTouched p cols ks (U .starts) (U .cols) w
+  pub clears-touched : {e : ℕ} → SubtractedTo p e (λ j. weigh ks vs (λ k. matrix U k j)) w₀ w → ClearsTouched p cols ks (U .starts) (U .cols) w
   clears-touched d = let f = c .combines in
       record {
         product =

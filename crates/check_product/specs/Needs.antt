@@ -9,7 +9,7 @@
 --   SweepsRow ..        columns that are cells of the working row
 --   SweepsRows ..       rows of U, by number, whose columns are cells of the working row
 --   ClearsTouched ..    those rows of U and the columns of a row of A, and a working row that is 0 outside their columns
-use Prim.Native.Nat.{ℕ, _+_, _-_, _*_, _≤_, _<_}
+use Prim.Native.Nat.{ℕ, _+_, _-_, _*_, _^_, _≤_, _<_}
 use mathlib.Core.Path.{_≡_}
 use mathlib.Core.Bool.{true}
 use mathlib.Core.List.{List}
@@ -24,6 +24,7 @@ pub record CombinesRows (p r : ℕ) (ks vs : List ℕ) (U : Compressed) (w : Lis
   pub row : Row p r ks vs
   pub U-form : form p (length w) U ≡ true
   pub U-rows : length (U .starts) ≡ r + 1
+  pub narrow : r ≤ 2 ^ 32
   pub below : Below (p * p) w
 
 pub record ComparesRow (p r : ℕ) (cols ks vs : List ℕ) (U : Compressed) (w : List ℕ) : Type 0 where
@@ -41,6 +42,7 @@ pub record Comparable (p n r : ℕ) (A : Compressed) (R : List ℕ) (L U : Compr
   pub L-rows : length (L .starts) ≡ n + 1
   pub U-form : form p (length w) U ≡ true
   pub U-rows : length (U .starts) ≡ r + 1
+  pub narrow : r ≤ 2 ^ 32
   pub cleared : w ≡ zeros (length w)
 
 abbrev pub StartsRise : List ℕ → Type 0

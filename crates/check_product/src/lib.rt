@@ -1,12 +1,12 @@
 // The product of a set compared with the matrix (refusal 14), row by row in the working row.
 ghost use mathlib.Core.Path.{_≡_};
-ghost use Prim.Native.Nat.{_<_};
+ghost use Prim.Native.Nat.{_+_, _*_, _<_};
 ghost use lib.ListN.{length, getD};
 ghost use Rattle.lists.specs.Filled.{zeros};
 ghost use Rattle.lists.specs.Tests.{first};
 ghost use Rattle.sparse.specs.Row.{weigh};
 ghost use Rattle.sparse.specs.Matrix.{matrix};
-ghost use Rattle.sparse.specs.WorkingRow.{Subtracted};
+ghost use Rattle.sparse.specs.WorkingRow.{SubtractedTo, growth};
 ghost use Rattle.sparse.specs.Views.{before, after, storedAt, storedBefore, viewAt, viewBefore, viewedAt, vectorBefore, matrixBefore};
 ghost use Rattle.pluq.specs.Judge.{agrees};
 ghost use Rattle.check_product.specs.Combination.{isCombination};
@@ -18,8 +18,8 @@ use crate::sweep::clear_touched;
 use lists::index;
 use lists::part;
 use residue::Modulus;
+use sparse::growing::grow_row;
 use sparse::kernel::subtract_list_row;
-use sparse::kernel::subtract_row;
 use sparse::words::bytes_part;
 use sparse::words::count;
 use sparse::words::list_part;
@@ -33,7 +33,7 @@ fn index_at(list: &[u32], bytes: &[u8], t: usize) -> usize
     index(word(list, bytes, t))
 }
 
-// Takes the rows of U away, each as often as the sparse row says.
+// Takes the rows of U away, each as often as the sparse row says. Each may add to the bound of the cells.
 fn subtract_rows(
     q: Modulus,
     ks: &[u32],
@@ -50,14 +50,14 @@ fn subtract_rows(
     work: &mut [u64],
 )
     requires { ⌜ CombinesRows (q .p) r (viewAt ks kb) (viewAt vs vb) (viewedAt us usb uc ucb uv uvb) (now work) ⌝ }
-    ensures { λ _. ⌜ Subtracted (q .p) (λ j. weigh (viewBefore ks kb) (viewBefore vs vb) (λ k. matrixBefore us usb uc ucb uv uvb k j)) (before work) (after work) ⌝ }
+    ensures { λ _. ⌜ SubtractedTo (q .p) (q .p * q .p + length (viewBefore ks kb) * growth (q .p)) (λ j. weigh (viewBefore ks kb) (viewBefore vs vb) (λ k. matrixBefore us usb uc ucb uv uvb k j)) (before work) (after work) ⌝ }
 {
     let n = count(ks, kb);
     let mut t = 0;
     while t < n {
         let k = index_at(ks, kb, t);
         let v = word(vs, vb, t);
-        subtract_row(q, us, usb, uc, ucb, uv, uvb, k, v, work);
+        grow_row(q, us, usb, uc, ucb, uv, uvb, k, v, work);
         t += 1;
     }
 }

@@ -2,7 +2,7 @@
 use mathlib.Core.Path.{_≡_, sym, ap, _∙_}
 use mathlib.Core.Bool.{true}
 use mathlib.Core.List.{List, _++_}
-use Prim.Native.Nat.{ℕ, _≤_}
+use Prim.Native.Nat.{ℕ, _^_, _≤_}
 use native.Mathlib.Omega.{arith}
 use lib.ListN.{length, take, drop, take-append-drop}
 use lib.Seq.{length-take-le}
@@ -16,9 +16,9 @@ use Rattle.pluq.proofs.Orders.{below-at}
 use Rattle.check_product.specs.Needs.{Comparable}
 use Rattle.check_set.specs.Needs.{Judgeable, Checkable}
 
-pub comparable : (p n m : ℕ) (A : Compressed) (s : Set) (w w′ : List ℕ) → w′ ≡ w → form p (s .r) (s .L) ≡ true → form p m (s .U) ≡ true
+pub comparable : (p n m : ℕ) (A : Compressed) (s : Set) (w w′ : List ℕ) → w′ ≡ w → form p (s .r) (s .L) ≡ true → form p m (s .U) ≡ true → s .r ≤ 2 ^ 32
     → Judgeable p n m A s w → Comparable p n (s .r) A (s .R) (s .L) (s .U) w′
-comparable p n m A s w w′ q e f h =
+comparable p n m A s w w′ q e f narrow h =
     rw q (record {
       positive = h .positive;
       A-form = h .A-form;
@@ -29,6 +29,7 @@ comparable p n m A s w w′ q e f h =
       L-rows = h .L-rows;
       U-form = ap (λ (k : ℕ). form p k (s .U)) (h .wide) ∙ f;
       U-rows = h .U-rows;
+      narrow = narrow;
       cleared = h .cleared;
     })
 

@@ -5,6 +5,7 @@ pub mod Matrix
 pub mod Set
 pub mod Views
 pub mod WorkingRow
+pub mod Run
 pub mod Dense
 pub mod Storing
 pub mod Scan

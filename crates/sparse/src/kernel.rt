@@ -5,7 +5,7 @@ ghost use Rattle.residue.specs.Arithmetic.{Residues};
 ghost use Rattle.sparse.specs.Words.{words};
 ghost use Rattle.sparse.specs.Row.{entry};
 ghost use Rattle.sparse.specs.Matrix.{matrix};
-ghost use Rattle.sparse.specs.WorkingRow.{Lessened, Subtracted, RowReady, MatrixReady};
+ghost use Rattle.sparse.specs.WorkingRow.{Lessened, Lowered, Subtracted, GrownBy, RowReady, MatrixReady};
 ghost use Rattle.sparse.specs.Views.{before, after, storedAt, storedBefore, viewAt, viewBefore, viewedAt, viewedBefore};
 use crate::words::bytes_part;
 use crate::words::count;
@@ -17,31 +17,39 @@ use lists::part;
 use residue::Modulus;
 
 // a b, not reduced.
-fn product(a: u32, b: u32) -> u64
+pub fn product(a: u32, b: u32) -> u64
     ensures { λ r. ⌜ r ≡ a * b ⌝ }
 {
     a as u64 * b as u64
 }
 
-// The cell x less c v: below p * p, so that it is never reduced here.
-pub fn minus(q: Modulus, x: u64, c: u32, v: u32) -> u64
-    requires { ⌜ (x < q .p * q .p) × Residues (q .p) c v ⌝ }
-    ensures { λ r. ⌜ Lessened (q .p) (c * v) x r ⌝ }
+// The cell x less c v: p * p more where x is less than c v, so that it is never reduced here.
+fn less(q: Modulus, x: u64, c: u32, v: u32) -> u64
+    requires { ⌜ Residues (q .p) c v ⌝ }
+    ensures { λ r. ⌜ Lowered (q .p) (c * v) x r ⌝ }
 {
     let square = product(q.p, q.p);
     let u = product(c, v);
     if u <= x { x - u } else { x + (square - u) }
 }
 
+// The same for a cell below p * p, which it stays.
+pub fn minus(q: Modulus, x: u64, c: u32, v: u32) -> u64
+    requires { ⌜ (x < q .p * q .p) × Residues (q .p) c v ⌝ }
+    ensures { λ r. ⌜ Lessened (q .p) (c * v) x r ⌝ }
+{
+    less(q, x, c, v)
+}
+
 // work - c row, where the row is given by stored lists.
-fn subtract_list(q: Modulus, cols: &[u32], vals: &[u32], c: u32, work: &mut [u64])
+pub fn subtract_list(q: Modulus, cols: &[u32], vals: &[u32], c: u32, work: &mut [u64])
     requires { ⌜ RowReady (q .p) c (now cols) (now vals) (now work) ⌝ }
-    ensures { λ _. ⌜ Subtracted (q .p) (λ j. c * entry (before cols) (before vals) j) (before work) (after work) ⌝ }
+    ensures { λ _. ⌜ GrownBy (q .p) 0 (λ j. c * entry (before cols) (before vals) j) (before work) (after work) ⌝ }
 {
     let mut t = 0;
     while t < cols.len() {
         let j = index(cols[t]);
-        work[j] = minus(q, work[j], c, vals[t]);
+        work[j] = less(q, work[j], c, vals[t]);
         t += 1;
     }
 }
@@ -49,14 +57,14 @@ fn subtract_list(q: Modulus, cols: &[u32], vals: &[u32], c: u32, work: &mut [u64
 // work - c row, where the row is given by the numbers that bytes hold.
 fn subtract_bytes(q: Modulus, cb: &[u8], vb: &[u8], c: u32, work: &mut [u64])
     requires { ⌜ RowReady (q .p) c (words (now cb)) (words (now vb)) (now work) ⌝ }
-    ensures { λ _. ⌜ Subtracted (q .p) (λ j. c * entry (words (before cb)) (words (before vb)) j) (before work) (after work) ⌝ }
+    ensures { λ _. ⌜ GrownBy (q .p) 0 (λ j. c * entry (words (before cb)) (words (before vb)) j) (before work) (after work) ⌝ }
 {
     let n = cb.len() / 4;
     let mut t = 0;
     while t < n {
         let j = index(word_at(cb, t));
         let v = word_at(vb, t);
-        work[j] = minus(q, work[j], c, v);
+        work[j] = less(q, work[j], c, v);
         t += 1;
     }
 }
@@ -72,14 +80,14 @@ fn subtract_words(
     work: &mut [u64],
 )
     requires { ⌜ RowReady (q .p) c (viewAt cols cb) (viewAt vals vb) (now work) ⌝ }
-    ensures { λ _. ⌜ Subtracted (q .p) (λ j. c * entry (viewBefore cols cb) (viewBefore vals vb) j) (before work) (after work) ⌝ }
+    ensures { λ _. ⌜ GrownBy (q .p) 0 (λ j. c * entry (viewBefore cols cb) (viewBefore vals vb) j) (before work) (after work) ⌝ }
 {
     let n = count(cols, cb);
     let mut t = 0;
     while t < n {
         let j = index(word(cols, cb, t));
         let v = word(vals, vb, t);
-        work[j] = minus(q, work[j], c, v);
+        work[j] = less(q, work[j], c, v);
         t += 1;
     }
 }
@@ -95,7 +103,7 @@ pub fn subtract(
     work: &mut [u64],
 )
     requires { ⌜ RowReady (q .p) c (viewAt cols cb) (viewAt vals vb) (now work) ⌝ }
-    ensures { λ _. ⌜ Subtracted (q .p) (λ j. c * entry (viewBefore cols cb) (viewBefore vals vb) j) (before work) (after work) ⌝ }
+    ensures { λ _. ⌜ GrownBy (q .p) 0 (λ j. c * entry (viewBefore cols cb) (viewBefore vals vb) j) (before work) (after work) ⌝ }
 {
     if cb.len() + vb.len() == 0 {
         subtract_list(q, cols, vals, c, work);

@@ -4,6 +4,7 @@
 pub mod copying;
 pub mod dense;
 pub mod form;
+pub mod growing;
 pub mod kernel;
 pub mod lookup;
 pub mod scan;

@@ -168,6 +168,7 @@ is-combination-requires c κs = let d = c .before in let t = loaded-at (places d
             row = rw (L-columns d, L-values d) (form-row (s .args .q .p) _ _ _ _ (s .pre .1 .L-form) (s .args .i));
             U-form = rw (w .long) (s .pre .1 .U-form);
             U-rows = s .pre .1 .U-rows;
+            narrow = s .pre .1 .narrow;
             below = w .below;
           };
       cells = rw (A-columns d, w .long) (row-columns (s .args .q .p) _ _ _ (form-row (s .args .q .p) _ _ _ _ (s .pre .1 .A-form) k));

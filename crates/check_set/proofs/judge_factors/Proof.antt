@@ -77,7 +77,7 @@ returns-4 c = let u = c .before .before .before in let g = u .before .before in 
 
 first-differing-requires : tie.Need-first-differing-requires
 first-differing-requires c κs = let u = c .before .before .before .before in let g = u .before .before in let f = g .before .before in let e = f .before .before in let s = start (e .before) in
-    comparable (s .args .q .p) (s .args .n) (s .args .m) (plan s) (set s) _ _ (u .upper-ok .ensures .1) (L-good e) (U-good f) (s .pre)
+    comparable (s .args .q .p) (s .args .n) (s .args .m) (plan s) (set s) _ _ (u .upper-ok .ensures .1) (L-good e) (U-good f) (omega (arith, s .fits .r)) (s .pre)
 
 cast-t34 : tie.Need-cast-t34
 cast-t34 c = omega (arith, bound (c .before))

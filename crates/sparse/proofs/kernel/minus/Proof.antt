@@ -1,33 +1,14 @@
--- `minus` meets its contract, by the law of each arm. Assumes nothing.
-use Prim.Native.Nat.{_*_}
-use native.Mathlib.Omega.{arith}
+-- `minus` meets its contract. Assumes nothing.
 use borrow.Author.Needs.{needs}
-use Rattle.sparse.proofs.Subtraction.{product-below, cell-less, cell-wraps}
+use Rattle.sparse.proofs.Subtraction.{lowered-cell}
 use Rattle.sparse.proofs.kernel.minus.Statement.{statement}
 use Rattle.sparse.proofs.kernel.minus.Tie as tie
 
-product-requires : tie.Need-product-requires
-product-requires c κs = search needs
-
-product-requires-2 : tie.Need-product-requires-2
-product-requires-2 c κs = search needs
-
-sub-result : tie.Need-sub-result
-sub-result c = omega (arith, product-below (c .before .before .before .pre .1 .left) (c .before .before .before .pre .1 .right))
-
-add-result : tie.Need-add-result
-add-result c = search needs
+less-requires : tie.Need-less-requires
+less-requires c κs = search needs
 
 returns : tie.Need-returns
-returns c =
-    let s = c .before .before .before in
-    rw (c .before .product2 .ensures) (cell-less (s .args .q .p) (s .args .x) (s .args .c * s .args .v) (s .pre .0) (omega arith))
-
-returns-2 : tie.Need-returns-2
-returns-2 c =
-    let s = c .before .before .before in
-    rw (c .before .product2 .ensures, c .before .before .product .ensures)
-    (cell-wraps (s .args .q .p) (s .args .x) (s .args .c * s .args .v) (product-below (s .pre .1 .left) (s .pre .1 .right)) (omega arith))
+returns c = lowered-cell (c .before .pre .0) (c .less .ensures)
 
 pub minus-spec : {M : Type 1} → statement M
-minus-spec = tie.close (tie.spec product-requires product-requires-2 sub-result add-result returns returns-2)
+minus-spec = tie.close (tie.spec less-requires returns)

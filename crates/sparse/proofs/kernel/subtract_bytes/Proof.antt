@@ -1,19 +1,18 @@
--- `subtract_bytes` meets its contract; the loop's invariant is `Combining` with c times the unit matrix, the measure what is left. Assumes nothing.
-use Prim.Native.Nat.{_-_, _*_, _<_}
+-- `subtract_bytes` meets its contract; the loop's invariant is `Lowering`, the measure what is left. Assumes nothing.
+use Prim.Native.Nat.{_-_, _<_}
 use mathlib.Core.Path.{_≡_, _∙_}
 use native.Mathlib.Omega.{arith}
 use lib.ListN.{length, getD}
 use borrow.Author.Needs.{needs}
-use Rattle.algebra.specs.Sum.{δ}
 use Rattle.sparse.specs.Words.{words}
 use Rattle.sparse.proofs.WordLaws.{length-words}
 use Rattle.sparse.proofs.Entries.{row-columns, row-values}
-use Rattle.sparse.proofs.Subtraction.{Combining, combining-starts, combining-turn, combining-row, set-cell}
+use Rattle.sparse.proofs.Subtraction.{Lowering, lowering-starts, lowering-turn, lowering-ends}
 use Rattle.sparse.proofs.kernel.subtract_bytes.Statement.{statement}
 use Rattle.sparse.proofs.kernel.subtract_bytes.Tie as tie
 
 abbrev Inv-loop : tie.InvT-loop
-Inv-loop q cb vb c work₀ n t₀ work t = Combining (q .p) (λ k j. c * δ k j) (words cb) (words vb) work₀ work t
+Inv-loop q cb vb c work₀ n t₀ work t = Lowering (q .p) c (words cb) (words vb) work₀ work t
 
 abbrev μ-loop : tie.MeasureT-loop
 μ-loop q cb vb c work₀ n t₀ work t = n - t
@@ -38,7 +37,7 @@ column c =
     rw (place c, turn .before .loop .inv .long) (row-columns _ _ _ _ (start turn .pre .row) (turn .before .loop .t) (inside turn))
 
 loop-holds : tie.Need-loop-holds Inv-loop μ-loop
-loop-holds c = combining-starts _ _ _ _ _ (c .before .before .before .pre .below)
+loop-holds c = lowering-starts _ _ _ _ _
 
 word-at-requires : tie.Need-word-at-requires Inv-loop μ-loop
 word-at-requires c κs = omega arith
@@ -49,17 +48,15 @@ index-requires c κs = search needs
 word-at-requires-2 : tie.Need-word-at-requires-2 Inv-loop μ-loop
 word-at-requires-2 c κs = let turn = c .before .before in omega (arith, paired turn, length-words (start turn .args .vb .now))
 
-mul-minus : tie.Need-mul-minus Inv-loop μ-loop
-mul-minus c = omega (arith, column (c .before))
+mul-less : tie.Need-mul-less Inv-loop μ-loop
+mul-less c = omega (arith, column (c .before))
 
-slice-read-minus : tie.Need-slice-read-minus Inv-loop μ-loop
-slice-read-minus c = column (c .before .before)
+slice-read-less : tie.Need-slice-read-less Inv-loop μ-loop
+slice-read-less c = column (c .before .before)
 
-minus-requires : tie.Need-minus-requires Inv-loop μ-loop
-minus-requires c κs = let turn = c .before .before .before .before in let i = turn .before .loop in let s = start turn in (
-  i .inv .below _ (column (c .before .before)),
-  record { left = s .pre .residue; right = rw (c .before .word-at2 .ensures) (row-values _ _ _ _ (s .pre .row) (i .t) (paired turn)) },
-)
+less-requires : tie.Need-less-requires Inv-loop μ-loop
+less-requires c κs = let turn = c .before .before .before .before in let i = turn .before .loop in let s = start turn in
+    record { left = s .pre .residue; right = rw (c .before .word-at2 .ensures) (row-values _ _ _ _ (s .pre .row) (i .t) (paired turn)) }
 
 mul-work : tie.Need-mul-work Inv-loop μ-loop
 mul-work c = omega (arith, column (c .before .before .before))
@@ -75,15 +72,14 @@ loop-less c = omega arith
 
 loop-again : tie.Need-loop-again Inv-loop μ-loop
 loop-again c = let w = c .before .before in let at = w .before in let turn = at .before .before in let i = turn .before .loop in
-    combining-turn _ _ _ _ _ _ _ (i .t) (at .index .result) (w .word-at2 .result) (inside turn) (paired turn) (place at) (w .word-at2 .ensures) (i .inv)
-    (set-cell _ _ _ _ _ (i .work) (column at) (i .inv .below) (c .minus .ensures))
+    lowering-turn _ _ _ _ _ _ (i .t) (at .index .result) (w .word-at2 .result) _ (inside turn) (paired turn) (place at) (w .word-at2 .ensures) (column at) (i .inv) (c .less .ensures)
 
 same-length : tie.Need-same-length Inv-loop μ-loop
 same-length c = c .before .loop .inv .long
 
 returns : tie.Need-returns Inv-loop μ-loop
 returns c = let s = c .before .before .before .before .before in
-    combining-row _ _ _ _ _ _ _ (omega (arith, length-words (s .args .cb .now), c .loop-test .left)) (c .before .loop .inv)
+    lowering-ends _ _ _ _ _ _ _ (omega (arith, length-words (s .args .cb .now), c .loop-test .left)) (c .before .loop .inv)
 
 pub subtract-bytes-spec : {M : Type 1} → statement M
 subtract-bytes-spec =
@@ -95,9 +91,9 @@ subtract-bytes-spec =
     word-at-requires
     index-requires
     word-at-requires-2
-    mul-minus
-    slice-read-minus
-    minus-requires
+    mul-less
+    slice-read-less
+    less-requires
     mul-work
     slice-write-work
     add-t

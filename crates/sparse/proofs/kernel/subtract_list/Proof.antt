@@ -1,17 +1,16 @@
--- `subtract_list` meets its contract; the loop's invariant is `Combining` with c times the unit matrix, the measure what is left. Assumes nothing.
-use Prim.Native.Nat.{_-_, _*_, _<_}
+-- `subtract_list` meets its contract; the loop's invariant is `Lowering`, the measure what is left. Assumes nothing.
+use Prim.Native.Nat.{_-_, _<_}
 use mathlib.Core.Path.{refl}
 use native.Mathlib.Omega.{arith}
 use lib.ListN.{length}
 use borrow.Author.Needs.{needs}
-use Rattle.algebra.specs.Sum.{δ}
 use Rattle.sparse.proofs.Entries.{row-columns, row-values}
-use Rattle.sparse.proofs.Subtraction.{Combining, combining-starts, combining-turn, combining-row, set-cell}
+use Rattle.sparse.proofs.Subtraction.{Lowering, lowering-starts, lowering-turn, lowering-ends}
 use Rattle.sparse.proofs.kernel.subtract_list.Statement.{statement}
 use Rattle.sparse.proofs.kernel.subtract_list.Tie as tie
 
 abbrev Inv-loop : tie.InvT-loop
-Inv-loop q cols vals c work₀ t₀ work t = Combining (q .p) (λ k j. c * δ k j) cols vals work₀ work t
+Inv-loop q cols vals c work₀ t₀ work t = Lowering (q .p) c cols vals work₀ work t
 
 abbrev μ-loop : tie.MeasureT-loop
 μ-loop q cols vals c work₀ t₀ work t = length cols - t
@@ -28,7 +27,7 @@ column c =
     rw (c .index .ensures, turn .before .loop .inv .long) (row-columns _ _ _ _ (start turn .pre .row) (turn .before .loop .t) (omega arith))
 
 loop-holds : tie.Need-loop-holds Inv-loop μ-loop
-loop-holds c = combining-starts _ _ _ _ _ (c .before .before .before .pre .below)
+loop-holds c = lowering-starts _ _ _ _ _
 
 mul-index : tie.Need-mul-index Inv-loop μ-loop
 mul-index c = search needs
@@ -39,23 +38,21 @@ shared-slice-read-index c = search needs
 index-requires : tie.Need-index-requires Inv-loop μ-loop
 index-requires c κs = search needs
 
-mul-minus : tie.Need-mul-minus Inv-loop μ-loop
-mul-minus c = omega (arith, column c)
+mul-less : tie.Need-mul-less Inv-loop μ-loop
+mul-less c = omega (arith, column c)
 
-slice-read-minus : tie.Need-slice-read-minus Inv-loop μ-loop
-slice-read-minus c = column (c .before)
+slice-read-less : tie.Need-slice-read-less Inv-loop μ-loop
+slice-read-less c = column (c .before)
 
-mul-minus-2 : tie.Need-mul-minus-2 Inv-loop μ-loop
-mul-minus-2 c = omega (arith, paired (c .before .before .before))
+mul-less-2 : tie.Need-mul-less-2 Inv-loop μ-loop
+mul-less-2 c = omega (arith, paired (c .before .before .before))
 
-shared-slice-read-minus : tie.Need-shared-slice-read-minus Inv-loop μ-loop
-shared-slice-read-minus c = paired (c .before .before .before .before)
+shared-slice-read-less : tie.Need-shared-slice-read-less Inv-loop μ-loop
+shared-slice-read-less c = paired (c .before .before .before .before)
 
-minus-requires : tie.Need-minus-requires Inv-loop μ-loop
-minus-requires c κs = let turn = c .before .before .before .before in let i = turn .before .loop in let s = start turn in (
-  i .inv .below _ (column (c .before .before)),
-  record { left = s .pre .residue; right = row-values _ _ _ _ (s .pre .row) (i .t) (paired turn) },
-)
+less-requires : tie.Need-less-requires Inv-loop μ-loop
+less-requires c κs = let turn = c .before .before .before .before in let i = turn .before .loop in let s = start turn in
+    record { left = s .pre .residue; right = row-values _ _ _ _ (s .pre .row) (i .t) (paired turn) }
 
 mul-work : tie.Need-mul-work Inv-loop μ-loop
 mul-work c = omega (arith, column (c .before .before .before))
@@ -71,14 +68,13 @@ loop-less c = omega arith
 
 loop-again : tie.Need-loop-again Inv-loop μ-loop
 loop-again c = let at = c .before .before .before in let turn = at .before .before in let i = turn .before .loop in
-    combining-turn _ _ _ _ _ _ _ (i .t) (at .index .result) _ (omega arith) (paired turn) (at .index .ensures) refl (i .inv)
-    (set-cell _ _ _ _ _ (i .work) (column at) (i .inv .below) (c .minus .ensures))
+    lowering-turn _ _ _ _ _ _ (i .t) (at .index .result) _ _ (omega arith) (paired turn) (at .index .ensures) refl (column at) (i .inv) (c .less .ensures)
 
 same-length : tie.Need-same-length Inv-loop μ-loop
 same-length c = c .before .loop .inv .long
 
 returns : tie.Need-returns Inv-loop μ-loop
-returns c = combining-row _ _ _ _ _ _ _ (omega arith) (c .before .loop .inv)
+returns c = lowering-ends _ _ _ _ _ _ _ (omega arith) (c .before .loop .inv)
 
 pub subtract-list-spec : {M : Type 1} → statement M
 subtract-list-spec =
@@ -90,11 +86,11 @@ subtract-list-spec =
     mul-index
     shared-slice-read-index
     index-requires
-    mul-minus
-    slice-read-minus
-    mul-minus-2
-    shared-slice-read-minus
-    minus-requires
+    mul-less
+    slice-read-less
+    mul-less-2
+    shared-slice-read-less
+    less-requires
     mul-work
     slice-write-work
     add-t

@@ -7,6 +7,7 @@ use lib.Seq.{slice}
 use borrow.Author.Needs.{needs}
 use Rattle.sparse.specs.Matrix.{rowOf}
 use Rattle.sparse.proofs.Rows.{form-starts, form-paired, form-row}
+use Rattle.sparse.proofs.Subtraction.{grown-none}
 use Rattle.sparse.proofs.kernel.subtract_list_row.Statement.{statement}
 use Rattle.sparse.proofs.kernel.subtract_list_row.Tie as tie
 
@@ -71,14 +72,14 @@ subtract-list-requires c κs = let d = c .before in let s = start (d .before .be
     record {
       row = rw (columns d, numbers d) (form-row (s .args .q .p) _ _ _ _ (s .pre .formed) (s .args .k));
       residue = s .pre .residue;
-      below = s .pre .below;
     }
 
 same-length : tie.Need-same-length
 same-length c = search needs
 
 returns : tie.Need-returns
-returns c = let d = c .before .before .before .before in rw (columns d, numbers d) at (c .before .before .subtract-list .ensures)
+returns c = let d = c .before .before .before .before in let s = start (d .before .before) in
+    rw (columns d, numbers d) at (grown-none _ _ _ _ (s .pre .below) (c .before .before .subtract-list .ensures))
 
 pub subtract-list-row-spec : {M : Type 1} → statement M
 subtract-list-row-spec =

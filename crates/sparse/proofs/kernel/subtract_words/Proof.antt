@@ -1,18 +1,17 @@
--- `subtract_words` meets its contract; the loop's invariant is `Combining` with c times the unit matrix, the measure what is left. Assumes nothing.
-use Prim.Native.Nat.{_-_, _*_, _<_}
+-- `subtract_words` meets its contract; the loop's invariant is `Lowering`, the measure what is left. Assumes nothing.
+use Prim.Native.Nat.{_-_, _<_}
 use mathlib.Core.Path.{_≡_, _∙_}
 use native.Mathlib.Omega.{arith}
 use lib.ListN.{length, getD}
 use borrow.Author.Needs.{needs}
-use Rattle.algebra.specs.Sum.{δ}
 use Rattle.sparse.specs.Words.{view}
 use Rattle.sparse.proofs.Entries.{row-columns, row-values}
-use Rattle.sparse.proofs.Subtraction.{Combining, combining-starts, combining-turn, combining-row, set-cell}
+use Rattle.sparse.proofs.Subtraction.{Lowering, lowering-starts, lowering-turn, lowering-ends}
 use Rattle.sparse.proofs.kernel.subtract_words.Statement.{statement}
 use Rattle.sparse.proofs.kernel.subtract_words.Tie as tie
 
 abbrev Inv-loop : tie.InvT-loop
-Inv-loop q cols cb vals vb c work₀ n t₀ work t = Combining (q .p) (λ k j. c * δ k j) (view cols cb) (view vals vb) work₀ work t
+Inv-loop q cols cb vals vb c work₀ n t₀ work t = Lowering (q .p) c (view cols cb) (view vals vb) work₀ work t
 
 abbrev μ-loop : tie.MeasureT-loop
 μ-loop q cols cb vals vb c work₀ n t₀ work t = n - t
@@ -37,7 +36,7 @@ count-requires : tie.Need-count-requires Inv-loop μ-loop
 count-requires c κs = search needs
 
 loop-holds : tie.Need-loop-holds Inv-loop μ-loop
-loop-holds c = combining-starts _ _ _ _ _ (c .before .before .before .before .before .before .pre .below)
+loop-holds c = lowering-starts _ _ _ _ _
 
 word-requires : tie.Need-word-requires Inv-loop μ-loop
 word-requires c κs = omega arith
@@ -48,17 +47,15 @@ index-requires c κs = search needs
 word-requires-2 : tie.Need-word-requires-2 Inv-loop μ-loop
 word-requires-2 c κs = omega (arith, start (c .before .before) .pre .row .paired)
 
-mul-minus : tie.Need-mul-minus Inv-loop μ-loop
-mul-minus c = omega (arith, column c)
+mul-less : tie.Need-mul-less Inv-loop μ-loop
+mul-less c = omega (arith, column c)
 
-slice-read-minus : tie.Need-slice-read-minus Inv-loop μ-loop
-slice-read-minus c = column (c .before)
+slice-read-less : tie.Need-slice-read-less Inv-loop μ-loop
+slice-read-less c = column (c .before)
 
-minus-requires : tie.Need-minus-requires Inv-loop μ-loop
-minus-requires c κs = let i = c .before .before .before .before .before .loop in let s = start (c .before .before .before .before) in (
-  i .inv .below _ (column (c .before)),
-  record { left = s .pre .residue; right = rw (c .before .word2 .ensures) (row-values _ _ _ _ (s .pre .row) (i .t) (paired (c .before .before .before .before))) },
-)
+less-requires : tie.Need-less-requires Inv-loop μ-loop
+less-requires c κs = let i = c .before .before .before .before .before .loop in let s = start (c .before .before .before .before) in
+    record { left = s .pre .residue; right = rw (c .before .word2 .ensures) (row-values _ _ _ _ (s .pre .row) (i .t) (paired (c .before .before .before .before))) }
 
 mul-work : tie.Need-mul-work Inv-loop μ-loop
 mul-work c = omega (arith, column (c .before .before))
@@ -74,14 +71,13 @@ loop-less c = omega arith
 
 loop-again : tie.Need-loop-again Inv-loop μ-loop
 loop-again c = let w = c .before .before in let turn = w .before .before .before in let i = turn .before .loop in
-    combining-turn _ _ _ _ _ _ _ (i .t) (w .before .index .result) (w .word2 .result) (omega arith) (paired turn) (place w) (w .word2 .ensures) (i .inv)
-    (set-cell _ _ _ _ _ (i .work) (column w) (i .inv .below) (c .minus .ensures))
+    lowering-turn _ _ _ _ _ _ (i .t) (w .before .index .result) (w .word2 .result) _ (omega arith) (paired turn) (place w) (w .word2 .ensures) (column w) (i .inv) (c .less .ensures)
 
 same-length : tie.Need-same-length Inv-loop μ-loop
 same-length c = c .before .loop .inv .long
 
 returns : tie.Need-returns Inv-loop μ-loop
-returns c = combining-row _ _ _ _ _ _ _ (omega arith) (c .before .loop .inv)
+returns c = lowering-ends _ _ _ _ _ _ _ (omega arith) (c .before .loop .inv)
 
 pub subtract-words-spec : {M : Type 1} → statement M
 subtract-words-spec =
@@ -94,9 +90,9 @@ subtract-words-spec =
     word-requires
     index-requires
     word-requires-2
-    mul-minus
-    slice-read-minus
-    minus-requires
+    mul-less
+    slice-read-less
+    less-requires
     mul-work
     slice-write-work
     add-t
