@@ -15,7 +15,6 @@ pub mod Schedule
 pub mod Order
 pub mod Theorem
 pub mod Room
-pub mod Again
 pub mod Diagonal
 pub mod Steps
 pub mod Example

@@ -1,10 +1,10 @@
 -- Factoring from given pairs: what the first pass leaves serves the second, and both ways out leave the outcome.
 use mathlib.Core.Path.{_≡_, refl, sym, ap, _∙_}
 use mathlib.Core.Bool.{true, false}
-use mathlib.Core.List.{List, _++_}
-use Prim.Native.Nat.{ℕ, _<_, _^_}
+use mathlib.Core.List.{List, _++_, map}
+use Prim.Native.Nat.{ℕ, _+_, _<_, _^_}
 use native.Mathlib.Omega.{arith}
-use lib.ListN.{length}
+use lib.ListN.{length, length-append, length-map}
 use Rattle.lists.specs.Filled.{zeros, filled}
 use Rattle.lists.proofs.Filled.{filled-whole, cleared-filled}
 use Rattle.refusals.specs.Table.{storageTooShort}
@@ -16,10 +16,8 @@ use Rattle.sparse.proofs.Rows.{form-below}
 use Rattle.elimination.specs.Structural.{Pair}
 use Rattle.elimination.specs.Pivots.{Found, columnsOf, uppersOf, rankOf, turns}
 use Rattle.lists.specs.Rest.{rest}
-use Rattle.elimination.specs.Factoring.{schedule, nothing, rowsOf, lowersOf, entries, factored, factorFrom}
-use Rattle.elimination.specs.Overflow.{EntriesFit}
+use Rattle.elimination.specs.Factoring.{schedule, nothing, rowsOf, factored, factorFrom}
 use Rattle.elimination.specs.Invariant.{Invariant}
-use Rattle.elimination.proofs.Room.{none-over}
 use Rattle.elimination.proofs.RowsFound.{rows-length, rows-permutation}
 use Rattle.elimination.proofs.Schedule.{schedule-holds}
 use Rattle.elimination.proofs.Order.{rows-rising}
@@ -29,10 +27,10 @@ use Rattle.factor_turn.specs.Passing.{pairsOf, PassLeaves}
 use Rattle.factor_turn.specs.declared.turn.Pass.{Pass}
 use Rattle.factor_turn.proofs.Steps.{entries-values}
 use Rattle.factor_turn.proofs.Schedules.{pairs-many}
-use Rattle.factor_turn.proofs.Sizes.{rank-most}
+use Rattle.factor_turn.proofs.Sizes.{columns-distinct, rank-most, lowers-fit}
 use Rattle.factor_passes.specs.Completing.{FoundFrom, CompletedFor, Completes}
 use Rattle.factor_passes.specs.Needs.{FromReady, CompleteReady}
-use Rattle.factor_passes.proofs.WorkingRow.{KeptLengths, lists-formed, lists-same, zeros-self}
+use Rattle.factor_passes.proofs.WorkingRow.{KeptLengths, lists-formed, lists-small, lists-same, zeros-self}
 use Rattle.factor_all.specs.Factorization.{refusal, done, factoringFrom, Leaves}
 use Rattle.factor_all.specs.Needs.{AllClear, factoringIn}
 
@@ -62,7 +60,7 @@ leaves-refused k d S h =
 
 -- ---- the set of what was found
 
-leaves-done : (s m r : ℕ) (f : Found) (S : Storage) → r ≡ rankOf f → CompletedFor f m S → FilledWith (compress (uppersOf f)) (S .U) → S .work ≡ zeros (length (S .work))
+leaves-done : (s m r : ℕ) (f : Found) (S : Storage) → r ≡ rankOf f → CompletedFor f m (S .R) (S .C) (S .L) → FilledWith (compress (uppersOf f)) (S .U) → S .work ≡ zeros (length (S .work))
     → Leaves (done s (factored m f)) (record { outcome = Passed; rank = r; structural = s }) S
 unfolding factored
 leaves-done s m r f S er h u z =
@@ -106,6 +104,18 @@ module _ (p s : ℕ) (A : Compressed) (S : Storage) (h : FromReady p s A S) wher
   holds : Invariant p n m (matrix A) f
   holds = schedule-holds p n m (matrix A) (h .lists .lent .prime) small pairs (h .pairs)
 
+  -- the pivots and the dependent rows are all rows
+  all-rows : rankOf f + length (f .dependents) ≡ n
+  unfolding rowsOf
+  all-rows =
+      omega (
+        arith,
+        rows-length p n m (matrix A) pairs (h .pairs),
+        length-append (map (λ q. q .row) (f .pivots)) (map (λ d. d .row) (f .dependents)),
+        length-map (f .pivots) (λ q. q .row),
+        length-map (f .dependents) (λ d. d .row),
+      )
+
   module _ (S₁ : Storage) (to : Pass) (q : PassLeaves p s m A S S₁ to) where
     pub from-refused : to .progress .over ≡ true → (S₂ : Storage) → AllClear S₂
         → Leaves (factoringIn p s A S) (record { outcome = Refused storageTooShort (to .stop); rank = 0; structural = 0 }) S₂
@@ -113,39 +123,41 @@ module _ (p s : ℕ) (A : Compressed) (S : Storage) (h : FromReady p s A S) wher
     from-refused e S₂ z = rw (q .stopped e) (leaves-refused storageTooShort (to .stop) S₂ z)
 
     module _ (e : to .progress .over ≡ false) where
-      fitted : EntriesFit (length (S .L .cols)) (length (S .U .cols)) f
-      unfolding lowersOf uppersOf entries
-      fitted = none-over p m (matrix A) (length (S .L .cols)) (length (S .U .cols)) nothing (schedule n pairs) (record { L = omega arith; U = omega arith }) (q .fitted e)
-
       -- where the first pass kept every length
       module _ (k : KeptLengths S S₁) where
-        found : FoundFrom p A S₁ (to .progress .r) (to .progress .at) (to .progress .l) (to .progress .total) f
+        found : FoundFrom (S₁ .R) (S₁ .C) (S₁ .L) (to .progress .r) (to .progress .l) (to .progress .total) f
         unfolding pivotRows
         found =
             record {
-              holds = rw (k .R-long, k .C-long) holds;
-              state = q .state e;
+              pivots = q .state e .rows;
+              columns = q .state e .columns;
+              distinct = rw (k .C-long) (columns-distinct p n m (matrix A) f holds);
               rows = rw (k .R-long) (rows-rising p m (matrix A) n pairs);
               many = rows-length p n m (matrix A) pairs (h .pairs) ∙ sym (k .R-long);
               order = rw (k .R-long) (rows-permutation p n m (matrix A) pairs (h .pairs));
-              room = omega (arith, q .state e .L-entries, fitted .L, k .lc-long);
+              lower = record {
+                rank = q .state e .rank;
+                pivot-entries = q .state e .pivot-entries;
+                L-entries = q .state e .L-entries;
+                lower = q .state e .lower;
+                whole = omega (arith, q .state e .rank, all-rows, k .ls-long, h .lists .lent .L-starts);
+                paired = k .lc-long ∙ h .lists .lent .L-paired ∙ sym (k .lv-long);
+                fits = omega (arith, q .state e .L-entries, lowers-fit p n m (matrix A) f holds (omega (arith, all-rows)) (lists-small p A S (h .lists)));
+              };
             }
 
-        pub from-complete : CompleteReady p A S₁ (to .progress .r) (to .progress .at) (to .progress .l)
+        pub from-complete : CompleteReady (S₁ .R) (S₁ .C) (S₁ .L) (S₁ .work) (to .progress .r) (to .progress .l) (to .progress .total)
         from-complete =
-            record {
-              lists = lists-same p A S S₁ k (zeros-self (S₁ .work) (length (S .work)) (q .clear e)) (h .lists);
-              f = f;
-              total = to .progress .total;
-              from = found;
-            }
+            let lists = lists-same p A S S₁ k (zeros-self (S₁ .work) (length (S .work)) (q .clear e)) (h .lists) in
+            record { n-narrow = lists .n-narrow; m-narrow = lists .m-narrow; n-fits = lists .n-fits; m-fits = lists .m-fits; clear = lists .clear; f = f; from = found }
 
-        pub from-done : (S₂ : Storage) → S₂ .U ≡ S₁ .U → Completes p A S₁ S₂ (to .progress .r) (to .progress .at) (to .progress .l)
+        pub from-done : (S₂ : Storage) → S₂ .U ≡ S₁ .U
+            → Completes (S₁ .R) (S₁ .C) (S₁ .L) (S₁ .work) (S₂ .R) (S₂ .C) (S₂ .L) (S₂ .work) (to .progress .r) (to .progress .l) (to .progress .total)
             → Leaves (factoringIn p s A S) (record { outcome = Passed; rank = to .progress .r; structural = s }) S₂
         unfolding factoringFrom factorFrom
         from-done S₂ same d =
             rw (q .fitted e, pairs-many s (S .R) (S .C) (h .rows-inside) (h .columns-inside))
-            (leaves-done s m (to .progress .r) f S₂ (q .state e .rank) (rw (k .C-long) at (d .completed f (to .progress .total) found)) (rw same upper)
+            (leaves-done s m (to .progress .r) f S₂ (q .state e .rank) (rw (k .C-long) at (d .completed f found)) (rw same upper)
             (zeros-self (S₂ .work) (length (S₁ .work)) (d .clear)))
           where
             upper : FilledWith (compress (uppersOf f)) (S₁ .U)

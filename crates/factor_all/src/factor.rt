@@ -60,8 +60,8 @@ pub fn factor_from(
     let progress = pass.progress;
     let over = progress.over;
     let r = progress.r;
-    let at = progress.at;
     let l = progress.l;
+    let total = progress.total;
     if over {
         clear_all(ro, co, ls, lc, lv, us, uc, uv, work);
         return Factored {
@@ -70,24 +70,7 @@ pub fn factor_from(
             structural: 0,
         };
     }
-    pass_two(
-        q,
-        starts,
-        cols,
-        vals,
-        r,
-        at,
-        l,
-        us,
-        uc,
-        uv,
-        ro,
-        co,
-        ls,
-        lc,
-        lv,
-        work,
-    );
+    pass_two(r, l, total, ro, co, ls, lc, lv, work);
     let rank = r as u32;
     let structural = s as u32;
     Factored {

@@ -7,7 +7,7 @@
 --   UpperFound p r k at next ..       cells that are not 0 at place k are stored as row r of U, and that value as an entry of L, unless they do not fit; the block row
 --                                     that is given is the cells divided by their value at place k
 --   NextRow p m width js w c ..       row r of U in the block: its cells at the columns js, 0 past them, and the place of its pivot column c
---   DenseTaken p at l total t ..      the row is taken as `take_other` takes it (RowFound), and where it is a pivot row, its block row is given
+--   DenseTaken p at l total t ..      the row is taken as in the working row alone (RowFound), and where it is a pivot row, its block row is given
 use Prim.Native.Nat.{ℕ, _+_, _*_, _%_, _≤_, _<_}
 use mathlib.Core.Path.{_≡_}
 use mathlib.Core.Bool.{Bool, false, not, _&&_}

@@ -227,7 +227,7 @@ pub fn take_dense(
     if left.over {
         return dense_step(true, 0, at, l, total, 0, none);
     }
-    // `total` counts the entries of dependent rows too, which are stored later: their places are not free.
+    // `total` counts the entries of dependent rows too, which are at the end of the lists: this is where they begin.
     let end = l + (lc.len() - total);
     let d = lower_left(q, block, ks, s, r - s, start, left.next, end, lc, lv);
     let rest = d.row;

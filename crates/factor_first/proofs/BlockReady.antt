@@ -55,7 +55,7 @@ module _ (p i s first width : ℕ) (js ks : List ℕ) (block : List (List ℕ)) 
   abbrev f : Found
   f = h .turn .f
 
-  abbrev held : State f R C L U r at l total
+  abbrev held : State f R C L U r at l total (from .d)
   held = h .turn .state
 
   abbrev m : ℕ
@@ -65,13 +65,13 @@ module _ (p i s first width : ℕ) (js ks : List ℕ) (block : List (List ℕ)) 
   low = omega (arith, h .state .low, held .rank)
 
   ranked : r ≤ length C
-  ranked = rank-fits p A R C L U w (h .turn .lent) r at l total f (h .turn .holds) held
+  ranked = rank-fits p A R C L U w (h .turn .lent) r at l total (from .d) f (h .turn .holds) held
 
   few : s ≤ length (uppersOf f)
   few = omega (arith, h .state .low, uppers-many f)
 
   all-cut : cut r at (U .starts) (U .cols) (U .vals) ≡ compress (uppersOf f)
-  all-cut = cut-found f R C L U r at l total held
+  all-cut = cut-found f R C L U r at l total (from .d) held
 
   first-cut : cut s first (U .starts) (U .cols) (U .vals) ≡ compress (take s (uppersOf f))
   first-cut = cut-first (uppersOf f) at U (held .upper) s first few (h .state .start)

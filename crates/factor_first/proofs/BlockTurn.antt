@@ -1,6 +1,6 @@
--- A row that was taken in the block can be entered; what is left then is a turn, and the block holds what it finds.
-use mathlib.Core.Path.{_≡_, sym, _∙_}
-use mathlib.Core.Bool.{true, false, true≢false}
+-- A row that was taken in the block can be entered or its row of L kept; what is left then is a turn, and the block holds what it finds.
+use mathlib.Core.Path.{_≡_, refl, sym, _∙_}
+use mathlib.Core.Bool.{Bool, true, false, true≢false}
 use mathlib.Core.List.{List}
 use Prim.Native.Nat.{ℕ, _-_, _<_}
 use native.Mathlib.Decide.{decLt}
@@ -58,11 +58,11 @@ module _ (p i s first width : ℕ) (js ks : List ℕ) (block : List (List ℕ)) 
   abbrev c : ℕ
   c = reduction .column
 
-  pub dense-settle : (wide : ℕ) → wide ≡ m → SettleReady (o .step) r wide R C (L .starts) (U .starts)
+  pub dense-settle : (wide : ℕ) → wide ≡ m → SettleReady (o .step) from wide R C (compressed (L .starts) lc lv) (U .starts)
   dense-settle = settle-ready p i false A R C L U w from (h .turn) lc lv uc uv work (o .step) (d .taken)
 
   -- the block with one row set
-  block-after : o .step .over ≡ false → (f : Found) → State f R C L U r at l total → DenseState s first width js ks block m f
+  block-after : o .step .over ≡ false → (f : Found) → State f R C L U r at l total (from .d) → DenseState s first width js ks block m f
       → DenseState s first width js (set ks (r - s) (o .place)) (set block (r - s) (o .row)) m (turn p m (matrix A) f (other i))
   block-after e f held g = go (decLt c m)
     where
@@ -71,15 +71,19 @@ module _ (p i s first width : ℕ) (js ks : List ℕ) (block : List (List ℕ)) 
 
       go : Dec (c < m) → DenseState s first width js (set ks (r - s) (o .place)) (set block (r - s) (o .row)) m (turn p m (matrix A) f (other i))
       go (yes b) =
-          rw (pivot-is p m (matrix A) i false f R C L U r at l total held never b) (block-more s first width js ks block m f g r (held .rank) (o .place) (o .row) p i c cs rest (omega (arith, h .rows, h .ks-long)) (omega (arith, h .rows, h .block-long))
+          rw (pivot-is p m (matrix A) i false f R C L U r at l total (from .d) held never b) (block-more s first width js ks block m f g r (held .rank) (o .place) (o .row) p i c cs rest (omega (arith, h .rows, h .ks-long)) (omega (arith, h .rows, h .block-long))
           (rw (sym (d .taken .column e)) (d .next e (omega (arith, d .taken .column e)))))
       go (no b) =
-          rw (dependent-is p m (matrix A) i false f R C L U r at l total held never (omega arith)) (block-beside s first width js ks block m f g r (held .rank) (o .place) (o .row) i cs)
+          rw (dependent-is p m (matrix A) i false f R C L U r at l total (from .d) held never (omega arith)) (block-beside s first width js ks block m f g r (held .rank) (o .place) (o .row) i cs)
 
-  pub dense-turned : (wide : ℕ) → wide ≡ m → (R′ C′ ls′ us′ : List ℕ) (to : Progress) → Settled (o .step) i r wide R C (L .starts) (U .starts) R′ C′ ls′ us′ to
-      → DenseTurned p i s first width js ks block A (storageOf R C L U w) (storageOf R′ C′ (compressed ls′ lc lv) (compressed us′ uc uv) work) from (record { progress = to; place = o .place; row = o .row })
-  dense-turned wide ew R′ C′ ls′ us′ to t =
+  pub dense-turned : (wide : ℕ) → wide ≡ m → (R′ C′ : List ℕ) (L′ : Compressed) (us′ : List ℕ) (to : Progress) → Settled (o .step) i from wide R C (compressed (L .starts) lc lv) (U .starts) R′ C′ L′ us′ to
+      → DenseTurned p i s first width js ks block A (storageOf R C L U w) (storageOf R′ C′ L′ (compressed us′ uc uv) work) from (record { progress = to; place = o .place; row = o .row })
+  dense-turned wide ew R′ C′ L′ us′ to t =
       record {
-        turned = row-settled p i false A R C L U w from (h .turn) lc lv uc uv work (o .step) (d .taken) wide ew R′ C′ ls′ us′ to t;
-        grown = λ e f held g. block-after (sym (t .same .0) ∙ e) f held g;
+        turned = row-settled p i false A R C L U w from (h .turn) lc lv uc uv work (o .step) (d .taken) wide ew R′ C′ L′ us′ to t;
+        grown = λ e f held g. block-after (fitted (o .step .over) refl e) f held g;
       }
+    where
+      fitted : (b : Bool) → o .step .over ≡ b → to .over ≡ false → o .step .over ≡ false
+      fitted true q e = absurd (true≢false (sym (t .over q .0) ∙ e))
+      fitted false q e = q

@@ -1,13 +1,14 @@
 -- The pass in its two parts: where the first stops, the lists are ready for the second, and what the second finds is what the schedule finds.
-use mathlib.Core.Path.{_≡_, refl, sym, ap, _∙_, subst}
-use mathlib.Core.Bool.{Bool, true, false, cond, _&&_}
+use mathlib.Core.Path.{_≡_, sym, ap, _∙_, subst}
+use mathlib.Core.Bool.{Bool, true, false}
 use mathlib.Core.List.{List, _++_, map}
+use mathlib.Core.Option.{some}
 use Prim.Native.Nat.{ℕ, _+_, _-_, _≤_, _<_}
 use native.Mathlib.Omega.{arith}
-use lib.Dec.{leb}
+use lib.Dec.{leb, ltb}
 use lib.ListN.{length, getD, take, drop, length-map, length-drop}
 use lib.Seq.{length-take-le, getD-drop, drop-at}
-use borrow.Author.Tests.{leb-true}
+use borrow.Author.Tests.{leb-true, lt-ltb}
 use Rattle.lists.specs.Filled.{zeros}
 use Rattle.lists.proofs.Bools.{and-left, and-right}
 use Rattle.sparse.specs.Matrix.{Compressed, matrix}
@@ -20,33 +21,30 @@ use Rattle.factor_turn.specs.declared.turn.Progress.{Progress}
 use Rattle.factor_turn.specs.declared.turn.Pass.{Pass}
 use Rattle.factor_turn.specs.State.{StateOf}
 use Rattle.factor_turn.specs.Passing.{pairsOf, PassLeaves}
-use Rattle.factor_turn.specs.Needs.{PassReady}
+use Rattle.factor_turn.specs.Turning.{TurnLeaves}
+use Rattle.factor_turn.specs.Needs.{TurnReady, PassReady}
 use Rattle.factor_turn.proofs.Schedules.{rows-are, pairs-many}
-use Rattle.factor_turn.proofs.PivotPass.{Passing, passing-ends, same-lent}
-use Rattle.factor_first.specs.Dense.{sparseEnd, DenseFrom, TurnsLeave, RowsTaken}
-use Rattle.factor_first.specs.Needs.{RowsReady}
+use Rattle.factor_turn.proofs.PivotPass.{Passing, passing-ready, passing-over, passing-turn, passing-ends, SameLengths, same-lent}
+use Rattle.factor_turn.specs.Others.{RowsFrom, TurnsLeave, RowsTaken, RestReady}
+use Rattle.factor_others.specs.Needs.{OthersReady}
+use Rattle.factor_first.specs.Dense.{fitsBlock}
+use Rattle.factor_first.specs.Needs.{RowsReady, RemainingReady}
 
--- ---- where the first part stops
+-- ---- what is left after the pairs fits the block
 
--- at the last row, or after the pairs where little is left
-pub record StopsAt (n m s end : ℕ) : Type 0 where
-  pub inside : end ≤ n
-  pub early : end < n → (end ≡ s) × (n ≤ s + 32) × (m ≤ s + 32)
+pub block-fits : (n m s : ℕ) (b : Bool) → b ≡ fitsBlock n m s → b ≡ true → (n ≤ s + 32) × (m ≤ s + 32)
+block-fits n m s b e t =
+    let z : fitsBlock n m s ≡ true = sym e ∙ t in
+    (omega (arith, leb-true (n - s) 32 (and-left (leb (n - s) 32) (leb (m - s) 32) z)), omega (arith, leb-true (m - s) 32 (and-right (leb (n - s) 32) (leb (m - s) 32) z)))
 
-pub stops-at : (n m s end : ℕ) → s ≤ n → s ≤ m → end ≡ sparseEnd n m s → StopsAt n m s end
-stops-at n m s end hn hm e = subst (StopsAt n m s) (sym e) (go (leb (n - s) 32 && leb (m - s) 32) refl)
-  where
-    go : (b : Bool) → (leb (n - s) 32 && leb (m - s) 32) ≡ b → StopsAt n m s (cond b s n)
-    go true z =
-        record {
-          inside = hn;
-          early = λ b. (
-            refl,
-            omega (arith, leb-true (n - s) 32 (and-left (leb (n - s) 32) (leb (m - s) 32) z)),
-            omega (arith, leb-true (m - s) 32 (and-right (leb (n - s) 32) (leb (m - s) 32) z)),
-          );
-        }
-    go false z = record { inside = omega arith; early = λ b. absurd (omega arith) }
+module _ (p s : ℕ) (A : Compressed) (R C : List ℕ) (L U : Compressed) (w : List ℕ) (from : Progress) (h : RemainingReady p s A (storageOf R C L U w) from) where
+  pub block-ready : (b : Bool) → b ≡ fitsBlock (length R) (length w) s → b ≡ true → RowsReady p s A (storageOf R C L U w) from
+  block-ready b e t =
+      let few = block-fits (length R) (length w) s b e t in
+      record { ready = h .ready; columns-inside = h .columns-inside; few-rows = few .0; few-columns = omega (arith, few .1, h .ready .lent .columns); columns-order = h .columns-order (few .0) (few .1) }
+
+  pub others-ready : OthersReady p s A (storageOf R C L U w) from
+  others-ready = record { ready = h .ready; narrow = h .narrow }
 
 -- ---- the rows after the pairs
 
@@ -68,6 +66,26 @@ module _ (s : ℕ) (R C : List ℕ) (hR : s ≤ length R) (hC : s ≤ length C) 
       ∙ ap (λ (l : List ℕ). map other (rest l (length R))) (rows-are s R C hR hC)
       ∙ ap (map other) (sym rows-after)
 
+-- ---- the pairs
+
+module _ (p s : ℕ) (A : Compressed) (R₀ C₀ : List ℕ) (L₀ U₀ : Compressed) (w₀ : List ℕ) (h : PassReady p s A (storageOf R₀ C₀ L₀ U₀ w₀))
+    (R C : List ℕ) (L U : Compressed) (w : List ℕ) (k : ℕ) (from : Progress) (t : Passing p s A R₀ C₀ L₀ U₀ w₀ R C L U w k from) (b : k < s) where
+  row-inside : k < length R₀
+  row-inside = omega (arith, h .rows-inside)
+
+  pub pair-ready : TurnReady p (getD R k 0) true A (storageOf R C L U w) from
+  pair-ready = subst (λ (x : Bool). TurnReady p (getD R k 0) x A (storageOf R C L U w) from) (lt-ltb k s b) (passing-ready p s A R₀ C₀ L₀ U₀ w₀ h R C L U w k from t row-inside)
+
+  module _ (R′ C′ : List ℕ) (L′ U′ : Compressed) (w′ : List ℕ) (to : Progress) (d : TurnLeaves p (getD R k 0) true A (storageOf R C L U w) (storageOf R′ C′ L′ U′ w′) from to) where
+    leaves : TurnLeaves p (getD R k 0) (ltb k s) A (storageOf R C L U w) (storageOf R′ C′ L′ U′ w′) from to
+    leaves = subst (λ (x : Bool). TurnLeaves p (getD R k 0) x A (storageOf R C L U w) (storageOf R′ C′ L′ U′ w′) from to) (sym (lt-ltb k s b)) d
+
+    pub pair-over : to .over ≡ true → firstOver p (length w₀) (matrix A) (length (L₀ .cols)) (length (U₀ .cols)) nothing (schedule (length R₀) (pairsOf s R₀ C₀)) ≡ some (getD R k 0)
+    pair-over = passing-over p s A R₀ C₀ L₀ U₀ w₀ h R C L U w k from t row-inside R′ C′ L′ U′ w′ to leaves
+
+    pub pair-turn : to .over ≡ false → SameLengths R₀ C₀ L₀ U₀ w₀ R′ C′ L′ U′ w′ → Passing p s A R₀ C₀ L₀ U₀ w₀ R′ C′ L′ U′ w′ (k + 1) to
+    pair-turn = passing-turn p s A R₀ C₀ L₀ U₀ w₀ h R C L U w k from t row-inside R′ C′ L′ U′ w′ to leaves
+
 -- ---- from the first part to the second
 
 module _ (p s : ℕ) (A : Compressed) (R₀ C₀ : List ℕ) (L₀ U₀ : Compressed) (w₀ : List ℕ) (h : PassReady p s A (storageOf R₀ C₀ L₀ U₀ w₀))
@@ -82,15 +100,12 @@ module _ (p s : ℕ) (A : Compressed) (R₀ C₀ : List ℕ) (L₀ U₀ : Compre
   pub all-taken : length R₀ ≤ k → (stop : ℕ) → PassLeaves p s m A (storageOf R₀ C₀ L₀ U₀ w₀) (storageOf R C L U w) (record { stop = stop; progress = from })
   all-taken b stop = passing-ends p s A R₀ C₀ L₀ U₀ w₀ h R C L U w k (record { stop = stop; progress = from }) t going b
 
-  module _ (end : ℕ) (stops : StopsAt (length R₀) m s end) (low : k ≤ end) (done : end ≤ k) (b : k < length R₀) where
-    early : (end ≡ s) × (length R₀ ≤ s + 32) × (m ≤ s + 32)
-    early = stops .early (omega arith)
-
+  module _ (low : k ≤ s) (done : s ≤ k) where
     at-pairs : k ≡ s
-    at-pairs = omega (arith, early .0)
+    at-pairs = omega arith
 
     same-pairs : (from .r ≡ k) × (C ≡ C₀)
-    same-pairs = t .pairs (omega (arith, at-pairs))
+    same-pairs = t .pairs low
 
     ahead : drop s R ≡ drop s R₀
     ahead = subst (λ (j : ℕ). drop j R ≡ drop j R₀) at-pairs (t .ahead)
@@ -104,25 +119,31 @@ module _ (p s : ℕ) (A : Compressed) (R₀ C₀ : List ℕ) (L₀ U₀ : Compre
             ∙ sym (getD-drop s R (j - s) 0)
             ∙ ap (λ (x : List ℕ). getD x (j - s) 0) ahead
 
-    rows-from : DenseFrom p A (storageOf R C L U w) from (t .f)
+    rows-from : RowsFrom p A (storageOf R C L U w) from (t .f)
     rows-from = record { holds = rw (t .same .R-long, t .same .w-long) (t .holds); state = t .state }
 
-    pub rows-ready : RowsReady p s A (storageOf R C L U w) from
-    rows-ready =
+    rest-ready : RestReady p s A (storageOf R C L U w) from
+    rest-ready =
         record {
           going = going;
           lent = same-lent p A R₀ C₀ L₀ U₀ w₀ R C L U w (t .same) (t .clear) (h .lent);
           rank = same-pairs .0 ∙ at-pairs;
+          alone = omega (arith, same-pairs .0, t .rows);
           rows-inside = omega (arith, h .rows-inside, t .same .R-long);
-          columns-inside = omega (arith, h .columns-inside, t .same .C-long);
-          few-rows = omega (arith, early .1, t .same .R-long);
-          few-columns = omega (arith, early .2, t .same .C-long, h .lent .columns);
           L-room = omega (arith, t .L-room, t .same .lc-long);
           U-room = omega (arith, t .U-room, t .same .uc-long);
           below = below;
-          columns-order = rw (same-pairs .1) (h .columns-order (early .1) (early .2));
           f = t .f;
           held = rows-from;
+        }
+
+    pub remaining-ready : RemainingReady p s A (storageOf R C L U w) from
+    remaining-ready =
+        record {
+          ready = rest-ready;
+          narrow = omega (arith, h .narrow, t .same .w-long);
+          columns-inside = omega (arith, h .columns-inside, t .same .C-long);
+          columns-order = λ a b. rw (same-pairs .1) (h .columns-order (omega (arith, t .same .R-long)) (omega (arith, t .same .w-long)));
         }
 
     -- the turns that the second part takes are those that remain

@@ -2,7 +2,8 @@
 ghost use Prim.Native.Nat.{_≤_, _+_};
 ghost use lib.ListN.{length};
 ghost use Rattle.sparse.specs.Views.{before, storedAt, storedBefore, storageAt, storageBefore, storageAfter};
-ghost use Rattle.factor_first.specs.Dense.{TailCopied, DenseTurned, RowsTaken};
+ghost use Rattle.factor_turn.specs.Others.{RowsTaken};
+ghost use Rattle.factor_first.specs.Dense.{TailCopied, DenseTurned};
 ghost use Rattle.factor_first.specs.Needs.{DenseTurnReady, RowsReady};
 use factor_dense::taking::take_dense;
 use factor_turn::turn::Pass;
@@ -31,7 +32,7 @@ fn tail(s: usize, list: &[u32]) -> [u32; 32]
     out
 }
 
-// Takes row i in the block, and enters it where it is a pivot row.
+// Takes row i in the block, and enters it where it is a pivot row or keeps its row of L.
 fn take_dense_row(
     q: Modulus,
     starts: &[u32],
@@ -86,7 +87,7 @@ fn take_dense_row(
     let step = d.step;
     let row = d.row;
     let m = work.len();
-    let to = settle(step, i, r, m, ro, co, ls, us);
+    let to = settle(step, i, from, m, ro, co, ls, lc, lv, us);
     DenseTurn {
         progress: to,
         place: d.place,

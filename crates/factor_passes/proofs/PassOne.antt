@@ -127,6 +127,7 @@ module _ (p s : ℕ) (A : Compressed) (S : Storage) (h : FromReady p s A S) wher
             rows-inside = omega (arith, R-kept, h .rows-inside);
             columns-inside = omega (arith, C-kept, h .columns-inside);
             pairs = rw (R-kept, length-take-le m (S .work) (h .lists .m-fits), same-pairs) (h .pairs);
+            narrow = omega (arith, length-take-le m (S .work) (h .lists .m-fits), h .lists .m-narrow);
             order = order-completed s (S .R) (h .rows-inside) R₁ marks₁ cr R-distinct;
             columns-order = λ a b. cc .order (omega (arith, R-kept)) (omega (arith, length-take-le m (S .work) (h .lists .m-fits)));
             L-clear = h .L-clear;

@@ -2,7 +2,7 @@
 use mathlib.Core.Path.{_≡_, refl, sym, ap, _∙_}
 use mathlib.Core.Bool.{true}
 use mathlib.Core.List.{List, _++_}
-use Prim.Native.Nat.{ℕ, _≤_}
+use Prim.Native.Nat.{ℕ, _*_, _^_, _≤_, _<_}
 use native.Mathlib.Omega.{arith}
 use lib.ListN.{length, take, drop, take-append-drop}
 use lib.Seq.{length-take-le}
@@ -36,6 +36,9 @@ wide S fits = length-take-le (length (S .C)) (S .work) fits
 
 pub lists-formed : (p : ℕ) (A : Compressed) (S : Storage) → PassLists p A S → form p (length (S .C)) A ≡ true
 lists-formed p A S h = rw (wide S (h .m-fits)) at (h .lent .formed)
+
+pub lists-small : (p : ℕ) (A : Compressed) (S : Storage) → PassLists p A S → length (S .R) * length (S .C) < 2 ^ 32
+lists-small p A S h = rw (wide S (h .m-fits)) at (h .lent .small)
 
 -- the same of other lists of the same lengths
 pub lists-same : (p : ℕ) (A : Compressed) (S S′ : Storage) → KeptLengths S S′ → S′ .work ≡ zeros (length (S′ .work)) → PassLists p A S → PassLists p A S′

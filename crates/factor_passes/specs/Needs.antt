@@ -1,10 +1,11 @@
--- What the two passes need of what is lent to the factoring.
+-- What the pass and what is done after it need of what is lent to the factoring.
 --   narrowed h                  the lists of h, with as many cells of the working row as there are columns
 --   PassLists p A h             these are lent as a turn takes them; no size is over its limit, and the working row is all zero and as long as both sizes
 --   FromReady p s A h           the first s places of R and C hold pairs that can be pivots as they stand; the factors' lists are all zero
---   CompleteReady p A h r at l  what the first pass found is held (FoundFrom), for some f
+--   CompleteReady R C L w ..    what the first pass found is held (FoundFrom), for some f; the sizes are within their limit, and the working row is all zero and as long as both
 use Prim.Native.Nat.{ℕ, _≤_}
 use mathlib.Core.Path.{_≡_}
+use mathlib.Core.List.{List}
 use lib.ListN.{length, take}
 use Rattle.limits.specs.Limits.{largestSize}
 use Rattle.lists.specs.Filled.{zeros}
@@ -35,8 +36,11 @@ pub record FromReady (p s : ℕ) (A : Compressed) (h : Storage) : Type 0 where
   pub L-clear : Cleared (h .L)
   pub U-clear : Cleared (h .U)
 
-pub record CompleteReady (p : ℕ) (A : Compressed) (h : Storage) (r at l : ℕ) : Type 0 where
-  pub lists : PassLists p A h
+pub record CompleteReady (R C : List ℕ) (L : Compressed) (w : List ℕ) (r l total : ℕ) : Type 0 where
+  pub n-narrow : length R ≤ largestSize
+  pub m-narrow : length C ≤ largestSize
+  pub n-fits : length R ≤ length w
+  pub m-fits : length C ≤ length w
+  pub clear : w ≡ zeros (length w)
   pub f : Found
-  pub total : ℕ
-  pub from : FoundFrom p A h r at l total f
+  pub from : FoundFrom R C L r l total f

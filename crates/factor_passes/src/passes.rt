@@ -1,16 +1,16 @@
-// The two passes, each with the orders completed first: by the rows that the first pass takes after the pairs and the columns that
-// its block has, and by what the factors lack. The working row marks the rows or the columns of an order
-// while it is completed.
+// The pass over the rows, with the orders completed first by the rows that it takes after the pairs and the columns that its block has; and what
+// is done after it: the orders are completed by what the factors lack, and L's lists turned round. The working row marks the rows or the
+// columns of an order while it is completed.
 ghost use Prim.Native.Nat.{_≤_};
 ghost use lib.ListN.{length};
 ghost use Rattle.factor_turn.specs.Passing.{PassLeaves};
 ghost use Rattle.factor_order.specs.Needs.{Completable};
 ghost use Rattle.factor_passes.specs.Completing.{ColumnsCompleted, Completes};
 ghost use Rattle.factor_passes.specs.Needs.{FromReady, CompleteReady};
-ghost use Rattle.sparse.specs.Views.{before, after, storedAt, storedBefore, storageAt, storageBefore, storageAfter};
+ghost use Rattle.sparse.specs.Views.{before, after, storedAt, storedBefore, storedAfter, storageAt, storageBefore, storageAfter};
 use factor_first::pass::find_pivots;
 use factor_order::complete::complete;
-use factor_turn::fill::fill_dependents;
+use factor_turn::keeping::turn_lower;
 use factor_turn::turn::Pass;
 use residue::Modulus;
 
@@ -70,18 +70,12 @@ pub fn pass_one(
     )
 }
 
-// Completes R and C, of which the first r are the pivots', and stores the rows of L of the dependent rows.
+// Completes R and C, of which the first r are the pivots', and turns the rows of L round that are at the end of its lists: l entries are those of
+// the pivot rows, `total` all.
 pub fn pass_two(
-    q: Modulus,
-    starts: &[u32],
-    cols: &[u32],
-    vals: &[u32],
     r: usize,
-    at: usize,
     l: usize,
-    us: &[u32],
-    uc: &[u32],
-    uv: &[u32],
+    total: usize,
     ro: &mut [u32],
     co: &mut [u32],
     ls: &mut [u32],
@@ -89,29 +83,12 @@ pub fn pass_two(
     lv: &mut [u32],
     work: &mut [u64],
 )
-    requires { ⌜ CompleteReady (q .p) (storedAt starts cols vals) (storageAt ro co ls lc lv us uc uv work) r at l ⌝ }
-    ensures { λ _. ⌜ Completes (q .p) (storedBefore starts cols vals) (storageBefore ro co ls lc lv us uc uv work) (storageAfter ro co ls lc lv us uc uv work) r at l ⌝ }
+    requires { ⌜ CompleteReady (now ro) (now co) (storedAt ls lc lv) (now work) r l total ⌝ }
+    ensures { λ _. ⌜ Completes (before ro) (before co) (storedBefore ls lc lv) (before work) (after ro) (after co) (storedAfter ls lc lv) (after work) r l total ⌝ }
 {
     let n = ro.len();
     let m = co.len();
     complete(r, co, &mut work[..m]);
     complete(r, ro, &mut work[..n]);
-    fill_dependents(
-        q,
-        starts,
-        cols,
-        vals,
-        r,
-        at,
-        l,
-        ro,
-        co,
-        us,
-        uc,
-        uv,
-        ls,
-        lc,
-        lv,
-        &mut work[..m],
-    );
+    turn_lower(r, l, total, ls, lc, lv);
 }

@@ -25,9 +25,6 @@ sets-front l i ys h =
     ap (take (i + length ys)) (sets-eq ys l i h)
     ∙ take-at (take i l ++ ys) (drop (i + length ys) l) (i + length ys) (omega (arith, length-append (take i l) ys, length-take-le i l (omega arith)))
 
-sets-before : (l : List ℕ) (i : ℕ) (ys : List ℕ) → i + length ys ≤ length l → take i (sets l i ys) ≡ take i l
-sets-before l i ys h = ap (take i) (sets-eq ys l i h ∙ append-assoc (take i l) ys (drop (i + length ys) l)) ∙ take-at (take i l) (ys ++ drop (i + length ys) l) i (length-take-le i l (omega arith))
-
 sets-after : (l : List ℕ) (i : ℕ) (ys : List ℕ) (b : ℕ) → i + length ys ≤ b → b ≤ length l → drop b (sets l i ys) ≡ drop b l
 sets-after l i ys b h g =
     ap (λ (k : ℕ). drop k (sets l i ys)) split
@@ -62,7 +59,7 @@ module _ (xs : List ℕ) (b : ℕ) (l : List ℕ) (h : Begins xs b l) where
   back-written ys b′ g k e =
       sets-after l (length xs) ys b′ g e ∙ later-zero b′ k ∙ ap (λ (n : ℕ). zeros (n - b′)) (sym (length-sets l (length xs) ys))
 
-  -- ys are written after xs, and count
+  -- ys are written after xs
   pub begins-more : (ys : List ℕ) (b′ : ℕ) → length xs + length ys ≤ b′ → b ≤ b′ → b′ ≤ length l → Begins (xs ++ ys) b′ (sets l (length xs) ys)
   begins-more ys b′ g k e =
       record {
@@ -70,15 +67,6 @@ module _ (xs : List ℕ) (b : ℕ) (l : List ℕ) (h : Begins xs b l) where
             ∙ sets-front l (length xs) ys (omega arith)
             ∙ ap (λ (z : List ℕ). z ++ ys) (h .front);
         inside = omega (arith, length-append xs ys);
-        back = back-written ys b′ g k e;
-      }
-
-  -- ys are written after xs, and do not count
-  pub begins-same : (ys : List ℕ) (b′ : ℕ) → length xs + length ys ≤ b′ → b ≤ b′ → b′ ≤ length l → Begins xs b′ (sets l (length xs) ys)
-  begins-same ys b′ g k e =
-      record {
-        front = sets-before l (length xs) ys (omega arith) ∙ h .front;
-        inside = omega arith;
         back = back-written ys b′ g k e;
       }
 
@@ -151,15 +139,6 @@ module _ (rows : List (List ℕ)) (b : ℕ) (h : Compressed) (s : Holds rows b h
         start =
             subst (λ (n : ℕ). Begins (compress rows .starts ++ (next ∷ [])) (length rows + 2) (set (h .starts) n next)) (starts-long ∙ sym ei)
             (begins-more (compress rows .starts) (length rows + 1) (h .starts) (s .starts) (next ∷ []) (length rows + 2) (omega (arith, starts-long)) (omega arith) (omega arith))
-
-    -- the row is written and does not count
-    pub holds-same : Holds rows b′ (compressed (h .starts) cols vals)
-    holds-same =
-        record {
-          starts = s .starts;
-          columns = rw columns-written (begins-same (compress rows .cols) b (h .cols) (s .columns) (columnsFrom 0 row) b′ columns-fit k ec);
-          values = rw values-written (begins-same (compress rows .vals) b (h .vals) (s .values) (nonzeros row) b′ values-fit k ev);
-        }
 
 -- before the first row the lists are all zero
 pub holds-none : (h : Compressed) → 0 < length (h .starts) → h .starts ≡ zeros (length (h .starts)) → h .cols ≡ zeros (length (h .cols)) → h .vals ≡ zeros (length (h .vals)) → Holds [] 0 h

@@ -2,7 +2,7 @@
 --   nextUpperRow p m c w              w divided by its value at column c: the next row of U
 --   nextLowerRow t                    the multiples and then what remains at the pivot column: the row of L of a pivot row
 --   PivotFound p at l total t ..      something remains: the row of L is stored at place l, and the row of U at place `at`
---   DependentFound at l total t ..    nothing remains: the row of L is the multiples; it is counted, and stands at place l until the next pivot row
+--   DependentFound at l total t ..    nothing remains: the row of L is the multiples; it is counted, and stands at place l
 --   RowFound p at l total t ..        the one or the other, as the pivot column says
 use Prim.Native.Nat.{ℕ, _+_, _*_, _%_, _≤_, _<_}
 use mathlib.Core.Path.{_≡_}

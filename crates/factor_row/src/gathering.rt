@@ -32,7 +32,7 @@ fn gather_cut(
     ensures { λ g. ⌜ RowGathered (q .p) l total (reductionBy (q .p) (length (before work)) (length (before co)) (before co) (storedBefore us uc uv) (rowBefore starts cols vals i)) (before lc) (before lv) (after lc) (after lv) (after work) g ⌝ }
 {
     load_row(starts, cols, vals, i, q.p, work);
-    // `total` counts the entries of dependent rows too, which are stored later: their places are not free.
+    // `total` counts the entries of dependent rows too, which are at the end of the lists: this is where they begin.
     let limit = l + (lc.len() - total);
     gather_multiples(q, us, uc, uv, co, l, limit, work, lc, lv)
 }

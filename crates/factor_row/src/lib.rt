@@ -1,4 +1,4 @@
-// One row of a stored matrix after another becomes a pivot row or is found dependent.
+// A row of a stored matrix becomes a pivot row as it stands, or is reduced by the rows of U.
 pub mod gathering;
 pub mod loading;
 pub mod pivot_copy;

@@ -1,5 +1,7 @@
+pub mod Reversing
+pub mod Ends
+pub mod EndRows
 pub mod Steps
-pub mod Finding
 pub mod Settling
 pub mod Sizes
 pub mod Readiness
@@ -7,4 +9,5 @@ pub mod TurnedRows
 pub mod TakeRow
 pub mod Schedules
 pub mod PivotPass
-pub mod LowerPass
+pub mod LastTurn
+pub mod OtherRows

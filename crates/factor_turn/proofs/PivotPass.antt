@@ -12,12 +12,13 @@ use lib.Seq.{length-take-le, getD-take, getD-drop, drop-drop}
 use borrow.Author.Tests.{leb-true, ltb-true, lt-ltb}
 use Rattle.lists.specs.Filled.{zeros}
 use Rattle.lists.proofs.Bools.{and-left, and-right}
-use Rattle.algebra.specs.Matrix.{Matrix, Distinct, vector}
+use Rattle.algebra.specs.Matrix.{Vector, Matrix, Distinct, vector}
 use Rattle.sparse.specs.Matrix.{Compressed, matrix}
 use Rattle.sparse.specs.Set.{storageOf}
 use Rattle.elimination.specs.Pairs.{pairRows, pairColumns}
-use Rattle.elimination.specs.Pivots.{Found, Turn, columnsOf, uppersOf, rankOf, withDependent, pair, other, turn, reducedBy, multiplesBy}
+use Rattle.elimination.specs.Pivots.{Found, Turn, columnsOf, uppersOf, rankOf, withPivot, withDependent, pair, other, turn, reducedBy, multiplesBy}
 use Rattle.elimination.specs.Factoring.{schedule, nothing, rowOfTurn, entries, lowersOf, fits, firstOver}
+use Rattle.algebra.proofs.Listed.{snoc-length}
 use Rattle.algebra.proofs.Completion.{completed}
 use Rattle.elimination.specs.Invariant.{Invariant}
 use Rattle.elimination.proofs.Invariant.{nothing-holds}
@@ -25,18 +26,19 @@ use Rattle.elimination.proofs.Turns.{other-either}
 use Rattle.factor_row.proofs.Storage.{holds-none}
 use Rattle.factor_turn.specs.declared.turn.Progress.{Progress}
 use Rattle.factor_turn.specs.declared.turn.Pass.{Pass}
-use Rattle.factor_turn.specs.State.{pivotRows, pivotLowers, State, turnOf, AfterTurn}
+use Rattle.factor_turn.specs.State.{pivotRows, pivotLowers, dependentLowers, State, turnOf, AfterTurn}
 use Rattle.factor_turn.specs.Turning.{TurnLeaves}
 use Rattle.factor_turn.specs.Passing.{pairsOf, Cleared, PassLeaves}
 use Rattle.factor_turn.specs.Needs.{Lent, PairAt, TurnReady, PassReady}
+use Rattle.factor_turn.proofs.EndRows.{ends-clear}
 use Rattle.factor_turn.proofs.Steps.{rank-more}
 use Rattle.factor_turn.proofs.Readiness.{turn-holds}
 use Rattle.factor_turn.proofs.Schedules.{Remaining, remaining-starts, remaining-turn, remaining-over, remaining-none, rows-are, columns-are, pairs-many, schedule-turn, schedule-ends}
 
 -- ---- before the first turn
 
-pub nothing-state : (R C : List ℕ) (L U : Compressed) → 0 < length (L .starts) → 0 < length (U .starts) → Cleared L → Cleared U → State nothing R C L U 0 0 0 0
-unfolding entries pivotRows pivotLowers columnsOf uppersOf lowersOf
+pub nothing-state : (R C : List ℕ) (L U : Compressed) → 0 < length (L .starts) → 0 < length (U .starts) → Cleared L → Cleared U → State nothing R C L U 0 0 0 0 0
+unfolding entries pivotRows pivotLowers dependentLowers columnsOf uppersOf lowersOf
 nothing-state R C L U someL someU cL cU =
     record {
       rank = refl;
@@ -46,16 +48,28 @@ nothing-state R C L U someL someU cL cU =
       rows = refl;
       columns = refl;
       upper = holds-none U someU (cU .starts) (cU .columns) (cU .values);
-      lower = holds-none L someL (cL .starts) (cL .columns) (cL .values);
+      lower = ends-clear L someL (cL .starts) (cL .columns) (cL .values);
+      dependents = refl;
     }
 
--- ---- the rank after a turn
+-- ---- the pivots and the dependent rows after a turn
 
-pub rank-turn : (p m : ℕ) (A : Matrix) (f : Found) (paired : Bool) (i c : ℕ) → rankOf (turn p m A f (turnOf paired i c)) ≤ suc (rankOf f)
-unfolding turn withDependent
-rank-turn p m A f true i c = omega (arith, rank-more p m f i c (zeros (rankOf f)) (A i))
-rank-turn p m A f false i c =
-    other-either p m A f i (λ g. rankOf g ≤ suc (rankOf f)) (omega arith) (λ c. omega (arith, rank-more p m f i c (multiplesBy p f (A i)) (reducedBy p f (rankOf f) (A i))))
+abbrev pub rowsFound : Found → ℕ
+rowsFound f = rankOf f + length (f .dependents)
+
+pivot-rows : (p m : ℕ) (f : Found) (i c : ℕ) (cs : List ℕ) (w : Vector) → rowsFound (withPivot p m f i c cs w) ≡ suc (rowsFound f)
+unfolding withPivot
+pivot-rows p m f i c cs w = omega (arith, rank-more p m f i c cs w)
+
+dependent-rows : (f : Found) (i : ℕ) (cs : List ℕ) → rowsFound (withDependent f i cs) ≡ suc (rowsFound f)
+unfolding withDependent
+dependent-rows f i cs = omega (arith, snoc-length (f .dependents) (record { row = i; lower = cs }))
+
+pub rows-turn : (p m : ℕ) (A : Matrix) (f : Found) (paired : Bool) (i c : ℕ) → rowsFound (turn p m A f (turnOf paired i c)) ≡ suc (rowsFound f)
+unfolding turn
+rows-turn p m A f true i c = pivot-rows p m f i c (zeros (rankOf f)) (A i)
+rows-turn p m A f false i c =
+    other-either p m A f i (λ g. rowsFound g ≡ suc (rowsFound f)) (dependent-rows f i (multiplesBy p f (A i))) (λ c. pivot-rows p m f i c (multiplesBy p f (A i)) (reducedBy p f (rankOf f) (A i)))
 
 rank-pair : (p m : ℕ) (A : Matrix) (f : Found) (paired : Bool) (i c : ℕ) → paired ≡ true → rankOf (turn p m A f (turnOf paired i c)) ≡ suc (rankOf f)
 unfolding turn
@@ -120,24 +134,24 @@ module _ (p s : ℕ) (A : Compressed) (R₀ C₀ : List ℕ) (L₀ U₀ : Compre
     pub inside : k ≤ n
     pub same : SameLengths R₀ C₀ L₀ U₀ w₀ R C L U w
     pub clear : w ≡ zeros (length w)
-    pub rank : from .r ≤ k
+    pub rows : from .r + from .d ≤ k
     pub L-room : from .total ≤ length (L₀ .cols)
     pub U-room : from .at ≤ length (U₀ .cols)
     pub ahead : drop k R ≡ drop k R₀
     pub pairs : k ≤ s → (from .r ≡ k) × (C ≡ C₀)
     pub f : Found
     pub holds : Invariant p n m (matrix A) f
-    pub state : State f R C L U (from .r) (from .at) (from .l) (from .total)
+    pub state : State f R C L U (from .r) (from .at) (from .l) (from .total) (from .d)
     pub left : Remaining p m (matrix A) (length (L₀ .cols)) (length (U₀ .cols)) nothing all f (drop k all)
 
   module _ (h : PassReady p s A (storageOf R₀ C₀ L₀ U₀ w₀)) where
-    pub passing-starts : Passing R₀ C₀ L₀ U₀ w₀ 0 (record { over = false; r = 0; at = 0; l = 0; total = 0 })
+    pub passing-starts : Passing R₀ C₀ L₀ U₀ w₀ 0 (record { over = false; r = 0; at = 0; l = 0; total = 0; d = 0 })
     passing-starts =
         record {
           inside = omega arith;
           same = record { R-long = refl; C-long = refl; ls-long = refl; lc-long = refl; lv-long = refl; us-long = refl; uc-long = refl; uv-long = refl; w-long = refl };
           clear = h .lent .clear;
-          rank = omega arith;
+          rows = omega arith;
           L-room = omega arith;
           U-room = omega arith;
           ahead = refl;
@@ -191,7 +205,7 @@ module _ (p s : ℕ) (A : Compressed) (R₀ C₀ : List ℕ) (L₀ U₀ : Compre
           record {
             lent = same-lent p A R₀ C₀ L₀ U₀ w₀ R C L U w (t .same) (t .clear) (h .lent);
             row = omega (arith, row-is, row-below k b, t .same .R-long);
-            more = omega (arith, t .rank, t .same .R-long);
+            more = omega (arith, t .rows, t .same .R-long);
             L-room = omega (arith, t .L-room, t .same .lc-long);
             U-room = omega (arith, t .U-room, t .same .uc-long);
             f = t .f;
@@ -232,7 +246,7 @@ module _ (p s : ℕ) (A : Compressed) (R₀ C₀ : List ℕ) (L₀ U₀ : Compre
             ∙ ap some (row-of-turn (ltb k s) (getD R k 0) (getD C (from .r) 0))
 
         module _ (e : to .over ≡ false) (same′ : SameLengths R₀ C₀ L₀ U₀ w₀ R′ C′ L′ U′ w′) where
-          after : State found R′ C′ L′ U′ (to .r) (to .at) (to .l) (to .total)
+          after : State found R′ C′ L′ U′ (to .r) (to .at) (to .l) (to .total) (to .d)
           after = turned .state e
 
           later : drop (k + 1) R′ ≡ drop (k + 1) R₀
@@ -241,7 +255,7 @@ module _ (p s : ℕ) (A : Compressed) (R₀ C₀ : List ℕ) (L₀ U₀ : Compre
               ∙ sym (drop-drop 1 k R) ∙ ap (drop 1) (t .ahead) ∙ drop-drop 1 k R₀
             where
               further : (x : List ℕ) → drop (k + 1) x ≡ drop (k - from .r) (drop (from .r + 1) x)
-              further x = ap (λ (j : ℕ). drop j x) (let q : k + 1 ≡ from .r + 1 + (k - from .r) = omega (arith, t .rank) in q) ∙ sym (drop-drop (k - from .r) (from .r + 1) x)
+              further x = ap (λ (j : ℕ). drop j x) (let q : k + 1 ≡ from .r + 1 + (k - from .r) = omega (arith, t .rows) in q) ∙ sym (drop-drop (k - from .r) (from .r + 1) x)
 
           pub passing-turn : Passing R′ C′ L′ U′ w′ (k + 1) to
           unfolding passing-ready
@@ -250,7 +264,7 @@ module _ (p s : ℕ) (A : Compressed) (R₀ C₀ : List ℕ) (L₀ U₀ : Compre
                 inside = omega arith;
                 same = same′;
                 clear = turned .clear e ∙ ap zeros (sym (same′ .w-long));
-                rank = omega (arith, after .rank, t .rank, t .state .rank, rank-turn p m (matrix A) (t .f) (ltb k s) (getD R k 0) (getD C (from .r) 0));
+                rows = omega (arith, after .rank, after .dependents, t .rows, t .state .rank, t .state .dependents, rows-turn p m (matrix A) (t .f) (ltb k s) (getD R k 0) (getD C (from .r) 0));
                 L-room = omega (arith, after .L-entries, room (length (L₀ .cols)) (length (U₀ .cols)) found (turned .fit ∙ ap not e));
                 U-room = omega (arith, after .U-entries, room (length (L₀ .cols)) (length (U₀ .cols)) found (turned .fit ∙ ap not e));
                 ahead = later;

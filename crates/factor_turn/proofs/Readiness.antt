@@ -24,11 +24,11 @@ use Rattle.elimination.proofs.Echelon.{echelon-distinct}
 use Rattle.elimination.proofs.Turns.{other-holds, pair-holds}
 use Rattle.factor_row.specs.Gathering.{cut}
 use Rattle.factor_row.specs.Entries.{entryListsOf}
-use Rattle.factor_row.specs.Needs.{GatherReadyFrom, ListsReady}
+use Rattle.factor_row.specs.Needs.{GatherReadyFrom, ListsReady, PairReady, OtherReady}
 use Rattle.factor_row.proofs.Storage.{holds-cut}
 use Rattle.factor_turn.specs.declared.turn.Progress.{Progress}
 use Rattle.factor_turn.specs.State.{State, turnOf}
-use Rattle.factor_turn.specs.Needs.{FindReady, Lent, PairAt, TurnReady}
+use Rattle.factor_turn.specs.Needs.{Lent, PairAt, TurnReady}
 use Rattle.factor_turn.proofs.Steps.{entries-values, pivots-less}
 use Rattle.factor_turn.proofs.Sizes.{rank-most}
 
@@ -52,8 +52,8 @@ module _ (p m : ℕ) (cs : List ℕ) (us : List (List ℕ)) (v : Echelon p m cs 
       }
 
 -- the lists cut to their lengths are those of the rows found
-pub cut-found : (f : Found) (R C : List ℕ) (L U : Compressed) (r at l total : ℕ) → State f R C L U r at l total → cut r at (U .starts) (U .cols) (U .vals) ≡ compress (uppersOf f)
-cut-found f R C L U r at l total s = holds-cut (uppersOf f) at U (s .upper) r at (s .rank ∙ sym (uppers-many f)) (s .U-entries ∙ entries-values (uppersOf f))
+pub cut-found : (f : Found) (R C : List ℕ) (L U : Compressed) (r at l total d : ℕ) → State f R C L U r at l total d → cut r at (U .starts) (U .cols) (U .vals) ≡ compress (uppersOf f)
+cut-found f R C L U r at l total d s = holds-cut (uppersOf f) at U (s .upper) r at (s .rank ∙ sym (uppers-many f)) (s .U-entries ∙ entries-values (uppersOf f))
 
 -- ---- a row can be reduced by them
 
@@ -87,13 +87,13 @@ module _ (p : ℕ) (A : Compressed) (R C : List ℕ) (L U : Compressed) (w : Lis
         }
 
   -- by the rows found
-  module _ (r at l total : ℕ) (f : Found) (v : Invariant p (length R) (length w) (matrix A) f) (s : State f R C L U r at l total) where
+  module _ (r at l total d : ℕ) (f : Found) (v : Invariant p (length R) (length w) (matrix A) f) (s : State f R C L U r at l total d) where
     pub rank-fits : r ≤ length C
     rank-fits = omega (arith, s .rank, rank-most p (length R) (length w) (matrix A) f v, lent .columns)
 
     pub gather-ready : r < length R → at ≤ length (U .cols) → (i place limit : ℕ) (lc lv : List ℕ) → i < length R → length lc ≡ length lv → place ≤ limit → limit ≤ length lc
         → GatherReadyFrom p i r at place limit A C (U .starts) (U .cols) (U .vals) w lc lv
-    gather-ready = rows-ready (columnsOf f) (uppersOf f) (v .echelon) r at (s .columns) (cut-found f R C L U r at l total s) rank-fits
+    gather-ready = rows-ready (columnsOf f) (uppersOf f) (v .echelon) r at (s .columns) (cut-found f R C L U r at l total d s) rank-fits
 
 -- ---- the turn
 
@@ -110,22 +110,22 @@ module _ (p i : ℕ) (paired : Bool) (A : Compressed) (R C : List ℕ) (L U : Co
         U-room = h .U-room;
       }
 
-  pub turn-find : FindReady p i paired (from .r) (from .at) (from .l) (from .total) A C (U .starts) w (entryListsOf (L .cols) (L .vals) (U .cols) (U .vals))
-  turn-find =
+  pub pair-ready : paired ≡ true → (c : ℕ) → c ≡ getD C (from .r) 0 → PairReady p i c (from .r) (from .at) (from .l) (from .total) A w (entryListsOf (L .cols) (L .vals) (U .cols) (U .vals))
+  pair-ready e c ec =
       record {
-        inside = λ e. omega (arith, h .pair e .inside, h .lent .columns);
-        pair = λ e. record {
-          prime = h .lent .prime;
-          row = record { formed = h .lent .formed; inside = omega (arith, h .row, h .lent .rows); clear = h .lent .clear };
-          column = h .pair e .column;
-          here = h .pair e .here;
-          lists = lists-ready;
-        };
-        other = λ e. record {
-          prime = h .lent .prime;
-          row = gather-ready p A R C L U w (h .lent) (from .r) (from .at) (from .l) (from .total) (h .f) (h .holds) (h .state) (h .more) (h .U-room) i (from .l) (from .total) (L .cols) (L .vals) (h .row) (h .lent .L-paired) (lists-ready .L-place) (h .L-room);
-          lists = lists-ready;
-        };
+        prime = h .lent .prime;
+        row = record { formed = h .lent .formed; inside = omega (arith, h .row, h .lent .rows); clear = h .lent .clear };
+        column = rw ec (h .pair e .column);
+        here = rw ec (h .pair e .here);
+        lists = lists-ready;
+      }
+
+  pub other-ready : OtherReady p i (from .r) (from .at) (from .l) (from .total) A C (U .starts) w (entryListsOf (L .cols) (L .vals) (U .cols) (U .vals))
+  other-ready =
+      record {
+        prime = h .lent .prime;
+        row = gather-ready p A R C L U w (h .lent) (from .r) (from .at) (from .l) (from .total) (from .d) (h .f) (h .holds) (h .state) (omega (arith, h .more)) (h .U-room) i (from .l) (from .total) (L .cols) (L .vals) (h .row) (h .lent .L-paired) (lists-ready .L-place) (h .L-room);
+        lists = lists-ready;
       }
 
   -- and what it finds has the invariant

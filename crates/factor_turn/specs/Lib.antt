@@ -1,5 +1,6 @@
 pub mod State
+pub mod Keeping
 pub mod Turning
 pub mod Passing
-pub mod Filling
 pub mod Needs
+pub mod Others

@@ -1,3 +1,3 @@
-// One turn of the factoring, and the second pass over the rows of a stored matrix.
-pub mod fill;
+// One turn of the factoring, and the rows of L of dependent rows, which each turn keeps.
+pub mod keeping;
 pub mod turn;

@@ -1,107 +1,32 @@
-// One turn of the factoring: a row is taken, and entered in the orders where it is a pivot row.
+// One turn of the factoring: a row is taken, and entered in the orders where it is a pivot row; the row of L of a dependent row is kept.
 ghost use mathlib.Core.Path.{_≡_};
-ghost use mathlib.Core.Bool.{_||_};
+ghost use mathlib.Core.Bool.{true};
 ghost use Prim.Native.Nat.{_+_, _<_};
-ghost use lib.Dec.{eqb};
 ghost use lib.ListN.{length, set};
-ghost use Rattle.sparse.specs.Views.{before, after, storedAt, storedBefore, storageAt, storageBefore, storageAfter};
-ghost use Rattle.factor_row.specs.Entries.{entriesAt, entriesBefore, entriesAfter, rowBefore, cutBefore};
-ghost use Rattle.factor_row.specs.Taking.{RowFound};
-ghost use Rattle.factor_turn.specs.Turning.{turnReduction, Settled, TurnLeaves};
-ghost use Rattle.factor_turn.specs.Needs.{FindReady, SettleReady, TurnReady};
+ghost use Rattle.sparse.specs.Views.{before, after, storedAt, storedBefore, storedAfter, storageAt, storageBefore, storageAfter};
+ghost use Rattle.factor_turn.specs.Turning.{Settled, TurnLeaves};
+ghost use Rattle.factor_turn.specs.Needs.{SettleReady, TurnReady};
+use crate::keeping::keep;
 use factor_row::pivot_row::Step;
-use factor_row::taking::take_other;
 use factor_row::taking::take_pair;
 use lists::index;
 use residue::Modulus;
 
 // How far the factoring is: whether the entries of a row did not fit, the pivots found, the entries of U stored, the entries of
-// L stored (of pivot rows only), and all entries of L.
+// L's pivot rows, all entries of L, and the dependent rows found.
 pub struct Progress {
     pub over: bool,
     pub r: usize,
     pub at: usize,
     pub l: usize,
     pub total: usize,
+    pub d: usize,
 }
 
 // Where a pass ended: the row whose entries did not fit, if there is one, and how far it came.
 pub struct Pass {
     pub stop: u32,
     pub progress: Progress,
-}
-
-// Takes row i: as it stands with column C[r] where it is paired, otherwise reduced by the rows of U.
-fn find(
-    q: Modulus,
-    starts: &[u32],
-    cols: &[u32],
-    vals: &[u32],
-    i: usize,
-    paired: bool,
-    r: usize,
-    at: usize,
-    l: usize,
-    total: usize,
-    co: &[u32],
-    us: &[u32],
-    lc: &mut [u32],
-    lv: &mut [u32],
-    uc: &mut [u32],
-    uv: &mut [u32],
-    work: &mut [u64],
-) -> Step
-    requires { ⌜ FindReady (q .p) i paired r at l total (storedAt starts cols vals) (now co) (now us) (now work) (entriesAt lc lv uc uv) ⌝ }
-    ensures { λ s. ⌜ RowFound (q .p) at l total (turnReduction (q .p) (length (before work)) paired r (before co) (cutBefore r at us uc uv) (rowBefore starts cols vals i)) (entriesBefore lc lv uc uv) (entriesAfter lc lv uc uv) (after work) s ⌝ }
-{
-    if paired {
-        let c = index(co[r]);
-        return take_pair(
-            q,
-            starts,
-            cols,
-            vals,
-            i,
-            c,
-            r,
-            at,
-            l,
-            total,
-            lc,
-            lv,
-            uc,
-            uv,
-            work,
-        );
-    }
-    take_other(
-        q,
-        starts,
-        cols,
-        vals,
-        i,
-        r,
-        at,
-        l,
-        total,
-        co,
-        us,
-        lc,
-        lv,
-        uc,
-        uv,
-        work,
-    )
-}
-
-// Whether a row does not become a pivot row: its entries did not fit, or column c is no column of the m.
-fn stays(over: bool, c: usize, m: usize) -> bool
-    ensures { λ b. ⌜ b ≡ (over || eqb c m) ⌝ }
-{
-    if over {
-        return true;
-    }
-    c == m
 }
 
 // Enters pivot row i and column c as the next, and where the rows of L and of U end.
@@ -125,32 +50,49 @@ fn enter(
     us[r + 1] = at;
 }
 
-// Enters row i, and says how far the factoring is, after a turn that came to `step`; m is the number of columns.
+// Enters row i, or keeps its row of L where it is dependent, and says how far the factoring is, after a turn that came to `step`; m is the
+// number of columns.
 pub fn settle(
     step: Step,
     i: u32,
-    r: usize,
+    from: Progress,
     m: usize,
     ro: &mut [u32],
     co: &mut [u32],
     ls: &mut [u32],
+    lc: &mut [u32],
+    lv: &mut [u32],
     us: &mut [u32],
 ) -> Progress
-    requires { ⌜ SettleReady step r m (now ro) (now co) (now ls) (now us) ⌝ }
-    ensures { λ to. ⌜ Settled step i r m (before ro) (before co) (before ls) (before us) (after ro) (after co) (after ls) (after us) to ⌝ }
+    requires { ⌜ SettleReady step from m (now ro) (now co) (storedAt ls lc lv) (now us) ⌝ }
+    ensures { λ to. ⌜ Settled step i from m (before ro) (before co) (storedBefore ls lc lv) (before us) (after ro) (after co) (storedAfter ls lc lv) (after us) to ⌝ }
 {
     let over = step.over;
     let c = step.column;
     let at = step.at;
     let l = step.l;
     let total = step.total;
-    if stays(over, c, m) {
+    let r = from.r;
+    let d = from.d;
+    if over {
         return Progress {
-            over: over,
+            over: true,
             r: r,
             at: at,
             l: l,
             total: total,
+            d: d,
+        };
+    }
+    if c == m {
+        keep(l, from.total, total, d + 1, ls, lc, lv);
+        return Progress {
+            over: false,
+            r: r,
+            at: at,
+            l: l,
+            total: total,
+            d: d + 1,
         };
     }
     enter(r, i, c as u32, l as u32, at as u32, ro, co, ls, us);
@@ -160,17 +102,17 @@ pub fn settle(
         at: at,
         l: l,
         total: total,
+        d: d,
     }
 }
 
-// Takes row i, and enters it where it is a pivot row.
-pub fn take_row(
+// Takes row i as it stands with column C[r], and enters it.
+pub fn take_pair_row(
     q: Modulus,
     starts: &[u32],
     cols: &[u32],
     vals: &[u32],
     i: u32,
-    paired: bool,
     from: Progress,
     ro: &mut [u32],
     co: &mut [u32],
@@ -182,23 +124,22 @@ pub fn take_row(
     uv: &mut [u32],
     work: &mut [u64],
 ) -> Progress
-    requires { ⌜ TurnReady (q .p) i paired (storedAt starts cols vals) (storageAt ro co ls lc lv us uc uv work) from ⌝ }
-    ensures { λ to. ⌜ TurnLeaves (q .p) i paired (storedBefore starts cols vals) (storageBefore ro co ls lc lv us uc uv work) (storageAfter ro co ls lc lv us uc uv work) from to ⌝ }
+    requires { ⌜ TurnReady (q .p) i true (storedAt starts cols vals) (storageAt ro co ls lc lv us uc uv work) from ⌝ }
+    ensures { λ to. ⌜ TurnLeaves (q .p) i true (storedBefore starts cols vals) (storageBefore ro co ls lc lv us uc uv work) (storageAfter ro co ls lc lv us uc uv work) from to ⌝ }
 {
     let r = from.r;
-    let step = find(
+    let c = index(co[r]);
+    let step = take_pair(
         q,
         starts,
         cols,
         vals,
         i as usize,
-        paired,
+        c,
         r,
         from.at,
         from.l,
         from.total,
-        co,
-        us,
         lc,
         lv,
         uc,
@@ -206,5 +147,5 @@ pub fn take_row(
         work,
     );
     let m = work.len();
-    settle(step, i, r, m, ro, co, ls, us)
+    settle(step, i, from, m, ro, co, ls, lc, lv, us)
 }

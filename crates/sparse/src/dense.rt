@@ -11,8 +11,7 @@ ghost use Rattle.algebra.specs.Matrix.{vector};
 ghost use Rattle.residue.specs.Arithmetic.{Residue, Residues};
 ghost use Rattle.sparse.specs.Row.{entry, weigh};
 ghost use Rattle.sparse.specs.WorkingRow.{Cell};
-ghost use Rattle.sparse.specs.Dense.{nonzeros, scaled};
-ghost use Rattle.sparse.specs.Storing.{LoadReady, DotReady, Room, DenseStored, StoreReady, RowStored};
+ghost use Rattle.sparse.specs.Storing.{LoadReady, DotReady, Room, DenseStored};
 ghost use Rattle.sparse.specs.Views.{before, after, viewAt, viewBefore};
 use crate::scan::next_nonzero;
 use crate::words::count;
@@ -71,22 +70,6 @@ fn is_zero(q: Modulus, x: u64) -> bool
     q.reduce_cell(x) == 0
 }
 
-// How many cells stand for another residue than 0.
-pub fn count_nonzero(q: Modulus, work: &[u64]) -> usize
-    requires { ⌜ 0 < q .p ⌝ }
-    ensures { λ r. ⌜ r ≡ length (nonzeros (scaled (q .p) 1 (before work))) ⌝ }
-{
-    let mut k = 0;
-    let mut j = 0;
-    while j < work.len() {
-        if !is_zero(q, work[j]) {
-            k += 1;
-        }
-        j = next_nonzero(work, j + 1);
-    }
-    k
-}
-
 // The first cell that stands for another residue than 0, or the length.
 pub fn first_nonzero(q: Modulus, work: &[u64]) -> usize
     requires { ⌜ 0 < q .p ⌝ }
@@ -102,17 +85,6 @@ pub fn first_nonzero(q: Modulus, work: &[u64]) -> usize
     j
 }
 
-// c times the residue that a cell stands for.
-fn scale(q: Modulus, c: u32, x: u64) -> u32
-    requires { ⌜ c < q .p ⌝ }
-    ensures { λ r. ⌜ Residue (q .p) (c * (x % q .p) % q .p) r ⌝ }
-{
-    if x == 0 {
-        return 0;
-    }
-    q.multiply(c, q.reduce(x))
-}
-
 // Stores the value v at column j in place `at`, unless it is 0; gives the next place.
 pub fn put(v: u32, j: u32, at: usize, cols: &mut [u32], vals: &mut [u32]) -> usize
     requires { ⌜ Room at (v ∷ []) (now cols) (now vals) ⌝ }
@@ -124,27 +96,4 @@ pub fn put(v: u32, j: u32, at: usize, cols: &mut [u32], vals: &mut [u32]) -> usi
     cols[at] = j;
     vals[at] = v;
     at + 1
-}
-
-// Stores the working row times c from place `start` on, and clears it; gives the next place.
-pub fn store(
-    q: Modulus,
-    c: u32,
-    start: usize,
-    work: &mut [u64],
-    cols: &mut [u32],
-    vals: &mut [u32],
-) -> usize
-    requires { ⌜ StoreReady (q .p) c start (now work) (now cols) (now vals) ⌝ }
-    ensures { λ next. ⌜ RowStored (q .p) c start (before work) (before cols) (before vals) (after work) (after cols) (after vals) next ⌝ }
-{
-    let mut at = start;
-    let mut j = 0;
-    while j < work.len() {
-        let v = scale(q, c, work[j]);
-        at = put(v, j as u32, at, cols, vals);
-        work[j] = 0;
-        j = next_nonzero(work, j + 1);
-    }
-    at
 }

@@ -54,7 +54,7 @@ abbrev passed-pass : tie.Else1 → tie.After-pass-one
 passed-pass e = e .before .before .before .before .before .before .before .before .before .before .before .before .before .before .before .before .before .before .before .before
 
 abbrev passed : tie.After-pass-two → tie.Else1
-passed y = y .before .before .before .before .before .before .before .before .before .before
+passed y = y .before .before .before .before .before .before .before
 
 pass-one-requires : tie.Need-pass-one-requires
 pass-one-requires c κs = search needs
@@ -94,41 +94,41 @@ returns c = let x = c .before .before .before .before .before .before .before .b
     from-refused (s .args .q .p) (s .args .s) (plan s) (lent s) (s .pre) (left o) (o .pass-one .result) (o .pass-one .ensures) (refused x .if1 .taken) _ (x .clear-all .ensures)
 
 pass-two-requires : tie.Need-pass-two-requires
-pass-two-requires c κs = let e = c .before .before .before .before .before .before .before .before .before in let o = passed-pass e in let s = start o in
+pass-two-requires c κs = let e = c .before .before .before .before .before .before in let o = passed-pass e in let s = start o in
     from-complete (s .args .q .p) (s .args .s) (plan s) (lent s) (s .pre) (left o) (o .pass-one .result) (o .pass-one .ensures) (e .if1 .left) (kept o)
 
 cast-rank : tie.Need-cast-rank
-cast-rank c = let e = c .before .before .before .before .before .before .before .before .before .before .before .before .before .before .before .before .before .before .before .before .before .before in let o = passed-pass e in let s = start o in record { fits = from-rank (s .args .q .p) (s .args .s) (plan s) (lent s) (s .pre) (left o) (o .pass-one .result) (o .pass-one .ensures) (e .if1 .left) }
+cast-rank c = let e = c .before .before .before .before .before .before .before .before .before .before .before .before .before .before .before .before .before .before .before in let o = passed-pass e in let s = start o in record { fits = from-rank (s .args .q .p) (s .args .s) (plan s) (lent s) (s .pre) (left o) (o .pass-one .result) (o .pass-one .ensures) (e .if1 .left) }
 
 cast-structural : tie.Need-cast-structural
-cast-structural c = let s = start (passed-pass (c .before .before .before .before .before .before .before .before .before .before .before .before .before .before .before .before .before .before .before .before .before .before)) in record { fits = from-pairs (s .args .q .p) (s .args .s) (plan s) (lent s) (s .pre) }
+cast-structural c = let s = start (passed-pass (c .before .before .before .before .before .before .before .before .before .before .before .before .before .before .before .before .before .before .before)) in record { fits = from-pairs (s .args .q .p) (s .args .s) (plan s) (lent s) (s .pre) }
 
 same-length-10 : tie.Need-same-length-10
-same-length-10 c = let y = c .before .before .before .before .before .before .before .before .before .before .before .before in y .pass-two .kept .1 .1 .1 .1 .1 .1 .1 .1 .1 .1 .0 ∙ kept (passed-pass (passed y)) .R-long
+same-length-10 c = let y = c .before .before .before .before .before .before .before .before .before .before .before .before in y .pass-two .kept .1 .1 .1 .0 ∙ kept (passed-pass (passed y)) .R-long
 
 same-length-11 : tie.Need-same-length-11
-same-length-11 c = let y = c .before .before .before .before .before .before .before .before .before .before .before .before in y .pass-two .kept .1 .1 .1 .1 .1 .1 .1 .1 .1 .1 .1 .0 ∙ kept (passed-pass (passed y)) .C-long
+same-length-11 c = let y = c .before .before .before .before .before .before .before .before .before .before .before .before in y .pass-two .kept .1 .1 .1 .1 .0 ∙ kept (passed-pass (passed y)) .C-long
 
 same-length-12 : tie.Need-same-length-12
-same-length-12 c = let y = c .before .before .before .before .before .before .before .before .before .before .before .before in y .pass-two .kept .1 .1 .1 .1 .1 .1 .1 .1 .1 .1 .1 .1 .0 ∙ kept (passed-pass (passed y)) .ls-long
+same-length-12 c = let y = c .before .before .before .before .before .before .before .before .before .before .before .before in y .pass-two .kept .1 .1 .1 .1 .1 .0 ∙ kept (passed-pass (passed y)) .ls-long
 
 same-length-13 : tie.Need-same-length-13
-same-length-13 c = let y = c .before .before .before .before .before .before .before .before .before .before .before .before in y .pass-two .kept .1 .1 .1 .1 .1 .1 .1 .1 .1 .1 .1 .1 .1 .0 ∙ kept (passed-pass (passed y)) .lc-long
+same-length-13 c = let y = c .before .before .before .before .before .before .before .before .before .before .before .before in y .pass-two .kept .1 .1 .1 .1 .1 .1 .0 ∙ kept (passed-pass (passed y)) .lc-long
 
 same-length-14 : tie.Need-same-length-14
-same-length-14 c = let y = c .before .before .before .before .before .before .before .before .before .before .before .before in y .pass-two .kept .1 .1 .1 .1 .1 .1 .1 .1 .1 .1 .1 .1 .1 .1 .0 ∙ kept (passed-pass (passed y)) .lv-long
+same-length-14 c = let y = c .before .before .before .before .before .before .before .before .before .before .before .before in y .pass-two .kept .1 .1 .1 .1 .1 .1 .1 .0 ∙ kept (passed-pass (passed y)) .lv-long
 
 same-length-15 : tie.Need-same-length-15
-same-length-15 c = kept (passed-pass (c .before .before .before .before .before .before .before .before .before .before .before .before .before .before .before .before .before .before .before .before .before .before)) .us-long
+same-length-15 c = kept (passed-pass (c .before .before .before .before .before .before .before .before .before .before .before .before .before .before .before .before .before .before .before)) .us-long
 
 same-length-16 : tie.Need-same-length-16
-same-length-16 c = kept (passed-pass (c .before .before .before .before .before .before .before .before .before .before .before .before .before .before .before .before .before .before .before .before .before .before)) .uc-long
+same-length-16 c = kept (passed-pass (c .before .before .before .before .before .before .before .before .before .before .before .before .before .before .before .before .before .before .before)) .uc-long
 
 same-length-17 : tie.Need-same-length-17
-same-length-17 c = kept (passed-pass (c .before .before .before .before .before .before .before .before .before .before .before .before .before .before .before .before .before .before .before .before .before .before)) .uv-long
+same-length-17 c = kept (passed-pass (c .before .before .before .before .before .before .before .before .before .before .before .before .before .before .before .before .before .before .before)) .uv-long
 
 same-length-18 : tie.Need-same-length-18
-same-length-18 c = let y = c .before .before .before .before .before .before .before .before .before .before .before .before in y .pass-two .kept .1 .1 .1 .1 .1 .1 .1 .1 .1 .1 .1 .1 .1 .1 .1 .0 ∙ kept (passed-pass (passed y)) .w-long
+same-length-18 c = let y = c .before .before .before .before .before .before .before .before .before .before .before .before in y .pass-two .kept .1 .1 .1 .1 .1 .1 .1 .1 .0 ∙ kept (passed-pass (passed y)) .w-long
 
 returns-2 : tie.Need-returns-2
 returns-2 c = let y = c .before .before .before .before .before .before .before .before .before .before .before .before in let e = passed y in let o = passed-pass e in let s = start o in

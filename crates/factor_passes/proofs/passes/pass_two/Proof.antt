@@ -1,45 +1,36 @@
--- `pass_two` meets its contract: the completed orders are those of the factors. Assumes nothing.
-use Rattle.factor_passes.proofs.PassTwo.{columns-part, two-columns, rows-part, two-rows, last-part, two-fill, two-done, two-clear}
+-- `pass_two` meets its contract: the completed orders are those of the factors, and so is L. Assumes nothing.
+use Rattle.factor_passes.proofs.PassTwo.{columns-part, two-columns, rows-part, two-rows, two-done}
 use borrow.Author.Needs.{needs}
 use Rattle.factor_passes.proofs.passes.pass_two.Statement.{statement}
 use Rattle.factor_passes.proofs.passes.pass_two.Tie as tie
 
--- the start, the columns completed, and the rows, from the call after each
+-- the start, and the columns completed, from the call after each
 abbrev start : tie.After-complete → tie.Start
-start a = a .before .before .before .before .before .before .before .before .before .before .before .before .before .before .before
+start a = a .before .before .before .before .before .before .before .before .before
 
 abbrev columns : tie.After-complete2 → tie.After-complete
 columns b = b .before .before .before .before .before .before .before
-
-abbrev rows : tie.After-fill-dependents → tie.After-complete2
-rows d = d .before .before .before .before .before .before .before .before .before .before .before
 
 slice-relend-prefix-complete : tie.Need-slice-relend-prefix-complete
 slice-relend-prefix-complete c = search needs
 
 slice-aggregate-complete : tie.Need-slice-aggregate-complete
-slice-aggregate-complete c = columns-part _ _ _ _ _ _ (c .before .before .before .before .before .before .before .before .before .before .before .before .before .before .pre)
+slice-aggregate-complete c = columns-part _ _ _ _ _ _ _ (c .before .before .before .before .before .before .before .before .pre)
 
 complete-requires : tie.Need-complete-requires
-complete-requires c κs = two-columns _ _ _ _ _ _ (c .before .before .before .before .before .before .before .before .before .before .before .before .before .before .pre)
+complete-requires c κs = two-columns _ _ _ _ _ _ _ (c .before .before .before .before .before .before .before .before .pre)
 
 slice-relend-prefix-complete-2 : tie.Need-slice-relend-prefix-complete-2
 slice-relend-prefix-complete-2 c = search needs
 
 slice-aggregate-complete-2 : tie.Need-slice-aggregate-complete-2
-slice-aggregate-complete-2 c = let a = c .before .before .before .before .before .before in rows-part _ _ _ _ _ _ (start a .pre) _ _ (a .complete .ensures)
+slice-aggregate-complete-2 c = let a = c .before .before .before .before .before .before in rows-part _ _ _ _ _ _ _ (start a .pre) _ _ (a .complete .ensures)
 
 complete-requires-2 : tie.Need-complete-requires-2
-complete-requires-2 c κs = let a = c .before .before .before .before .before .before in two-rows _ _ _ _ _ _ (start a .pre) _ _ (a .complete .ensures)
+complete-requires-2 c κs = let a = c .before .before .before .before .before .before in two-rows _ _ _ _ _ _ _ (start a .pre) _ _ (a .complete .ensures)
 
-slice-relend-prefix-fill-dependents : tie.Need-slice-relend-prefix-fill-dependents
-slice-relend-prefix-fill-dependents c = search needs
-
-slice-aggregate-fill-dependents : tie.Need-slice-aggregate-fill-dependents
-slice-aggregate-fill-dependents c = let b = c .before .before .before .before .before .before .before .before .before .before in let a = columns b in last-part _ _ _ _ _ _ (start a .pre) _ _ (a .complete .ensures) _ _ (b .complete2 .ensures)
-
-fill-dependents-requires : tie.Need-fill-dependents-requires
-fill-dependents-requires c κs = let b = c .before .before .before .before .before .before .before .before .before .before in let a = columns b in two-fill _ _ _ _ _ _ (start a .pre) _ _ (a .complete .ensures) _ _ (b .complete2 .ensures)
+turn-lower-requires : tie.Need-turn-lower-requires
+turn-lower-requires c κs = let s = c .before .before .before .before .before .before .before .before .before .before .before .before .before .before .before .before .before .before .before .before .before .before .before in record { f = s .pre .f; from = s .pre .from .lower }
 
 same-length : tie.Need-same-length
 same-length c = search needs
@@ -60,11 +51,8 @@ same-length-6 : tie.Need-same-length-6
 same-length-6 c = search needs
 
 returns : tie.Need-returns
-returns c = let d = c .before .before .before .before .before .before .before .before in let b = rows d in let a = columns b in
-    record {
-      completed = two-done _ _ _ _ _ _ (start a .pre) _ _ (a .complete .ensures) _ _ (b .complete2 .ensures) _ _ _ (d .fill-dependents .ensures .0);
-      clear = two-clear _ _ _ _ _ _ (start a .pre) _ _ (a .complete .ensures) _ _ (b .complete2 .ensures) _ (d .fill-dependents .ensures .1);
-    }
+returns c = let d = c .before .before .before .before .before .before in let b = d .before .before .before .before .before .before .before .before in let a = columns b in
+    two-done _ _ _ _ _ _ _ (start a .pre) _ _ (a .complete .ensures) _ _ (b .complete2 .ensures) _ (d .turn-lower .ensures)
 
 pub pass-two-spec : {M : Type 1} → statement M
 pass-two-spec =
@@ -76,9 +64,7 @@ pass-two-spec =
     slice-relend-prefix-complete-2
     slice-aggregate-complete-2
     complete-requires-2
-    slice-relend-prefix-fill-dependents
-    slice-aggregate-fill-dependents
-    fill-dependents-requires
+    turn-lower-requires
     same-length
     same-length-2
     same-length-3

@@ -1,60 +1,85 @@
 -- `settle` meets its contract: each way out is a law of `Settling`. Assumes nothing.
-use mathlib.Core.Path.{sym, _∙_}
 use native.Mathlib.Omega.{arith}
-use Rattle.factor_turn.proofs.Settling.{settled-stays, settled-enters}
-use borrow.Author.Needs.{needs}
+use Rattle.factor_turn.proofs.Settling.{settled-over, settled-kept, settled-enters}
 use Rattle.factor_turn.proofs.turn.settle.Statement.{statement}
 use Rattle.factor_turn.proofs.turn.settle.Tie as tie
 
-stays-requires : tie.Need-stays-requires
-stays-requires c κs = search needs
+abbrev start : tie.Else1 → tie.Start
+start c = c .before .before .before .before .before .before .before
 
 returns : tie.Need-returns
-returns c = settled-stays _ _ _ _ _ _ _ _ _ (c .before .stays .ensures) (c .if1 .taken)
+returns c = settled-over _ _ _ _ _ _ _ _ (c .if1 .taken) _ _ _ _ _
 
-cast-enter : tie.Need-cast-enter
-cast-enter c = record { fits = c .before .before .before .before .before .before .pre .entered (sym (c .before .stays .ensures) ∙ c .if1 .left) .column }
+add-keep : tie.Need-add-keep
+add-keep c = let e = c .before in omega (arith, start e .good, start e .pre .kept (e .if1 .left) (c .if2 .taken) .starts)
 
-cast-enter-2 : tie.Need-cast-enter-2
-cast-enter-2 c = record { fits = c .before .before .before .before .before .before .pre .entered (sym (c .before .stays .ensures) ∙ c .if1 .left) .L-end }
+keep-requires : tie.Need-keep-requires
+keep-requires c κs = let t = c .before .before .before in let e = t .before in start e .pre .kept (e .if1 .left) (t .if2 .taken)
 
-cast-enter-3 : tie.Need-cast-enter-3
-cast-enter-3 c = record { fits = c .before .before .before .before .before .before .pre .entered (sym (c .before .stays .ensures) ∙ c .if1 .left) .U-end }
-
-enter-requires : tie.Need-enter-requires
-enter-requires c κs = let g = c .before .before .before .before .before .before .before .before .before .before .pre .entered (sym (c .before .before .before .before .before .stays .ensures) ∙ c .before .before .before .before .if1 .left) in (g .rows, g .columns, g .L-starts, g .U-starts)
-
-add-t27 : tie.Need-add-t27
-add-t27 c = let s = c .before .before .before .before .before .before .before .before .before .before .before .before .before .before .before .before .before .before .before in omega (arith, s .good, s .pre .entered (sym (c .before .before .before .before .before .before .before .before .before .before .before .before .before .before .stays .ensures) ∙ c .before .before .before .before .before .before .before .before .before .before .before .before .before .if1 .left) .rows)
+add-t20 : tie.Need-add-t20
+add-t20 c = let t = c .before .before .before .before .before .before .before .before .before .before in let e = t .before in omega (arith, start e .good, start e .pre .kept (e .if1 .left) (t .if2 .taken) .starts)
 
 same-length : tie.Need-same-length
-same-length c = c .before .before .before .before .before .before .before .before .enter .kept .1 .1 .1 .1 .1 .0
+same-length c = c .before .before .before .before .before .before .keep .kept .1 .1 .1 .1 .0
 
 same-length-2 : tie.Need-same-length-2
-same-length-2 c = c .before .before .before .before .before .before .before .before .enter .kept .1 .1 .1 .1 .1 .1 .0
+same-length-2 c = c .before .before .before .before .before .before .keep .kept .1 .1 .1 .1 .1 .0
 
 same-length-3 : tie.Need-same-length-3
-same-length-3 c = c .before .before .before .before .before .before .before .before .enter .kept .1 .1 .1 .1 .1 .1 .1 .0
-
-same-length-4 : tie.Need-same-length-4
-same-length-4 c = c .before .before .before .before .before .before .before .before .enter .kept .1 .1 .1 .1 .1 .1 .1 .1 .0
+same-length-3 c = c .before .before .before .before .before .before .keep .kept .1 .1 .1 .1 .1 .1 .0
 
 returns-2 : tie.Need-returns-2
-returns-2 c = let e = c .before .before .before .before .before .before .before .before .enter .ensures in settled-enters _ _ _ _ _ _ _ _ _ (c .before .before .before .before .before .before .before .before .before .before .before .before .before .before .stays .ensures) (c .before .before .before .before .before .before .before .before .before .before .before .before .before .if1 .left) _ _ _ _ (e .0) (e .1) (e .2) (e .3)
+returns-2 c = let t = c .before .before .before .before .before .before .before .before .before .before in let e = t .before in settled-kept _ _ _ _ _ _ _ _ (e .if1 .left) (t .if2 .taken) _ _ _ (c .before .before .before .before .before .before .keep .ensures)
+
+cast-enter : tie.Need-cast-enter
+cast-enter c = let e = c .before in record { fits = start e .pre .entered (e .if1 .left) (c .if2 .left) .column }
+
+cast-enter-2 : tie.Need-cast-enter-2
+cast-enter-2 c = let e = c .before in record { fits = start e .pre .entered (e .if1 .left) (c .if2 .left) .L-end }
+
+cast-enter-3 : tie.Need-cast-enter-3
+cast-enter-3 c = let e = c .before in record { fits = start e .pre .entered (e .if1 .left) (c .if2 .left) .U-end }
+
+enter-requires : tie.Need-enter-requires
+enter-requires c κs = let t = c .before .before .before .before in let e = t .before in let g = start e .pre .entered (e .if1 .left) (t .if2 .left) in (g .rows, g .columns, g .L-starts, g .U-starts)
+
+add-t39 : tie.Need-add-t39
+add-t39 c = let t = c .before .before .before .before .before .before .before .before .before .before .before .before .before in let e = t .before in omega (arith, start e .good, start e .pre .entered (e .if1 .left) (t .if2 .left) .rows)
+
+same-length-4 : tie.Need-same-length-4
+same-length-4 c = c .before .before .before .before .before .before .before .before .enter .kept .1 .1 .1 .1 .1 .0
+
+same-length-5 : tie.Need-same-length-5
+same-length-5 c = c .before .before .before .before .before .before .before .before .enter .kept .1 .1 .1 .1 .1 .1 .0
+
+same-length-6 : tie.Need-same-length-6
+same-length-6 c = c .before .before .before .before .before .before .before .before .enter .kept .1 .1 .1 .1 .1 .1 .1 .0
+
+same-length-7 : tie.Need-same-length-7
+same-length-7 c = c .before .before .before .before .before .before .before .before .enter .kept .1 .1 .1 .1 .1 .1 .1 .1 .0
+
+returns-3 : tie.Need-returns-3
+returns-3 c = let t = c .before .before .before .before .before .before .before .before .before .before .before .before .before in let e = t .before in let g = c .before .before .before .before .before .before .before .before .enter .ensures in settled-enters _ _ _ _ _ _ _ _ (e .if1 .left) (t .if2 .left) _ _ _ _ (g .0) (g .1) (g .2) (g .3)
 
 pub settle-spec : {M : Type 1} → statement M
 settle-spec =
     tie.close
     (tie.spec
-    stays-requires
     returns
+    add-keep
+    keep-requires
+    add-t20
+    same-length
+    same-length-2
+    same-length-3
+    returns-2
     cast-enter
     cast-enter-2
     cast-enter-3
     enter-requires
-    add-t27
-    same-length
-    same-length-2
-    same-length-3
+    add-t39
     same-length-4
-    returns-2)
+    same-length-5
+    same-length-6
+    same-length-7
+    returns-3)

@@ -1,0 +1,3 @@
+pub mod Marking
+pub mod Searching
+pub mod SettleSteps

@@ -1,0 +1,4 @@
+pub mod Touched
+pub mod Marking
+pub mod Searching
+pub mod Settling

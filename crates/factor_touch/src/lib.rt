@@ -1,0 +1,3 @@
+// The blocks of the working row that a row touched, and what is done to these alone.
+pub mod marks;
+pub mod settling;
