@@ -72,12 +72,23 @@ impl Modulus {
         self.reduce(a as u64 * b as u64)
     }
 
+    // The residue of x, where x is most often below p: then nothing is divided.
+    pub fn reduce_small(self, x: u64) -> u32
+        requires { ⌜ 0 < self .p ⌝ }
+        ensures { λ r. ⌜ Residue (self .p) (x % self .p) r ⌝ }
+    {
+        if x < self.p as u64 {
+            return x as u32;
+        }
+        self.reduce(x)
+    }
+
     // The residue of a sign and a magnitude.
     pub fn signed(self, negative: bool, magnitude: u64) -> u32
         requires { ⌜ 0 < self .p ⌝ }
         ensures { λ r. ⌜ Residue (self .p) (signedResidue (self .p) negative magnitude) r ⌝ }
     {
-        let r = self.reduce(magnitude);
+        let r = self.reduce_small(magnitude);
         if negative { self.negate(r) } else { r }
     }
 

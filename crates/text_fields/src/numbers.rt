@@ -5,9 +5,9 @@ ghost use lib.ListN.{length};
 ghost use Rattle.text_fields.specs.Number.{digitsFrom, numberIn, signedOf, positive, negative};
 
 // The bytes of the digits `0` and `9`, and of the minus.
-const ZERO: u8 = 48;
+pub const ZERO: u8 = 48;
 
-const NINE: u8 = 57;
+pub const NINE: u8 = 57;
 
 const MINUS: u8 = 45;
 
@@ -24,7 +24,8 @@ pub enum Signed {
     NotSigned,
 }
 
-fn wide(x: u8) -> u64
+// A byte as a number of the width that values have.
+pub fn wide(x: u8) -> u64
     ensures { λ r. ⌜ r ≡ x ⌝ }
 {
     x as u64

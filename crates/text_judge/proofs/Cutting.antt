@@ -8,8 +8,9 @@ use lib.ListN.{length, take, drop, length-drop}
 use lib.Seq.{take-all}
 use Rattle.text_fields.specs.Pieces.{Pieces, more, pieces, firstPiece}
 use Rattle.text_fields.proofs.Cuts.{first-prefix, piece-end, piece-last, piece-more}
-use Rattle.text_judge.specs.Line.{three, notThree, fieldsOf, fieldsAt}
-use Rattle.text_judge.specs.declared.line.Spaces.the-variants.{At}
+use Rattle.text_judge.specs.Line.{three, notThree, fieldsOf}
+use Rattle.text_judge.specs.Spaces.{fieldsAt}
+use Rattle.text_judge.specs.declared.header.Spaces.the-variants.{At}
 
 -- a piece is the part of the line that it covers
 piece-part : (l r : List ℕ) (at : ℕ) → r ≡ firstPiece (pieces 32 (drop at l)) → take (length r) (drop at l) ≡ r

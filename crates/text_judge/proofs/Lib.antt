@@ -1,3 +1,4 @@
 pub mod Cutting
+pub mod StartLaws
 pub mod Verdicts
 pub mod Sights

@@ -5,15 +5,10 @@
 --   headerOf l                      the second line, `n m M`
 --   withSigned, lineWith, lineIn    the line `i j v` from the numbers that its fields are
 --   isM, headerWith, headerIn       the line `n m M` from the numbers and the letter that its fields are
---   fieldsAt l r                    the fields of l where r says that its spaces stand
---   Inside l r                      these places are in the line, one after the other
---   Cut l r                         r says where the two spaces of the line l stand, and that cuts it into its fields
-use Prim.Native.Nat.{ℕ, _+_, _-_, _<_}
-use mathlib.Core.Path.{_≡_}
+use Prim.Native.Nat.{ℕ}
 use mathlib.Core.List.{List, [], _∷_}
 use mathlib.Core.Bool.{Bool, false, cond}
 use lib.Dec.{eqb}
-use lib.ListN.{length, take, drop}
 use Rattle.text_fields.specs.Pieces.{Pieces, last, more, pieces}
 use Rattle.text_fields.specs.Number.{numberIn, signedOf}
 use Rattle.text_fields.specs.declared.numbers.Number.{Number}
@@ -22,8 +17,6 @@ use Rattle.text_fields.specs.declared.numbers.Signed.{Signed}
 use Rattle.text_fields.specs.declared.numbers.Signed.the-variants.{Plus, Minus, NotSigned}
 use Rattle.text_judge.specs.declared.line.Line.{Line}
 use Rattle.text_judge.specs.declared.line.Line.the-variants.{Triple, NotTriple}
-use Rattle.text_judge.specs.declared.line.Spaces.{Spaces}
-use Rattle.text_judge.specs.declared.line.Spaces.the-variants.{At, NotTwo}
 use Rattle.text_judge.specs.declared.header.Header.{Header}
 use Rattle.text_judge.specs.declared.header.Header.the-variants.{Given, NotHeader}
 
@@ -72,16 +65,3 @@ headerIn notThree = NotHeader
 
 unfoldable pub headerOf : List ℕ → Header
 headerOf l = headerIn (fieldsOf (pieces 32 l))
-
--- ---- the places of the spaces
-abbrev pub fieldsAt : List ℕ → Spaces → Fields
-fieldsAt l (At x y) = three (take x l) (take (y - (x + 1)) (drop (x + 1) l)) (drop (y + 1) l)
-fieldsAt l NotTwo = notThree
-
-abbrev pub Inside : List ℕ → Spaces → Type 0
-Inside l (At x y) = (x < y) × (y < length l)
-Inside l NotTwo = Unit {0}
-
-pub record Cut (l : List ℕ) (r : Spaces) : Type 0 where
-  pub fields : fieldsOf (pieces 32 l) ≡ fieldsAt l r
-  pub inside : Inside l r

@@ -1,15 +1,19 @@
-// What a line `i j v` says: three fields with one space between.
+// What a line `i j v` says: three fields with one space between. The first two are read in one pass; what is left is the third.
 ghost use mathlib.Core.Path.{_≡_};
-ghost use Rattle.text_judge.specs.Line.{lineWith, lineOf, Cut};
-use text_fields::numbers::Number;
+ghost use Rattle.text_judge.specs.Line.{withSigned, lineOf};
+ghost use Rattle.text_judge.specs.Starts.{Starts};
 use text_fields::numbers::Signed;
+use text_fields::numbers::signed_of;
+use text_fields::runs::Field;
+use text_fields::runs::field_from;
 
-const SPACE: u8 = 32;
+// The byte between two fields.
+pub const SPACE: u8 = 32;
 
-// Where the spaces of a line stand, if there are two.
-pub enum Spaces {
-    At { first: usize, second: usize },
-    NotTwo,
+// How a line starts: two numbers, each with a space after it, and the place of what is left.
+pub enum Start {
+    Pair { i: u64, j: u64, rest: usize },
+    NotPair,
 }
 
 // The three numbers of a line, or that it has no such form.
@@ -18,38 +22,34 @@ pub enum Line {
     NotTriple,
 }
 
-// The places of a line's two spaces.
-pub fn spaces_of(line: &[u8]) -> Spaces
-    ensures { λ r. ⌜ Cut (now (line .entry)) r ⌝ }
+// The two numbers that a line starts with.
+pub fn start_of(line: &[u8]) -> Start
+    ensures { λ r. ⌜ Starts (now (line .entry)) r ⌝ }
 {
-    let a = text_fields::pieces::piece(line, 0, SPACE);
-    let first = a.len();
+    let Field::Value { n: i, end: first } = field_from(line, 0, SPACE) else {
+        return Start::NotPair;
+    };
     if first == line.len() {
-        return Spaces::NotTwo;
+        return Start::NotPair;
     }
-    let b = text_fields::pieces::piece(line, first + 1, SPACE);
-    let second = first + 1 + b.len();
+    let Field::Value { n: j, end: second } = field_from(line, first + 1, SPACE) else {
+        return Start::NotPair;
+    };
     if second == line.len() {
-        return Spaces::NotTwo;
+        return Start::NotPair;
     }
-    let c = text_fields::pieces::piece(line, second + 1, SPACE);
-    if second + 1 + c.len() < line.len() {
-        return Spaces::NotTwo;
+    Start::Pair {
+        i,
+        j,
+        rest: second + 1,
     }
-    Spaces::At { first, second }
 }
 
-// The line of three numbers.
-fn line_with(a: Number, b: Number, c: Signed) -> Line
-    ensures { λ r. ⌜ r ≡ lineWith a b c ⌝ }
+// The line of two numbers and what the third field says.
+fn with_signed(i: u64, j: u64, v: Signed) -> Line
+    ensures { λ r. ⌜ r ≡ withSigned i j v ⌝ }
 {
-    let Number::Value(i) = a else {
-        return Line::NotTriple;
-    };
-    let Number::Value(j) = b else {
-        return Line::NotTriple;
-    };
-    match c {
+    match v {
         Signed::Plus(n) => Line::Triple {
             i,
             j,
@@ -68,13 +68,8 @@ fn line_with(a: Number, b: Number, c: Signed) -> Line
 pub fn line_of(line: &[u8]) -> Line
     ensures { λ r. ⌜ r ≡ lineOf (now (line .entry)) ⌝ }
 {
-    match spaces_of(line) {
-        Spaces::At { first, second } => {
-            let i = text_fields::numbers::number_of(&line[..first]);
-            let j = text_fields::numbers::number_of(&line[first + 1..second]);
-            let v = text_fields::numbers::signed_of(&line[second + 1..]);
-            line_with(i, j, v)
-        }
-        Spaces::NotTwo => Line::NotTriple,
+    match start_of(line) {
+        Start::Pair { i, j, rest } => with_signed(i, j, signed_of(&line[rest..])),
+        Start::NotPair => Line::NotTriple,
     }
 }

@@ -1,46 +1,49 @@
 -- `piece_end` meets its contract. The invariant: the first piece from `at` is what the loop passed and the first piece from `e`. Assumes nothing.
-use mathlib.Core.Path.{_≡_, refl, ap}
+use mathlib.Core.Path.{_≡_, refl}
 use Prim.Native.Nat.{_≤_, _+_, _-_}
 use native.Mathlib.Omega.{arith}
-use lib.ListN.{length, drop}
+use lib.ListN.{length}
 use denote.Ref.{now}
-use Rattle.text_fields.specs.Pieces.{pieces, firstPiece}
-use Rattle.text_fields.proofs.Cuts.{first-end, first-hit, first-miss}
+use Rattle.text_fields.specs.Scan.{sizeFrom}
 use Rattle.text_fields.proofs.pieces.piece_end.Statement.{statement}
 use Rattle.text_fields.proofs.pieces.piece_end.Tie as tie
 
 abbrev Inv-loop : tie.InvT-loop
-Inv-loop text at separator e₀ e = (e ≤ length text) × (at + length (firstPiece (pieces separator (drop at text))) ≡ e + length (firstPiece (pieces separator (drop e text))))
+Inv-loop text at separator e₀ e = (e ≤ length text) × (at + sizeFrom separator text at ≡ e + sizeFrom separator text e)
 
 abbrev μ-loop : tie.MeasureT-loop
 μ-loop text at separator e₀ e = length text - e
 
+-- what is passed lies within the text
+within : (c : tie.After-before-of-eight Inv-loop μ-loop) → c .before .before .loop .e + c .before-of-eight .result ≤ length (now (c .before .before .before .before .args .text))
+within c = omega (arith, c .before .loop-test .taken, c .before-of-eight .ensures .most)
+
 loop-holds : tie.Need-loop-holds Inv-loop μ-loop
-loop-holds c = (c .pre, refl)
+loop-holds c = (c .before .pre, refl)
 
-shared-slice-read-if1 : tie.Need-shared-slice-read-if1 Inv-loop μ-loop
-shared-slice-read-if1 c = omega arith
+sub-loop : tie.Need-sub-loop Inv-loop μ-loop
+sub-loop c = omega arith
 
-returns : tie.Need-returns Inv-loop μ-loop
-returns c =
-    let a = c .before .before .before .before .args in
-    omega (arith, ap length (first-hit (a .separator) (now (a .text)) (c .before .before .before .loop .e) (omega arith) (c .if1 .taken)))
+before-of-eight-requires : tie.Need-before-of-eight-requires Inv-loop μ-loop
+before-of-eight-requires c κs = omega arith
 
 add-e : tie.Need-add-e Inv-loop μ-loop
-add-e c = omega arith
+add-e c = omega (arith, within c)
+
+returns : tie.Need-returns Inv-loop μ-loop
+returns c = let r = c .before .before-of-eight .ensures in omega (arith, r .passed, r .found (c .if1 .taken))
 
 loop-less : tie.Need-loop-less Inv-loop μ-loop
-loop-less c = omega arith
+loop-less c = omega (arith, within (c .before))
 
 loop-again : tie.Need-loop-again Inv-loop μ-loop
-loop-again c =
-    let a = c .before .before .before .before .args in
-    omega (arith, first-miss (a .separator) (now (a .text)) (c .before .before .before .loop .e) (omega arith) (c .if1 .left))
+loop-again c = (within (c .before), omega (arith, c .before .before-of-eight .ensures .passed))
+
+end-by-one-requires : tie.Need-end-by-one-requires Inv-loop μ-loop
+end-by-one-requires c κs = omega arith
 
 returns-2 : tie.Need-returns-2 Inv-loop μ-loop
-returns-2 c =
-    let a = c .before .before .args in
-    omega (arith, ap length (first-end (a .separator) (now (a .text)) (c .before .loop .e) (omega arith)))
+returns-2 c = omega (arith, c .end-by-one .ensures)
 
 pub piece-end-spec : {M : Type 1} → statement M
 piece-end-spec =
@@ -49,9 +52,11 @@ piece-end-spec =
     Inv-loop
     μ-loop
     loop-holds
-    shared-slice-read-if1
-    returns
+    sub-loop
+    before-of-eight-requires
     add-e
+    returns
     loop-less
     loop-again
+    end-by-one-requires
     returns-2)

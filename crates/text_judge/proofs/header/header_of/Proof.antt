@@ -8,9 +8,10 @@ use denote.Ref.{now}
 use borrow.Author.Needs.{needs}
 use Rattle.text_fields.specs.Pieces.{pieces}
 use Rattle.text_fields.proofs.Values.{take-rest}
-use Rattle.text_judge.specs.Line.{fieldsOf, fieldsAt, Inside, headerIn, headerOf, headerWith, isM}
-use Rattle.text_judge.specs.declared.line.Spaces.{Spaces}
-use Rattle.text_judge.specs.declared.line.Spaces.the-variants.{At}
+use Rattle.text_judge.specs.Line.{fieldsOf, headerIn, headerOf, headerWith, isM}
+use Rattle.text_judge.specs.Spaces.{fieldsAt, Inside}
+use Rattle.text_judge.specs.declared.header.Spaces.{Spaces}
+use Rattle.text_judge.specs.declared.header.Spaces.the-variants.{At}
 use Rattle.text_judge.proofs.header.header_of.Statement.{statement}
 use Rattle.text_judge.proofs.header.header_of.Tie as tie
 

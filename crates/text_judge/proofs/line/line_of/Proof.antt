@@ -1,66 +1,32 @@
--- `line_of` meets its contract: its fields are the parts of the line between the spaces. Assumes nothing.
+-- `line_of` meets its contract: how the line starts, and what is left of it, are all that it says. Assumes nothing.
 use mathlib.Core.Path.{_≡_, sym, ap, _∙_, subst}
-use Prim.Native.Nat.{_≤_, _<_}
+use Prim.Native.Nat.{_≤_}
 use native.Mathlib.Omega.{arith}
 use lib.ListN.{length}
-use lib.Seq.{length-take-le}
 use denote.Ref.{now}
 use borrow.Author.Needs.{needs}
-use Rattle.text_fields.specs.Pieces.{pieces}
 use Rattle.text_fields.specs.Number.{signedOf}
 use Rattle.text_fields.proofs.Values.{take-rest}
-use Rattle.text_judge.specs.Line.{fieldsOf, fieldsAt, Inside, lineIn, lineOf, lineWith}
-use Rattle.text_judge.specs.declared.line.Spaces.{Spaces}
-use Rattle.text_judge.specs.declared.line.Spaces.the-variants.{At}
+use Rattle.text_judge.specs.Line.{withSigned}
+use Rattle.text_judge.specs.Starts.{Inside, lineAfter}
 use Rattle.text_judge.proofs.line.line_of.Statement.{statement}
 use Rattle.text_judge.proofs.line.line_of.Tie as tie
 
--- where the spaces stand, and what they cut the line into
-inside : (c : tie.After-first) → (c .first .given .0 .0 < c .first .given .0 .1 .0) × (c .first .given .0 .1 .0 < length (now (c .before .before .before .before .args .line)))
-inside c =
-    subst (λ (r : Spaces). Inside (now (c .before .before .before .before .args .line)) r) (c .first .given .1) (c .before .before .spaces-of .ensures .inside)
+-- what is left starts inside the line
+inside : (c : tie.After-i) → c .i .given .0 .1 .1 .0 ≤ length (now (c .before .before .before .before .args .line))
+inside c = subst (Inside (now (c .before .before .before .before .args .line))) (c .i .given .1) (c .before .before .start-of .ensures .inside)
 
-first-space : (c : tie.After-first) → c .first .given .0 .0 ≤ length (now (c .before .before .before .before .args .line))
-first-space c = omega (arith, inside c)
+start-of-requires : tie.Need-start-of-requires
+start-of-requires c κs = search needs
 
-fields : (c : tie.After-first) → fieldsOf (pieces 32 (now (c .before .before .before .before .args .line))) ≡ fieldsAt (now (c .before .before .before .before .args .line)) (At (c .first .given .0 .0) (c .first .given .0 .1 .0))
-fields c = c .before .before .spaces-of .ensures .fields ∙ ap (fieldsAt _) (c .first .given .1)
-
-spaces-of-requires : tie.Need-spaces-of-requires
-spaces-of-requires c κs = search needs
-
-enum-known-first : tie.Need-enum-known-first
-enum-known-first c = search needs
-
-slice-aggregate-number-of : tie.Need-slice-aggregate-number-of
-slice-aggregate-number-of c = sym (length-take-le _ _ (first-space (c .before .before)))
-
-number-of-requires : tie.Need-number-of-requires
-number-of-requires c κs = search needs
-
-add-number-of : tie.Need-add-number-of
-add-number-of c = let f = c .before .before .before in omega (arith, inside f, f .before .before .before .before .good)
-
-sub-number-of : tie.Need-sub-number-of
-sub-number-of c = omega (arith, inside (c .before .before .before))
-
-part-number-of-start : tie.Need-part-number-of-start
-part-number-of-start c = omega (arith, inside (c .before .before .before))
-
-part-number-of-end : tie.Need-part-number-of-end
-part-number-of-end c = omega (arith, inside (c .before .before .before))
-
-number-of-requires-2 : tie.Need-number-of-requires-2
-number-of-requires-2 c κs = search needs
-
-add-signed-of : tie.Need-add-signed-of
-add-signed-of c = let f = c .before .before .before .before .before in omega (arith, inside f, f .before .before .before .before .good)
+enum-known-i : tie.Need-enum-known-i
+enum-known-i c = search needs
 
 sub-signed-of : tie.Need-sub-signed-of
-sub-signed-of c = omega (arith, inside (c .before .before .before .before .before))
+sub-signed-of c = omega (arith, inside (c .before))
 
 part-signed-of-start : tie.Need-part-signed-of-start
-part-signed-of-start c = omega (arith, inside (c .before .before .before .before .before))
+part-signed-of-start c = omega (arith, inside (c .before))
 
 part-signed-of-end : tie.Need-part-signed-of-end
 part-signed-of-end c = search needs
@@ -68,45 +34,33 @@ part-signed-of-end c = search needs
 signed-of-requires : tie.Need-signed-of-requires
 signed-of-requires c κs = search needs
 
-line-with-requires : tie.Need-line-with-requires
-line-with-requires c κs = search needs
+with-signed-requires : tie.Need-with-signed-requires
+with-signed-requires c κs = search needs
 
 enum-told : tie.Need-enum-told
 enum-told c = search needs
 
 returns : tie.Need-returns
-unfolding lineOf
-returns c =
-    let f = c .before .before .before .before .before .before .before .before in
-    let l = now (f .before .before .before .before .args .line) in
-    let third = c .before .signed-of .ensures ∙ ap signedOf (take-rest _ l) in
-    c .line-with .ensures
-    ∙ (λ k. lineWith (c .before .before .before .before .before .number-of .ensures k) (c .before .before .before .number-of2 .ensures k) (third k))
-    ∙ sym (ap lineIn (fields f))
+returns c = let a = c .before .before .before .before in
+    let l = now (a .before .before .before .before .args .line) in
+    c .with-signed .ensures
+    ∙ ap (withSigned _ _) (c .before .signed-of .ensures ∙ ap signedOf (take-rest _ l))
+    ∙ sym (a .before .before .start-of .ensures .line ∙ ap (lineAfter l) (a .i .given .1))
 
 returns-2 : tie.Need-returns-2
-unfolding lineOf
-returns-2 c = sym (ap lineIn (c .before .before .spaces-of .ensures .fields ∙ ap (fieldsAt _) (c .enum-told .given .1)))
+returns-2 c = sym (c .before .before .start-of .ensures .line ∙ ap (lineAfter _) (c .enum-told .given .1))
 
 pub line-of-spec : {M : Type 1} → statement M
 line-of-spec =
     tie.close
     (tie.spec
-    spaces-of-requires
-    enum-known-first
-    slice-aggregate-number-of
-    number-of-requires
-    add-number-of
-    sub-number-of
-    part-number-of-start
-    part-number-of-end
-    number-of-requires-2
-    add-signed-of
+    start-of-requires
+    enum-known-i
     sub-signed-of
     part-signed-of-start
     part-signed-of-end
     signed-of-requires
-    line-with-requires
+    with-signed-requires
     enum-told
     returns
     returns-2)

@@ -5,8 +5,8 @@ use lib.ListN.{length}
 use denote.Ref.{now}
 use borrow.Author.Needs.{needs}
 use Rattle.text_judge.proofs.Cutting.{no-space, first-inside, one-space, second-inside, third-end, more-spaces, two-spaces}
-use Rattle.text_judge.proofs.line.spaces_of.Statement.{statement}
-use Rattle.text_judge.proofs.line.spaces_of.Tie as tie
+use Rattle.text_judge.proofs.header.spaces_of.Statement.{statement}
+use Rattle.text_judge.proofs.header.spaces_of.Tie as tie
 
 -- the first piece, and the second, are followed by a space
 first : (c : tie.Else1) → length (now (c .before .piece .result)) + 1 ≤ length (now (c .before .before .before .args .line))
