@@ -2,8 +2,9 @@
 
     python3 bench/build.py FOLDER    builds the peers; prints name and path of each
 
-    compiled      the path of a compiled program, or None with a printed reason
-    build_peers   the peers whose library is installed, by name
+    compiled        the path of a compiled program, or None with a printed reason
+    build_peers     the peers whose library is installed, by name: the bare rank within one process
+    build_programs  the same as whole programs, which read a plan text and print the rank
 """
 
 import os
@@ -22,6 +23,12 @@ PEERS = (
     ("FLINT", "flint_rank.c", "libflint-dev", ("-lflint", "-lgmp")),
     ("FFPACK", "ffpack_rank.cpp", "fflas-ffpack libopenblas-dev", "fflas-ffpack"),
     ("PARI", "pari_rank.c", "libpari-dev", ("-lpari",)),
+)
+
+# The peers as their users write them.
+PROGRAMS = (
+    ("LinBox program", "linbox_program.cpp", *PEERS[0][2:]),
+    ("FLINT program", "flint_program.c", *PEERS[1][2:]),
 )
 
 
@@ -53,11 +60,11 @@ def _libraries(given):
     return shlex.split(found.stdout.decode()) if found.returncode == 0 else None
 
 
-def build_peers(target, say=print):
+def build_peers(target, say=print, listed=PEERS):
     """Each peer is optional; one that cannot be compiled is named with the
     packages that it needs."""
     built = {}
-    for name, source, packages, libraries in PEERS:
+    for name, source, packages, libraries in listed:
         words = _libraries(libraries)
         program = None if words is None else compiled(HERE / "peers" / source, target, *words)
         if program:
@@ -65,6 +72,10 @@ def build_peers(target, say=print):
         else:
             say(f"skipped: {name} (needs the Debian packages {packages})")
     return built
+
+
+def build_programs(target, say=print):
+    return build_peers(target, say, PROGRAMS)
 
 
 if __name__ == "__main__":

@@ -4,9 +4,13 @@
     tool_time     what one program times within one process: factoring, the
                   whole report, or the words from slot values
     call_times    the C calls that make and check a certificate
+    stored_times  the calls on a stored plan, without reading
+    ROOM          the entries that are lent to each of L and U where nothing else is said
 """
 
 import subprocess
+
+ROOM = 16_384
 
 
 def output(command, file=None):
@@ -29,3 +33,12 @@ def call_times(program, runs, file):
     rank, *seconds = output([program, runs, file]).split()
     tools = ("make", "check", "reading")
     return {tool: (int(rank), float(time)) for tool, time in zip(tools, seconds)}
+
+
+def stored_times(program, runs, file, room=ROOM):
+    """The rank and the seconds of factoring, of the check of its factors, and of
+    the open words, by `stored` on a plan text whose triples rise."""
+    rank, factor, check, both = output([program, runs, room, file]).split()
+    opened = max(float(both) - float(check), 0.0)
+    times = {"factor": float(factor), "check set": float(check), "open words": opened}
+    return {tool: (int(rank), seconds) for tool, seconds in times.items()}

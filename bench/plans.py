@@ -8,11 +8,15 @@ so that every plan has a report.
     BenchPlan    a name, a modulus, the sizes and the rows
     all_plans    the plans of the table
     desk_plans   plan D of document 01 by four moduli, too small for the table
+    family       one family of plans by growing size
+    FAMILIES     the families whose growth is measured
+    collection_plans   matrices of the public collection that can be built from their definition
     text         a plan as plan text, its triples by row and column or in another order
     ORDERS       the other orders, by name
     peer_form    a plan as the peers read it
 """
 
+from itertools import combinations, permutations
 from random import Random
 from typing import NamedTuple
 
@@ -183,3 +187,61 @@ def desk_plans():
     """A call on such a plan takes microseconds, and the test of its modulus is a
     part of that."""
     return [BenchPlan(f"plan D p={p}", p, 5, 5, PLAN_D) for p in (7, 251, 65_521, LARGEST)]
+
+
+def half_dense(rng, p, size):
+    """Every cell any residue, or 0 as often."""
+    cells = [[(j, rng.randrange(1, p)) for j in range(size) if rng.random() < 0.5] for _ in range(size)]
+    return size, size, [dict(row) for row in cells]
+
+
+# Name, builder, modulus, the largest size; others are a half, a quarter and an eighth of it, and what lies between.
+FAMILIES = (
+    ("band", band, 251, 2_048),
+    ("random sparse", random_sparse, 251, 2_048),
+    ("wide pads", wide_pads, 251, 384),
+    ("half dense", half_dense, 251, 112),
+)
+
+
+def family(name, builder, p, largest):
+    """Plans of rising size, each about 1.4 times as large as the one before."""
+    sizes = [largest * share // 16 for share in (2, 3, 4, 6, 8, 11, 16)]
+    return [_fitted(name, builder, p, size) for size in sizes]
+
+
+def _boundary(name, p, simplices):
+    """The boundary matrix of the simplices: a row for each, a column for each of
+    their faces; the face without vertex k has the sign of k."""
+    faces = sorted({s[:k] + s[k + 1 :] for s in simplices for k in range(len(s))})
+    column = {face: j for j, face in enumerate(faces)}
+    rows = [
+        dict(sorted((column[s[:k] + s[k + 1 :]], 1 if k % 2 == 0 else p - 1) for k in range(len(s))))
+        for s in simplices
+    ]
+    return BenchPlan(name, p, len(rows), len(faces), rows)
+
+
+def _matchings(vertices, edges):
+    """The matchings of a complete graph with so many edges, each by rising edges."""
+    pairs = list(combinations(range(vertices), 2))
+    return [m for m in combinations(pairs, edges) if len({v for pair in m for v in pair}) == 2 * edges]
+
+
+def _rooks(side, count):
+    """So many rooks on a board of which none attacks another, by rising row."""
+    return [
+        tuple(zip(rows, columns))
+        for rows in combinations(range(side), count)
+        for columns in permutations(range(side), count)
+    ]
+
+
+def collection_plans():
+    """mk9.b3 and ch5-5.b2: boundary matrices of a matching complex and of a
+    chessboard complex."""
+    p = 65_521
+    return [
+        _boundary("mk9.b3", p, _matchings(9, 4)),
+        _boundary("ch5-5.b2", p, sorted(_rooks(5, 3))),
+    ]

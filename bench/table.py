@@ -4,18 +4,18 @@
     in_order     what tools gave for a text whose triples stand in another order
     markdown     rows of cells under a header
     milliseconds, microseconds, ratio   numbers as the tables write them
+    mean         the geometric mean
     table        times and ratios as Markdown
 """
 
+from math import exp, log
 from typing import NamedTuple
 
 from plans import ORDERS
 
-# The tools of ours that are set beside each peer, plan by plan.
-COMPARED = (
-    ("report", "our report program, its start included"),
-    ("in process", "our whole report in process"),
-)
+# The stages of a report within one process; what is left of it is printing and handing on.
+STAGES = ("reading", "factor", "check set", "open words")
+WHOLE = "in process"
 
 # The tools of ours whose time may depend on the order of a text's triples.
 ORDERED = {"reading": "Reading", "in process": "The whole report in process"}
@@ -57,6 +57,10 @@ def ratio(value):
     return f"{value:.2f}" if value < 10 else f"{value:.0f}"
 
 
+def mean(values):
+    return exp(sum(map(log, values)) / len(values))
+
+
 def _cell(write, value):
     return "" if value is None else write(value)
 
@@ -79,44 +83,44 @@ def _times(measured, tools):
     yield from markdown(["plan", "size", "entries", "rank", *tools], rows)
 
 
-def _ratios(measured, tool, words, peers):
-    yield f"The peer's bare rank divided by {words}; above 1 we are ahead."
+def _ratios(measured, tool, words, others):
+    """Each of the others beside our tool, plan by plan, with the least and the mean."""
+    yield f"{words}; above 1 we are ahead."
     yield ""
-    rows = (
-        [one.plan] + [_cell(ratio, one.over(peer, tool)) for peer in peers] for one in measured
-    )
-    yield from markdown(["plan", *(f"{peer} / {tool}" for peer in peers)], rows)
-
-
-def _least_ratio(measured, tool, peers):
-    """(ratio, peer, plan) where a peer takes least beside our tool, if any."""
-    ratios = [
-        (one.over(peer, tool), peer, one.plan)
-        for one in measured
-        for peer in peers
-        if one.over(peer, tool) is not None
+    rows = [
+        [one.plan] + [_cell(ratio, one.over(other, tool)) for other in others] for one in measured
     ]
-    return min(ratios, default=None)
+    columns = [[r for r in (one.over(o, tool) for one in measured) if r is not None] for o in others]
+    for words, summary in (("least", min), ("geometric mean", mean)):
+        rows.append([words] + [ratio(summary(column)) if column else "" for column in columns])
+    yield from markdown(["plan", *(f"{other} / {tool}" for other in others)], rows)
 
 
-def _least_ratios(measured, own, peers):
-    yield "The least that any peer takes, divided by each of our times:"
+def _stages(measured):
+    """What each stage of a report takes within one process."""
+    plans = [one for one in measured if all(tool in one.times for tool in (*STAGES, WHOLE))]
+    if not plans:
+        return
+    yield "The stages of a report within one process, milliseconds; `rest` is printing, clearing the lists and handing on."
     yield ""
-    for words, sparse in (("sparse", True), ("dense", False)):
-        plans = [one for one in measured if one.sparse == sparse]
-        for tool in own:
-            least = _least_ratio(plans, tool, peers)
-            if least:
-                value, peer, plan = least
-                yield f"- {words} plans, {tool}: {ratio(value)} ({peer} on {plan})"
+    rows = []
+    for one in plans:
+        times = [one.times[tool] for tool in STAGES]
+        rest = max(one.times[WHOLE] - sum(times), 0.0)
+        rows.append([one.plan, *map(milliseconds, [*times, rest, one.times[WHOLE]])])
+    yield from markdown(["plan", *STAGES, "rest", WHOLE], rows)
 
 
 def _checking(measured):
-    for tool, words in (("make", "making"), ("factoring", "factoring alone")):
-        shares = [one.over("check", tool) for one in measured]
-        most = max((share for share in shares if share is not None), default=None)
-        if most is not None:
-            yield f"Checking takes at most {ratio(most)} times as long as {words}."
+    for check, tool, words in (
+        ("check", "make", "Checking a certificate, reading included, takes at most {} times as long as making it ({})."),
+        ("check set", "factor", "Checking a set takes at most {} times as long as factoring ({})."),
+        ("open words", "factor", "Listing the open words takes at most {} times as long as factoring ({})."),
+    ):
+        shares = [(one.over(check, tool), one.plan) for one in measured if one.over(check, tool) is not None]
+        if shares:
+            most, plan = max(shares)
+            yield words.format(ratio(most), plan)
 
 
 def _orders(measured, tool, words):
@@ -140,13 +144,17 @@ def _orders(measured, tool, words):
     yield f"{words} takes at most {ratio(most)} times as long as on the rising text ({plan})."
 
 
-def table(measured, own, peers):
-    """Times in milliseconds, each peer's bare rank divided by our times,
-    checking beside making and factoring, and other orders of the triples."""
-    parts = [_times(measured, [*own, *peers])]
-    if own and peers:
-        parts += [_ratios(measured, tool, words, peers) for tool, words in COMPARED if tool in own]
-        parts.append(_least_ratios(measured, own, peers))
+def table(measured, own, programs, peers):
+    """Times in milliseconds; programs beside programs and calls beside calls;
+    the stages; checking beside making and factoring; other orders of the triples."""
+    parts = [_times(measured, [*own, *programs, *peers])]
+    if "report" in own and programs:
+        words = "Programs beside our report program: each starts, reads the text and prints"
+        parts.append(_ratios(measured, "report", words, programs))
+    if "factor" in own and peers:
+        words = "Calls beside calls, reading left out: the peer's bare rank divided by our factoring"
+        parts.append(_ratios(measured, "factor", words, peers))
+    parts.append(_stages(measured))
     parts.append(_checking(measured))
     parts += [_orders(measured, tool, words) for tool, words in ORDERED.items()]
     for index, lines in enumerate(map(list, parts)):
