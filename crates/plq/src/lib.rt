@@ -13,37 +13,18 @@ pub use call_slots::from_certificate::solve_slots_from_certificate;
 pub use call_slots::from_factors::solve_slots_from_factors;
 pub use text_owners::read as read_plan;
 ghost use mathlib.Core.Path.{_≡_};
-ghost use Rattle.plq.specs.Calls.{checkTextOf, packed, Makes, ReportsText, AnswersText};
+ghost use Rattle.text_calls.specs.Calls.{checkTextOf, packed, Makes, ReportsText, AnswersText};
 ghost use Rattle.sparse.specs.Views.{before, after};
-use answer::pack_answer;
-use answer::verdict_byte;
-use answer_lib::answer_text;
-use check::check_text;
 use limits::ENTRY_CELLS;
-use limits::PRINT_ROOM;
 use limits::SIZE_CELLS;
 use limits::START_CELLS;
 use limits::WORK_CELLS;
-use make::make_staged;
-use refusals::Outcome;
-use report::deliver;
-use report_lib::report_all;
 use stages::factor_text;
-
-pub mod answer;
-pub mod check;
-pub mod make;
-pub mod report;
-
-// An outcome as one number: the table's number plus 256 times its detail.
-fn pack(o: Outcome) -> u64
-    ensures { λ z. ⌜ z ≡ packed o ⌝ }
-{
-    match o {
-        Outcome::Passed => 0,
-        Outcome::Refused(number, detail) => number as u64 + 256 * detail as u64,
-    }
-}
+use text_calls::answer::answer_from_text;
+use text_calls::check::check_text;
+use text_calls::make::make_staged;
+use text_calls::pack;
+use text_calls::report::report_text;
 
 // Makes the certificate of a plan.
 //   takes    a plan text, and a buffer of any length and content
@@ -131,12 +112,7 @@ pub extern "C" fn plq_check_certificate(text: &[u8], certificate: &[u8]) -> u64
 pub extern "C" fn plq_report(text: &[u8], buffer: &mut [u8]) -> u64
     ensures { λ z. ⌜ ReportsText (before text) z (before buffer) (after buffer) ⌝ }
 {
-    let mut printed = [0u8; PRINT_ROOM];
-    let mut work = [0u64; WORK_CELLS];
-    let reported = report_all(text, &mut printed, &mut work);
-    let outcome = reported.outcome;
-    let size = reported.size;
-    pack(deliver(outcome, &printed[..size], buffer))
+    report_text(text, buffer)
 }
 
 // Answers a question about a plan: from a certificate, anybody's, which is checked first; or, where it has no bytes, from the engine's own factors.
@@ -156,8 +132,5 @@ pub extern "C" fn plq_answer(
 ) -> u64
     ensures { λ q. ⌜ AnswersText (before text) (before certificate) (before y) q (before x) (after x) (before z) (after z) (now (verdict .exit)) ⌝ }
 {
-    let mut work = [0u64; WORK_CELLS];
-    let answer = answer_text(text, certificate, y, x, z, &mut work);
-    *verdict = verdict_byte(answer);
-    pack_answer(answer)
+    answer_from_text(text, certificate, y, x, z, verdict)
 }

@@ -93,9 +93,9 @@ use Rattle.call_owned.specs.Owned.{ownedOutcome, ownedFactors, ownedAnswer, own
 use Rattle.call_owned.proofs.Owned.{nine-first, checks-unowned, checks-exactly, checks-by, writes-unowned, writes-exactly, writes-by, writes-cleared, leaves-right, leaves-unowned, leaves-other, leaves-exactly, leaves-by, leaves-cleared, answers-unowned, answers-exactly, answers-by, answers-cleared, lists-unowned, lists-exactly, lists-by, lists-cleared}
 use Rattle.stages.specs.Stages.{reading}
 use Rattle.stages.specs.Meaning.{FitsAll, OverflowsAt}
-use Rattle.plq.specs.Calls.{checkTextOf, packed, Makes}
-use Rattle.plq.specs.Meaning.{ownCertificate, Made, TextPasses, PackedFrom}
-use Rattle.plq.proofs.Texts as texts
+use Rattle.text_calls.specs.Calls.{checkTextOf, packed, Makes}
+use Rattle.text_calls.specs.Meaning.{ownCertificate, Made, TextPasses, PackedFrom}
+use Rattle.text_calls.proofs.Texts as texts
 use Rattle.print_text.specs.Report.{refusalText}
 use Rattle.print_text.specs.Printed.{PrintsRefusal}
 use Rattle.report_lib.specs.Reporting.{Reports}

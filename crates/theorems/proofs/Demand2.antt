@@ -70,9 +70,9 @@ use Rattle.call_owned.proofs.Owned.{leaves-done, answers-done, lists-done}
 use Rattle.stages.specs.Stages.{reading, factoredOf}
 use Rattle.stages.specs.Meaning.{FitsAll}
 use Rattle.stages.proofs.Passing.{factors-pass}
-use Rattle.plq.specs.Calls.{Makes}
-use Rattle.plq.specs.Meaning.{ownCertificate}
-use Rattle.plq.proofs.Texts as texts
+use Rattle.text_calls.specs.Calls.{Makes}
+use Rattle.text_calls.specs.Meaning.{ownCertificate}
+use Rattle.text_calls.proofs.Texts as texts
 use Rattle.print_text.specs.Lines.{openCount, closedCount, totalsLine}
 use Rattle.report_lib.specs.Reporting.{openListOf, reportOf, Reports}
 use Rattle.report_lib.specs.Meaning.{TellsOpen, ReportsRight}

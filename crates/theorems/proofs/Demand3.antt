@@ -72,10 +72,10 @@ use Rattle.call_owned.specs.Meaning.{OwnedAnswerOf}
 use Rattle.call_owned.proofs.Owned.{checks-right, checks-done, writes-right, writes-done, leaves-done, answers-right, answers-done, lists-right}
 use Rattle.call_owned.proofs.Answers.{answer-without}
 use Rattle.stages.specs.Stages.{reading}
-use Rattle.plq.specs.Calls.{checkTextOf, packed, Makes}
-use Rattle.plq.specs.Meaning.{ownCertificate}
-use Rattle.plq.proofs.Own as owns
-use Rattle.plq.proofs.Texts as texts
+use Rattle.text_calls.specs.Calls.{checkTextOf, packed, Makes}
+use Rattle.text_calls.specs.Meaning.{ownCertificate}
+use Rattle.text_calls.proofs.Own as owns
+use Rattle.text_calls.proofs.Texts as texts
 
 -- ---- the check of stored factors
 

@@ -41,8 +41,8 @@ use Rattle.text_owners.specs.Stating.{StatesOwners}
 use Rattle.text_owners.proofs.Theorems.{owners-alone}
 use Rattle.stages.specs.Stages.{reading, ownersRead, factoredOf}
 use Rattle.stages.proofs.ReadText.{reading-alike, owners-of}
-use Rattle.plq.specs.Calls.{checkTextOf, certificateFor, packed, Makes}
-use Rattle.plq.proofs.Texts as texts
+use Rattle.text_calls.specs.Calls.{checkTextOf, certificateFor, packed, Makes}
+use Rattle.text_calls.proofs.Texts as texts
 use Rattle.ask_lib.specs.Asking.{Asks}
 use Rattle.ask_lib.proofs.Theorems as asks
 use Rattle.ask_words.specs.Solving.{TellsWords}

@@ -52,10 +52,10 @@ use Rattle.stages.specs.Meaning.{factorsOf, FitsAll, OverflowsAt}
 use Rattle.report_lib.specs.Reporting.{reportOf}
 use Rattle.report_lib.specs.Meaning.{ReportsRight}
 use Rattle.answer_lib.specs.Answering.{answerTextOf}
-use Rattle.plq.specs.Calls.{packed, ReportsText, AnswersText}
-use Rattle.plq.specs.Meaning.{Reportable, PackedFrom, TextAskable, setUsed, VerdictRight}
-use Rattle.plq.proofs.Reports as reports
-use Rattle.plq.proofs.Answers as answers
+use Rattle.text_calls.specs.Calls.{packed, ReportsText, AnswersText}
+use Rattle.text_calls.specs.Meaning.{Reportable, PackedFrom, TextAskable, setUsed, VerdictRight}
+use Rattle.text_calls.proofs.Reports as reports
+use Rattle.text_calls.proofs.Answers as answers
 
 -- ---- reporting: b₀ and b are the buffer before and after
 

@@ -1,6 +1,6 @@
 -- `plq_check_certificate` meets its contract. Assumes nothing.
 use mathlib.Core.Path.{ap, _∙_}
-use Rattle.plq.specs.Calls.{packed}
+use Rattle.text_calls.specs.Calls.{packed}
 use borrow.Author.Needs.{needs}
 use Rattle.plq.proofs.plq_check_certificate.Statement.{statement}
 use Rattle.plq.proofs.plq_check_certificate.Tie as tie

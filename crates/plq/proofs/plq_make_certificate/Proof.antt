@@ -2,7 +2,7 @@
 use mathlib.Core.Path.{refl, sym}
 use Rattle.sparse.specs.Matrix.{compressed}
 use Rattle.sparse.specs.Set.{storageOf}
-use Rattle.plq.proofs.Making.{staged-fits, makes}
+use Rattle.text_calls.proofs.Making.{staged-fits, makes}
 use borrow.Author.Needs.{needs}
 use Rattle.plq.proofs.plq_make_certificate.Statement.{statement}
 use Rattle.plq.proofs.plq_make_certificate.Tie as tie
