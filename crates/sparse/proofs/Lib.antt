@@ -4,6 +4,7 @@ pub mod Forms
 pub mod Entries
 pub mod Rows
 pub mod Subtraction
+pub mod AddLaws
 pub mod RunLaws
 pub mod Nonzeros
 pub mod Scanning

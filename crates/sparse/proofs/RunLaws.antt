@@ -1,6 +1,6 @@
 -- A row whose columns are neighbours, added p - c times to a run of cells.
 use mathlib.Core.Path.{_≡_, refl, sym, ap, subst, _∙_}
-use mathlib.Core.Bool.{Bool, true, cond}
+use mathlib.Core.Bool.{true}
 use mathlib.Core.List.{List, _++_}
 use Prim.Native.Nat.{ℕ, zero, suc, _+_, _-_, _*_, _^_, _≤_, _<_}
 use native.Mathlib.Nat.{mul-le-mul}
@@ -8,18 +8,12 @@ use native.Mathlib.Decide.{ℕ-discrete, decLt}
 use native.Mathlib.Omega.{arith}
 use lib.ListN.{length, getD, set, take, drop, length-set, length-drop, length-append, List·getD-append}
 use lib.Seq.{getD-set-same, getD-set-other, getD-take, getD-drop, getD-append-add, length-take-le}
-use borrow.Author.Tests.{lt-ltb}
-use Rattle.algebra.specs.Congruence.{_≈⟨_⟩_}
-use Rattle.algebra.proofs.Congruence.{exact, by-multiples}
 use Rattle.sparse.specs.Form.{risesFrom}
-use Rattle.sparse.specs.Row.{entry, Below, Row}
-use Rattle.sparse.specs.WorkingRow.{SubtractedTo, GrownBy, growth, GrowReady}
-use Rattle.sparse.specs.Run.{Neighbours, RunReady, Added}
-use Rattle.sparse.proofs.Entries.{rises-apart, row-columns, values-at, entry-at, entry-absent}
-
-pub growth-small : (p : ℕ) → p < 65536 → growth p ≡ p * p
-unfolding growth
-growth-small p h = ap (λ (b : Bool). cond b (p * p) 0) (lt-ltb p 65536 h)
+use Rattle.sparse.specs.Row.{entry, Row}
+use Rattle.sparse.specs.WorkingRow.{GrownBy, growth, GrowReady}
+use Rattle.sparse.specs.Run.{RowAdded, Neighbours, RunReady, Added}
+use Rattle.sparse.proofs.Entries.{rises-apart, row-columns, entry-at, entry-absent}
+use Rattle.sparse.proofs.AddLaws.{growth-small, add-ready, added-grown}
 
 -- room for a row more, after fewer than 2 ^ 32 rows
 pub growth-room : (p t : ℕ) → t < 2 ^ 32 → p < 65536 → p * p + t * growth p ≤ 2 ^ 64 - 2 ^ 32
@@ -109,32 +103,11 @@ module _ (w z : List ℕ) (a n : ℕ) (long : length z ≡ n) (inside : a + n �
       ∙ getD-drop n (drop a w) t 0
       ∙ getD-drop a w (n + t) 0
 
--- ---- the values added p - c times: the row taken away c times
-
--- the cell y after f was taken away from the cell x, which was below b
-record Grew (p b g f x y : ℕ) : Type 0 where
-  below : y < b + g
-  less : y + f ≈⟨ p ⟩ x
-  still : f ≡ 0 → y ≡ x
-
-grew-none : (p b g f x y : ℕ) → x < b → y ≡ x → f ≡ 0 → Grew p b g f x y
-grew-none p b g f x y h e z = record { below = omega arith; less = exact (omega arith); still = λ q. e }
-
--- d is p - c
-grew-by : (p b c d v x y : ℕ) → d + c ≡ p → x < b → v < p → 0 < c → 0 < v → y ≡ x + d * v → Grew p b (p * p) (c * v) x y
-grew-by p b c d v x y whole h vp c0 v0 e =
-    record {
-      below = omega (arith, mul-le-mul {n₁ = d} {m₁ = v} {n₂ = p} {m₂ = p} (omega arith) (omega arith));
-      less = by-multiples 0 v (omega (arith, ap (λ (i : ℕ). i * v) whole));
-      still = λ z. absurd (omega (arith, mul-le-mul {n₁ = 1} {m₁ = 1} {n₂ = c} {m₂ = v} c0 v0));
-    }
+-- ---- the values added to the lent part: the row added
 
 module _ (p c : ℕ) (cols vals w : List ℕ) (ready : GrowReady p c cols vals w) (near : Neighbours p cols) where
   pub run-inside : getD cols 0 0 + length cols ≤ length w
   run-inside = omega (arith, row-columns p (length w) cols vals (ready .row) (length cols - 1) (omega (arith, near .some)), near .ends)
-
-  value : (t : ℕ) → t < length cols → (0 < getD vals t 0) × (getD vals t 0 < p)
-  value t h = values-at p vals (ready .row .nonzero) t (omega (arith, ready .row .paired))
 
   -- the lent part of n cells from place a on, and d = p - c
   module _ (a n d : ℕ) (ea : a ≡ getD cols 0 0) (en : n ≡ length cols) (whole : d + c ≡ p) where
@@ -144,64 +117,53 @@ module _ (p c : ℕ) (cols vals w : List ℕ) (ready : GrowReady p c cols vals w
     part-cell : (t : ℕ) → t < n → getD (take n (drop a w)) t 0 ≡ getD w (a + t) 0
     part-cell t h = getD-take n (drop a w) t 0 h ∙ getD-drop a w t 0
 
+    entry-in : (t : ℕ) → t < n → d * entry cols vals (a + t) ≡ d * getD vals t 0
+    entry-in t h =
+        ap (λ (x : ℕ). d * x)
+        (ap (entry cols vals) (omega (arith, run-column p (length w) cols vals (ready .row) near t (omega arith)))
+        ∙ entry-at (length w) 0 cols vals (ready .row .rising) t (omega arith) (omega (arith, ready .row .paired)))
+
+    -- elsewhere the row has no entry
+    entry-out : (j : ℕ) → ((t : ℕ) → t < n → a + t ≡ j → ⊥) → d * entry cols vals j ≡ 0
+    entry-out j none =
+        omega (arith, ap (λ (x : ℕ). d * x) (entry-absent cols vals j (λ t h e. none t (omega arith) (omega (arith, run-column p (length w) cols vals (ready .row) near t h)))))
+
     pub run-ready : RunReady d vals (take n (drop a w))
     run-ready =
         record {
           paired = omega (arith, part-length, ready .row .paired);
-          room = λ t h.
-              omega (
-                arith,
-                part-cell t (omega (arith, part-length)),
-                near .small,
-                ready .room (near .small) (a + t) (omega (arith, part-length, run-inside)),
-                mul-le-mul {n₁ = d} {m₁ = getD vals t 0} {n₂ = 65535} {m₂ = 65535} (omega (arith, near .small)) (omega (arith, near .small, value t (omega (arith, part-length)) .1)),
-              );
+          room = λ t h. let g : t < n = omega (arith, part-length) in
+              omega (arith, part-cell t g, entry-in t g, add-ready p c d cols vals w ready (near .small) whole .room (a + t) (omega (arith, run-inside)));
         }
 
-    module _ (z : List ℕ) (added : Added d vals (take n (drop a w)) z) (b : ℕ) (below : Below b w) where
+    module _ (z : List ℕ) (added : Added d vals (take n (drop a w)) z) where
       long : length z ≡ n
       long = added .long ∙ part-length
 
       room : a + n ≤ length w
       room = omega (arith, run-inside)
 
-      cell-in : (t : ℕ) → t < n → Grew p b (p * p) (c * entry cols vals (a + t)) (getD w (a + t) 0) (getD (back w z a n long room) (a + t) 0)
-      cell-in t h =
-          let e : entry cols vals (a + t) ≡ getD vals t 0 =
-          ap (entry cols vals) (omega (arith, run-column p (length w) cols vals (ready .row) near t (omega arith)))
-          ∙ entry-at (length w) 0 cols vals (ready .row .rising) t (omega arith) (omega (arith, ready .row .paired)) in
-          let v = value t (omega arith) in
-          rw e
-          (grew-by p b c d (getD vals t 0) (getD w (a + t) 0) _ whole (below (a + t) (omega (arith, room))) (v .1) (ready .some) (v .0)
-          (back-within w z a n long room t h ∙ added .sums t (omega (arith, part-length)) ∙ ap (λ (x : ℕ). x + d * getD vals t 0) (part-cell t h)))
+      abbrev CellSum : ℕ → Type 0
+      CellSum j = getD (back w z a n long room) j 0 ≡ getD w j 0 + d * entry cols vals j
 
-      -- elsewhere the row has no entry
-      entry-out : (j : ℕ) → ((t : ℕ) → t < n → a + t ≡ j → ⊥) → c * entry cols vals j ≡ 0
-      entry-out j none =
-          omega (arith, ap (λ (x : ℕ). c * x) (entry-absent cols vals j (λ t h e. none t (omega arith) (omega (arith, run-column p (length w) cols vals (ready .row) near t h)))))
-
-      cell : (j : ℕ) → j < length w → Grew p b (p * p) (c * entry cols vals j) (getD w j 0) (getD (back w z a n long room) j 0)
-      cell j h = go (decLt j a) (decLt j (a + n))
+      sum-at : (j : ℕ) → CellSum j
+      sum-at j = go (decLt j a) (decLt j (a + n))
         where
-          place : (k : ℕ) → k ≡ j → Grew p b (p * p) (c * entry cols vals k) (getD w k 0) (getD (back w z a n long room) k 0) → Grew p b (p * p) (c * entry cols vals j) (getD w j 0) (getD (back w z a n long room) j 0)
-          place k e = subst (λ (i : ℕ). Grew p b (p * p) (c * entry cols vals i) (getD w i 0) (getD (back w z a n long room) i 0)) e
+          place : (k : ℕ) → k ≡ j → CellSum k → CellSum j
+          place k e = subst CellSum e
 
-          go : Dec (j < a) → Dec (j < a + n) → Grew p b (p * p) (c * entry cols vals j) (getD w j 0) (getD (back w z a n long room) j 0)
-          go (yes q) r = grew-none p b (p * p) _ _ _ (below j h) (back-before w z a n long room j q) (entry-out j (λ t g e. omega arith))
-          go (no q) (yes r) = place (a + (j - a)) (omega arith) (cell-in (j - a) (omega arith))
+          go : Dec (j < a) → Dec (j < a + n) → CellSum j
+          go (yes q) r = omega (arith, back-before w z a n long room j q, entry-out j (λ t g e. omega arith))
+          go (no q) (yes r) =
+              let t = j - a in
+              let h : t < n = omega arith in
+              place (a + t) (omega arith) (omega (arith, back-within w z a n long room t h, added .sums t (omega (arith, part-length)), part-cell t h, entry-in t h))
           go (no q) (no r) =
-              place (a + (n + (j - a - n))) (omega arith)
-              (grew-none p b (p * p) _ _ _ (below (a + (n + (j - a - n))) (omega arith)) (back-after w z a n long room (j - a - n)) (entry-out (a + (n + (j - a - n))) (λ t g e. omega arith)))
+              let t = j - a - n in
+              place (a + (n + t)) (omega arith) (omega (arith, back-after w z a n long room t, entry-out (a + (n + t)) (λ i g e. omega arith)))
 
-      run-subtracted : SubtractedTo p (b + p * p) (λ j. c * entry cols vals j) w (back w z a n long room)
-      run-subtracted =
-          let same = back-length w z a n long room in
-          record {
-            long = same;
-            below = λ i h. cell i (omega (arith, same)) .below;
-            cells = λ j h. cell j h .less;
-            kept = λ j h. cell j h .still;
-          }
+      run-added : RowAdded d cols vals w (back w z a n long room)
+      run-added = record { long = back-length w z a n long room; sums = λ j h. sum-at j }
 
     pub run-grown : (z : List ℕ) → Added d vals (take n (drop a w)) z → GrownBy p (growth p) (λ j. c * entry cols vals j) w (take a w ++ (z ++ drop n (drop a w)))
-    run-grown z added b wide below = rw (growth-small p (near .small)) (run-subtracted z added b below)
+    run-grown z added = added-grown p c d cols vals w ready (near .small) whole _ (run-added z added)

@@ -1,12 +1,12 @@
-// Multiples of stored rows taken away from a working row whose cells may grow. Where p is below 2 ^ 16, a row whose columns
-// are neighbours is added p - c times, with no test in the loop; any other row is taken away as in `kernel`.
+// Multiples of stored rows taken away from a working row whose cells may grow. Where p is below 2 ^ 16, a row in stored lists
+// or one whose columns are neighbours is added p - c times, with no cell tested; any other row is taken away as in `kernel`.
 ghost use mathlib.Core.Path.{_≡_};
 ghost use mathlib.Core.Bool.{true};
 ghost use Prim.Native.Nat.{_*_};
 ghost use Rattle.sparse.specs.Row.{entry};
 ghost use Rattle.sparse.specs.Matrix.{matrix};
 ghost use Rattle.sparse.specs.WorkingRow.{GrownBy, growth, GrowReady, GrowMatrixReady};
-ghost use Rattle.sparse.specs.Run.{Neighbours, RunReady, Added};
+ghost use Rattle.sparse.specs.Run.{AddReady, RowAdded, Neighbours, RunReady, Added};
 ghost use Rattle.sparse.specs.Views.{before, after, storedAt, storedBefore, viewAt, viewBefore, viewedAt, viewedBefore};
 use crate::kernel::product;
 use crate::kernel::subtract;
@@ -47,6 +47,19 @@ fn add_words(d: u32, vals: &[u32], vb: &[u8], work: &mut [u64])
     }
 }
 
+// work + d row, entry by entry, where the row is given by stored lists: no cell is tested, since there is room.
+fn add_list(d: u32, cols: &[u32], vals: &[u32], work: &mut [u64])
+    requires { ⌜ AddReady d (now cols) (now vals) (now work) ⌝ }
+    ensures { λ _. ⌜ RowAdded d (before cols) (before vals) (before work) (after work) ⌝ }
+{
+    let mut t = 0;
+    while t < cols.len() {
+        let j = index(cols[t]);
+        work[j] = work[j] + product(d, vals[t]);
+        t += 1;
+    }
+}
+
 // Whether the cells may grow, and the row has 8 entries or more and no column is left out between its first and its last.
 fn is_run(q: Modulus, cols: &[u32], cb: &[u8]) -> bool
     ensures { λ z. ⌜ (z ≡ true → Neighbours (q .p) (viewBefore cols cb)) ⌝ }
@@ -74,6 +87,10 @@ pub fn grow(q: Modulus, cols: &[u32], cb: &[u8], vals: &[u32], vb: &[u8], c: u32
     requires { ⌜ GrowReady (q .p) c (viewAt cols cb) (viewAt vals vb) (now work) ⌝ }
     ensures { λ _. ⌜ GrownBy (q .p) (growth (q .p)) (λ j. c * entry (viewBefore cols cb) (viewBefore vals vb) j) (before work) (after work) ⌝ }
 {
+    if cb.len() + vb.len() == 0 {
+        grow_list(q, cols, vals, c, work);
+        return;
+    }
     if is_run(q, cols, cb) {
         grow_run(q, cols, cb, vals, vb, c, work);
         return;
@@ -89,6 +106,10 @@ pub fn grow_list(q: Modulus, cols: &[u32], vals: &[u32], c: u32, work: &mut [u64
     let none: &[u8] = b"";
     if is_run(q, cols, none) {
         grow_run(q, cols, none, vals, none, c, work);
+        return;
+    }
+    if q.p <= 65535 {
+        add_list(q.p - c, cols, vals, work);
         return;
     }
     subtract_list(q, cols, vals, c, work);

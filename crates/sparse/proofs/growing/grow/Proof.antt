@@ -1,33 +1,71 @@
 -- `grow` meets its contract, by whichever loop. Assumes nothing.
+use mathlib.Core.Path.{_≡_}
 use native.Mathlib.Omega.{arith}
 use borrow.Author.Needs.{needs}
+use Rattle.sparse.specs.Words.{view}
+use Rattle.sparse.proofs.WordLaws.{view-stored}
 use Rattle.sparse.proofs.Subtraction.{grown-more}
 use Rattle.sparse.proofs.growing.grow.Statement.{statement}
 use Rattle.sparse.proofs.growing.grow.Tie as tie
 
-abbrev start : tie.After-is-run → tie.Start
+abbrev start : tie.Then1 → tie.Start
 start c = c .before .before .before .before .before .before
 
-is-run-requires : tie.Need-is-run-requires
-is-run-requires c κs = search needs
+-- where there are no bytes, the lists meant are the stored ones
+columns : (c : tie.Then1) → view (start c .args .cols .now) (start c .args .cb .now) ≡ start c .args .cols .now
+columns c = view-stored (start c .args .cols .now) (start c .args .cb .now) (omega (arith, c .if1 .taken))
 
-grow-run-requires : tie.Need-grow-run-requires
-grow-run-requires c κs = let d = c .before .before in (start d .pre, d .is-run .ensures (c .before .if1 .taken))
+numbers : (c : tie.Then1) → view (start c .args .vals .now) (start c .args .vb .now) ≡ start c .args .vals .now
+numbers c = view-stored (start c .args .vals .now) (start c .args .vb .now) (omega (arith, c .if1 .taken))
+
+abbrev start-2 : tie.After-is-run → tie.Start
+start-2 c = c .before .before .before .before .before .before .before
+
+add-if1 : tie.Need-add-if1
+add-if1 c = search needs
+
+grow-list-requires : tie.Need-grow-list-requires
+grow-list-requires c κs = rw (columns (c .before), numbers (c .before)) at (start (c .before) .pre)
 
 same-length : tie.Need-same-length
 same-length c = search needs
 
 returns : tie.Need-returns
-returns c = c .before .before .grow-run .ensures
+returns c = let t = c .before .before .before .before in rw (columns t, numbers t) (c .before .before .grow-list .ensures)
 
-subtract-requires : tie.Need-subtract-requires
-subtract-requires c κs = let s = start (c .before .before) in record { row = s .pre .row; residue = s .pre .residue }
+is-run-requires : tie.Need-is-run-requires
+is-run-requires c κs = search needs
+
+grow-run-requires : tie.Need-grow-run-requires
+grow-run-requires c κs = let d = c .before .before in (start-2 d .pre, d .is-run .ensures (c .before .if2 .taken))
 
 same-length-2 : tie.Need-same-length-2
 same-length-2 c = search needs
 
 returns-2 : tie.Need-returns-2
-returns-2 c = grown-more _ 0 _ _ _ _ (omega arith) (c .before .before .subtract .ensures)
+returns-2 c = c .before .before .grow-run .ensures
+
+subtract-requires : tie.Need-subtract-requires
+subtract-requires c κs = let s = start-2 (c .before .before) in record { row = s .pre .row; residue = s .pre .residue }
+
+same-length-3 : tie.Need-same-length-3
+same-length-3 c = search needs
+
+returns-3 : tie.Need-returns-3
+returns-3 c = grown-more _ 0 _ _ _ _ (omega arith) (c .before .before .subtract .ensures)
 
 pub grow-spec : {M : Type 1} → statement M
-grow-spec = tie.close (tie.spec is-run-requires grow-run-requires same-length returns subtract-requires same-length-2 returns-2)
+grow-spec =
+    tie.close
+    (tie.spec
+    add-if1
+    grow-list-requires
+    same-length
+    returns
+    is-run-requires
+    grow-run-requires
+    same-length-2
+    returns-2
+    subtract-requires
+    same-length-3
+    returns-3)
