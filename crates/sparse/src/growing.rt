@@ -1,8 +1,10 @@
-// Multiples of stored rows taken away from a working row whose cells may grow. Where p is below 2 ^ 16, a row in stored lists
-// or one whose columns are neighbours is added p - c times, with no cell tested; any other row is taken away as in `kernel`.
+// Multiples of stored rows taken away from a working row whose cells may grow. Where p is below 2 ^ 16, a row is added p - c
+// times, with no cell tested: as one run where its columns are neighbours, else entry by entry where all its numbers stand in
+// lists or all in bytes. Any other row is taken away as in `kernel`.
 ghost use mathlib.Core.Path.{_≡_};
 ghost use mathlib.Core.Bool.{true};
 ghost use Prim.Native.Nat.{_*_};
+ghost use Rattle.sparse.specs.Words.{words};
 ghost use Rattle.sparse.specs.Row.{entry};
 ghost use Rattle.sparse.specs.Matrix.{matrix};
 ghost use Rattle.sparse.specs.WorkingRow.{GrownBy, growth, GrowReady, GrowMatrixReady};
@@ -15,6 +17,7 @@ use crate::words::bytes_part;
 use crate::words::count;
 use crate::words::list_part;
 use crate::words::word;
+use crate::words::word_at;
 use lists::index;
 use lists::part;
 use residue::Modulus;
@@ -60,6 +63,21 @@ fn add_list(d: u32, cols: &[u32], vals: &[u32], work: &mut [u64])
     }
 }
 
+// The same where the row is given by the numbers that bytes hold.
+fn add_bytes(d: u32, cb: &[u8], vb: &[u8], work: &mut [u64])
+    requires { ⌜ AddReady d (words (now cb)) (words (now vb)) (now work) ⌝ }
+    ensures { λ _. ⌜ RowAdded d (words (before cb)) (words (before vb)) (before work) (after work) ⌝ }
+{
+    let n = cb.len() / 4;
+    let mut t = 0;
+    while t < n {
+        let j = index(word_at(cb, t));
+        let v = word_at(vb, t);
+        work[j] = work[j] + product(d, v);
+        t += 1;
+    }
+}
+
 // Whether the cells may grow, and the row has 8 entries or more and no column is left out between its first and its last.
 fn is_run(q: Modulus, cols: &[u32], cb: &[u8]) -> bool
     ensures { λ z. ⌜ (z ≡ true → Neighbours (q .p) (viewBefore cols cb)) ⌝ }
@@ -93,6 +111,10 @@ pub fn grow(q: Modulus, cols: &[u32], cb: &[u8], vals: &[u32], vb: &[u8], c: u32
     }
     if is_run(q, cols, cb) {
         grow_run(q, cols, cb, vals, vb, c, work);
+        return;
+    }
+    if cols.len() + vals.len() == 0 && q.p <= 65535 {
+        add_bytes(q.p - c, cb, vb, work);
         return;
     }
     subtract(q, cols, cb, vals, vb, c, work);

@@ -1,10 +1,14 @@
 -- `grow` meets its contract, by whichever loop. Assumes nothing.
+use Prim.Native.Nat.{_<_}
 use mathlib.Core.Path.{_≡_}
 use native.Mathlib.Omega.{arith}
 use borrow.Author.Needs.{needs}
-use Rattle.sparse.specs.Words.{view}
-use Rattle.sparse.proofs.WordLaws.{view-stored}
+use borrow.Author.Tests.{leb-true}
+use Rattle.sparse.specs.Words.{words, view}
+use Rattle.sparse.specs.WorkingRow.{GrowReady}
+use Rattle.sparse.proofs.WordLaws.{view-stored, view-bytes}
 use Rattle.sparse.proofs.Subtraction.{grown-more}
+use Rattle.sparse.proofs.AddLaws.{add-ready, added-grown}
 use Rattle.sparse.proofs.growing.grow.Statement.{statement}
 use Rattle.sparse.proofs.growing.grow.Tie as tie
 
@@ -20,6 +24,22 @@ numbers c = view-stored (start c .args .vals .now) (start c .args .vb .now) (ome
 
 abbrev start-2 : tie.After-is-run → tie.Start
 start-2 c = c .before .before .before .before .before .before .before
+
+abbrev start-3 : tie.Then4 → tie.Start
+start-3 c = start-2 (c .before .before .before .before)
+
+-- and where there are only bytes, those that they hold
+columns-2 : (c : tie.Then4) → view (start-3 c .args .cols .now) (start-3 c .args .cb .now) ≡ words (start-3 c .args .cb .now)
+columns-2 c = view-bytes (start-3 c .args .cols .now) (start-3 c .args .cb .now) (omega (arith, c .before .before .if3 .taken))
+
+numbers-2 : (c : tie.Then4) → view (start-3 c .args .vals .now) (start-3 c .args .vb .now) ≡ words (start-3 c .args .vb .now)
+numbers-2 c = view-bytes (start-3 c .args .vals .now) (start-3 c .args .vb .now) (omega (arith, c .before .before .if3 .taken))
+
+ready : (c : tie.Then4) → GrowReady (start-3 c .args .q .p) (start-3 c .args .c) (words (start-3 c .args .cb .now)) (words (start-3 c .args .vb .now)) (start-3 c .args .work .now)
+ready c = rw (columns-2 c, numbers-2 c) at (start-3 c .pre)
+
+small : (c : tie.Then4) → start-3 c .args .q .p < 65536
+small c = omega (arith, leb-true (start-3 c .args .q .p) 65535 (c .if4 .taken))
 
 add-if1 : tie.Need-add-if1
 add-if1 c = search needs
@@ -45,14 +65,32 @@ same-length-2 c = search needs
 returns-2 : tie.Need-returns-2
 returns-2 c = c .before .before .grow-run .ensures
 
-subtract-requires : tie.Need-subtract-requires
-subtract-requires c κs = let s = start-2 (c .before .before) in record { row = s .pre .row; residue = s .pre .residue }
+add-if3 : tie.Need-add-if3
+add-if3 c = search needs
+
+sub-add-bytes : tie.Need-sub-add-bytes
+sub-add-bytes c = omega (arith, ready (c .before) .residue)
+
+add-bytes-requires : tie.Need-add-bytes-requires
+add-bytes-requires c κs = let t = c .before .before in
+    add-ready _ _ _ _ _ _ (ready t) (small t) (omega (arith, ready t .residue))
 
 same-length-3 : tie.Need-same-length-3
 same-length-3 c = search needs
 
 returns-3 : tie.Need-returns-3
-returns-3 c = grown-more _ 0 _ _ _ _ (omega arith) (c .before .before .subtract .ensures)
+returns-3 c = let t = c .before .before .before .before .before in
+    rw (columns-2 t, numbers-2 t)
+    (added-grown _ _ _ _ _ _ (ready t) (small t) (omega (arith, ready t .residue)) _ (c .before .before .add-bytes .ensures))
+
+subtract-requires : tie.Need-subtract-requires
+subtract-requires c κs = let s = start-2 (c .before .before .before) in record { row = s .pre .row; residue = s .pre .residue }
+
+same-length-4 : tie.Need-same-length-4
+same-length-4 c = search needs
+
+returns-4 : tie.Need-returns-4
+returns-4 c = grown-more _ 0 _ _ _ _ (omega arith) (c .before .before .subtract .ensures)
 
 pub grow-spec : {M : Type 1} → statement M
 grow-spec =
@@ -66,6 +104,11 @@ grow-spec =
     grow-run-requires
     same-length-2
     returns-2
-    subtract-requires
+    add-if3
+    sub-add-bytes
+    add-bytes-requires
     same-length-3
-    returns-3)
+    returns-3
+    subtract-requires
+    same-length-4
+    returns-4)
