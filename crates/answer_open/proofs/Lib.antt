@@ -4,5 +4,6 @@ pub mod PivotLaws
 pub mod UnitLaws
 pub mod PivotLoop
 pub mod WitnessLaws
+pub mod SettleSteps
 pub mod PivotSteps
 pub mod AllColumns

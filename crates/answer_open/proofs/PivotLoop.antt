@@ -146,9 +146,3 @@ module _ (p r : ℕ) (U : Compressed) (C : List ℕ) (m : ℕ) (f : EchelonPasse
 
       there : (c : ℕ) → (i : ℕ) × (i < m) × (getD C i 0 ≡ c) → getD o c 0 ≡ cell c
       there c (i, h, q) = rw (← q) (known i h (decLt i r))
-
--- the loop that is left: the working row is all zero between two rows
-pub record Settling (p r : ℕ) (U : Compressed) (C : List ℕ) (m : ℕ) (o w : List ℕ) (k : ℕ) : Type 0 where
-  pub settled : Settled p r U C m o k
-  pub long : length w ≡ m
-  pub clear : w ≡ zeros (length w)

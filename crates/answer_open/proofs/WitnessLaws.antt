@@ -2,7 +2,7 @@
 use mathlib.Core.Path.{_≡_, refl, sym, ap, subst, _∙_}
 use mathlib.Core.Logic.{_≢_}
 use mathlib.Core.List.{List}
-use Prim.Native.Nat.{ℕ, _+_, _≤_, _<_}
+use Prim.Native.Nat.{ℕ, _+_, _^_, _≤_, _<_}
 use native.Mathlib.Decide.{ℕ-discrete}
 use native.Mathlib.Omega.{arith}
 use lib.ListN.{length, getD, set, length-set}
@@ -24,15 +24,17 @@ use Rattle.answer_open.proofs.PivotLaws.{order, shape}
 
 -- ---- the choice of values: the columns from place r to place i - 1 of C have theirs
 
-pub record Choosing (p r : ℕ) (C z : List ℕ) (i : ℕ) : Type 0 where
+pub record Choosing (p r : ℕ) (C z : List ℕ) (x i : ℕ) : Type 0 where
+  pub number : x < 2 ^ 31
   pub past : r ≤ i
   pub long : length z ≡ length C
   pub chosen : Chosen p r C z
 
 module _ (p r : ℕ) (C z₀ : List ℕ) (d : ChooseReady p r C z₀) where
-  pub choosing-starts : (z : List ℕ) → z ≡ zeros (length z₀) → Choosing p r C z r
-  choosing-starts z e =
+  pub choosing-starts : (z : List ℕ) (x : ℕ) → x < 2 ^ 31 → z ≡ zeros (length z₀) → Choosing p r C z x r
+  choosing-starts z x b e =
       record {
+        number = b;
         past = omega arith;
         long = ap length e ∙ length-zeros (length z₀) ∙ sym (d .long);
         chosen = record { residues = λ t. omega (arith, zero-at t, d .two); pivots = λ l h. zero-at (getD C l 0) };
@@ -44,13 +46,14 @@ module _ (p r : ℕ) (C z₀ : List ℕ) (d : ChooseReady p r C z₀) where
   columns : Permutation (length C) (vector C)
   columns = permutation-means (length C) C refl (d .columns)
 
-  module _ (z : List ℕ) (i c : ℕ) (h : i < length z) (ec : c ≡ getD C i 0) (s : Choosing p r C z i) where
+  module _ (z : List ℕ) (x i c : ℕ) (h : i < length z) (ec : c ≡ getD C i 0) (s : Choosing p r C z x i) where
     pub choosing-place : c < length z
     choosing-place = omega (arith, ec, s .long, columns .below i (omega (arith, s .long)))
 
-    pub choosing-turn : (v : ℕ) → v < p → Choosing p r C (set z c v) (i + 1)
-    choosing-turn v small =
+    pub choosing-turn : (v y : ℕ) → v < p → y < 2 ^ 31 → Choosing p r C (set z c v) y (i + 1)
+    choosing-turn v y small b =
         record {
+          number = b;
           past = omega (arith, s .past);
           long = length-set z c v ∙ s .long;
           chosen = record { residues = λ t. residue t (ℕ-discrete t c); pivots = λ l g. getD-set-other z c (getD C l 0) v 0 (λ q. away l g (q ∙ ec)) ∙ s .chosen .pivots l g };

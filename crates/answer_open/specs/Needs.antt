@@ -5,13 +5,14 @@
 --   Known ..                   o has the verdict of each column of row k but its pivot column
 --   PivotCellReady ..          what the unit question needs, the list o has the open columns of the rows after k, and k's column is closed where o is not 0 there
 --   CountReady p k U o         U is well formed, with a column for each cell of o, and k is one of its rows
---   CountingReady p r U C o    what the verdicts by counts need: o is all zero
+--   CountingReady p r k U C o  what the verdicts by counts of the first k rows need, where the others are settled
 --   ChooseReady p r C z        what the choice of values needs: C is an order of the columns
 --   MarkOneReady c z o         c is a place in both lists
 --   MarkReady left C z o       the first `left` columns of C are places in both lists
 --   RoundReady ..              what a witness needs, where z has a cell for each column
 --   WitnessReady ..            what witnesses need: no more columns than a plan may have
 --   LeftReady ..               what the unit questions of the first k rows need, where the others are settled
+--   NextReady ..               the same, where k is not 0
 --   PivotsReady ..             what all unit questions need, where the working row has a cell for each column
 --   ColumnsReady ..            the same, where it may have more
 use Prim.Native.Nat.{ℕ, _+_, _*_, _≤_, _<_}
@@ -63,9 +64,9 @@ pub record CountReady (p k : ℕ) (U : Compressed) (o : List ℕ) : Type 0 where
   pub formed : form p (length o) U ≡ true
   pub inside : k + 1 < length (U .starts)
 
-pub record CountingReady (p r : ℕ) (U : Compressed) (C o : List ℕ) : Type 0 where
+pub record CountingReady (p r k : ℕ) (U : Compressed) (C o : List ℕ) : Type 0 where
   pub factor : EchelonPassed p r U C (length o)
-  pub clear : o ≡ zeros (length o)
+  pub settled : Settled p r U C (length o) o k
 
 pub record ChooseReady (p r : ℕ) (C z : List ℕ) : Type 0 where
   pub two : 2 ≤ p
@@ -96,6 +97,10 @@ pub record LeftReady (p r k : ℕ) (U : Compressed) (C o w : List ℕ) : Type 0 
   pub settled : Settled p r U C (length o) o k
   pub long : length o ≡ length w
   pub clear : w ≡ zeros (length w)
+
+pub record NextReady (p r k : ℕ) (U : Compressed) (C o w : List ℕ) : Type 0 where
+  pub some : 0 < k
+  pub ready : LeftReady p r k U C o w
 
 pub record PivotsReady (p r : ℕ) (U : Compressed) (C o w : List ℕ) : Type 0 where
   pub factor : EchelonPassed p r U C (length o)

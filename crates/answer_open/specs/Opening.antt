@@ -2,6 +2,8 @@
 --   openCell p m C U r j        1 where the unit question at column j is open, 0 where it is closed
 --   ReducesOn p C U k r w₀ w    w stands for y reduced by r rows of U, for each y that w₀ stands for when reduced by k rows
 --   Settled p r U C m o k       o has the verdict of each column but the pivot columns of the first k rows; of those the ones that are not 0 in o are closed
+--   SettledTo .. from o k       o is settled at k, and k is at most `from`
+--   SettledOn .. from o w k     the same, and the working row has a cell for each column and is all zero
 --   PivotCell v r w             the result is v, and the working row is all zero
 --   ColumnsListed cells o w     the list o has those cells, and the working row is all zero
 --   AllColumns p r C U o w      the list o is `openColumns` of every set with this column order and this U, and the working row is all zero
@@ -32,6 +34,16 @@ pub record Settled (p r : ℕ) (U : Compressed) (C : List ℕ) (m : ℕ) (o : Li
   pub early : (i : ℕ) → i < k → (getD o (getD C i 0) 0 ≡ 0 → ⊥) → openCell p m (vector C) (matrix U) r (getD C i 0) ≡ 0
   pub done : (i : ℕ) → k ≤ i → i < r → getD o (getD C i 0) 0 ≡ openCell p m (vector C) (matrix U) r (getD C i 0)
   pub rest : (i : ℕ) → r ≤ i → i < m → getD o (getD C i 0) 0 ≡ 0
+
+pub record SettledTo (p r : ℕ) (U : Compressed) (C : List ℕ) (m from : ℕ) (o : List ℕ) (k : ℕ) : Type 0 where
+  pub settled : Settled p r U C m o k
+  pub most : k ≤ from
+
+pub record SettledOn (p r : ℕ) (U : Compressed) (C : List ℕ) (m from : ℕ) (o w : List ℕ) (k : ℕ) : Type 0 where
+  pub settled : Settled p r U C m o k
+  pub most : k ≤ from
+  pub long : length w ≡ m
+  pub clear : w ≡ zeros (length w)
 
 pub record PivotCell (v r : ℕ) (w : List ℕ) : Type 0 where
   pub value : r ≡ v

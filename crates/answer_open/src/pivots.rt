@@ -2,8 +2,8 @@
 ghost use lib.ListN.{length, getD};
 ghost use Rattle.lists.specs.Tabulate.{tabulate};
 ghost use Rattle.sparse.specs.Views.{before, after, viewAt, viewBefore, viewedAt, viewedBefore, vectorBefore, matrixBefore};
-ghost use Rattle.answer_open.specs.Opening.{openCell, Settled, PivotCell, ColumnsListed, AllColumns};
-ghost use Rattle.answer_open.specs.Needs.{PivotCellReady, CountingReady, LeftReady, PivotsReady, ColumnsReady};
+ghost use Rattle.answer_open.specs.Opening.{openCell, SettledTo, SettledOn, PivotCell, ColumnsListed, AllColumns};
+ghost use Rattle.answer_open.specs.Needs.{PivotCellReady, CountingReady, NextReady, LeftReady, PivotsReady, ColumnsReady};
 use crate::count::row_closed;
 use crate::unit::unit_open;
 use crate::witness::mark_closed;
@@ -11,6 +11,9 @@ use lists::clear;
 use lists::index;
 use residue::Modulus;
 use sparse::words::word;
+
+// How many reductions are made before the first witness, which takes as long as some of them.
+const FEW_REDUCTIONS: usize = 16;
 
 // 1 where row k's pivot column is open, else 0. It is closed where it is marked, open where all other columns of the row are, closed
 // where one is not; only where more are not open its unit question is reduced.
@@ -46,7 +49,7 @@ fn pivot_open(
     unit_open(q, us, usb, uc, ucb, uv, uvb, co, cob, k, r, work)
 }
 
-// The verdicts of the pivot columns from the last row up, while each row has at most one closed column beside its own; gives how many rows
+// The verdicts of the pivot columns from row from - 1 up, while each row has at most one closed column beside its own; gives how many rows
 // are left.
 fn settle_by_counts(
     p: u32,
@@ -59,12 +62,13 @@ fn settle_by_counts(
     co: &[u32],
     cob: &[u8],
     r: usize,
+    from: usize,
     marks: &mut [u32],
 ) -> usize
-    requires { ⌜ CountingReady p r (viewedAt us usb uc ucb uv uvb) (viewAt co cob) (now marks) ⌝ }
-    ensures { λ k. ⌜ Settled p r (viewedBefore us usb uc ucb uv uvb) (viewBefore co cob) (length (before marks)) (after marks) k ⌝ }
+    requires { ⌜ CountingReady p r from (viewedAt us usb uc ucb uv uvb) (viewAt co cob) (now marks) ⌝ }
+    ensures { λ k. ⌜ SettledTo p r (viewedBefore us usb uc ucb uv uvb) (viewBefore co cob) (length (before marks)) from (after marks) k ⌝ }
 {
-    let mut k = r;
+    let mut k = from;
     while 0 < k {
         let d = word(co, cob, k - 1);
         let closed = row_closed(us, usb, uc, ucb, uv, uvb, marks, p, k - 1, d);
@@ -75,6 +79,62 @@ fn settle_by_counts(
         k -= 1;
     }
     k
+}
+
+// The verdict of the pivot column of row left - 1 by reduction, and of those before it by counts; gives how many rows are left.
+fn settle_next(
+    q: Modulus,
+    us: &[u32],
+    usb: &[u8],
+    uc: &[u32],
+    ucb: &[u8],
+    uv: &[u32],
+    uvb: &[u8],
+    co: &[u32],
+    cob: &[u8],
+    r: usize,
+    left: usize,
+    marks: &mut [u32],
+    work: &mut [u64],
+) -> usize
+    requires { ⌜ NextReady (q .p) r left (viewedAt us usb uc ucb uv uvb) (viewAt co cob) (now marks) (now work) ⌝ }
+    ensures { λ k. ⌜ SettledOn (q .p) r (viewedBefore us usb uc ucb uv uvb) (viewBefore co cob) (length (before marks)) left (after marks) (after work) k ⌝ }
+{
+    let k = left - 1;
+    let j = index(word(co, cob, k));
+    marks[j] = unit_open(q, us, usb, uc, ucb, uv, uvb, co, cob, k, r, work);
+    settle_by_counts(q.p, us, usb, uc, ucb, uv, uvb, co, cob, r, k, marks)
+}
+
+// The same while rows are left, by few reductions.
+fn settle_few(
+    q: Modulus,
+    us: &[u32],
+    usb: &[u8],
+    uc: &[u32],
+    ucb: &[u8],
+    uv: &[u32],
+    uvb: &[u8],
+    co: &[u32],
+    cob: &[u8],
+    r: usize,
+    from: usize,
+    marks: &mut [u32],
+    work: &mut [u64],
+) -> usize
+    requires { ⌜ LeftReady (q .p) r from (viewedAt us usb uc ucb uv uvb) (viewAt co cob) (now marks) (now work) ⌝ }
+    ensures { λ k. ⌜ SettledOn (q .p) r (viewedBefore us usb uc ucb uv uvb) (viewBefore co cob) (length (before marks)) from (after marks) (after work) k ⌝ }
+{
+    let mut left = from;
+    let mut tries = FEW_REDUCTIONS;
+    while 0 < tries {
+        if left == 0 {
+            return left;
+        }
+        left = settle_next(q, us, usb, uc, ucb, uv, uvb, co, cob, r, left, marks, work);
+        tries -= 1;
+    }
+    left
 }
 
 // The verdicts of the pivot columns of the first `left` rows, where the others are settled.
@@ -123,7 +183,22 @@ fn open_pivots(
     ensures { λ _. ⌜ ColumnsListed (tabulate (length (before marks)) (openCell (q .p) (length (before marks)) (vectorBefore co cob) (matrixBefore us usb uc ucb uv uvb) r)) (after marks) (after work) ⌝ }
 {
     clear(marks);
-    let left = settle_by_counts(q.p, us, usb, uc, ucb, uv, uvb, co, cob, r, marks);
+    let counted = settle_by_counts(q.p, us, usb, uc, ucb, uv, uvb, co, cob, r, r, marks);
+    let left = settle_few(
+        q,
+        us,
+        usb,
+        uc,
+        ucb,
+        uv,
+        uvb,
+        co,
+        cob,
+        r,
+        counted,
+        marks,
+        work,
+    );
     mark_closed(q, us, usb, uc, ucb, uv, uvb, co, cob, r, left, marks);
     settle_left(q, us, usb, uc, ucb, uv, uvb, co, cob, r, left, marks, work);
 }

@@ -11,6 +11,9 @@ use residue::Modulus;
 use row_space::upper::solve_upper;
 use sparse::words::word;
 
+// At so many columns that no witness showed closed, one more takes longer than their reductions.
+const FEW_MISSING: usize = 8;
+
 // Marks the column c where its value is not 0; gives 1 where it was not marked before, else 0.
 fn mark_one(c: usize, values: &[u32], marks: &mut [u32]) -> usize
     requires { ⌜ MarkOneReady c (now values) (now marks) ⌝ }
@@ -80,11 +83,19 @@ fn rounds_for(p: u32) -> u32 {
     1
 }
 
-// How many more are worth it: half of them, where the last one showed nothing new.
-fn rounds_after(rounds: u32, found: usize) -> u32
+// How many columns are still not shown closed, where `found` more are.
+fn missing_after(missing: usize, found: usize) -> usize {
+    if found < missing { missing - found } else { 0 }
+}
+
+// How many more are worth it: none where few columns are missing, and half of them where the last one showed nothing new.
+fn rounds_after(rounds: u32, found: usize, missing: usize) -> u32
     requires { ⌜ 0 < rounds ⌝ }
     ensures { λ r. ⌜ r < rounds ⌝ }
 {
+    if missing <= FEW_MISSING {
+        return 0;
+    }
     if found == 0 {
         return rounds / 2;
     }
@@ -110,6 +121,7 @@ fn mark_rounds(
     requires { ⌜ RoundReady (q .p) r left (viewedAt us usb uc ucb uv uvb) (viewAt co cob) (now values) (now marks) ⌝ }
     ensures { λ _. ⌜ ChangedOnly (ClosedPivot (q .p) (length (before marks)) (vectorBefore co cob) (matrixBefore us usb uc ucb uv uvb) r left) (before marks) (after marks) ⌝ }
 {
+    let mut missing = left;
     let mut rounds = rounds_for(q.p);
     while 0 < rounds {
         let found = mark_round(
@@ -128,7 +140,8 @@ fn mark_rounds(
             values,
             marks,
         );
-        rounds = rounds_after(rounds, found);
+        missing = missing_after(missing, found);
+        rounds = rounds_after(rounds, found, missing);
     }
 }
 

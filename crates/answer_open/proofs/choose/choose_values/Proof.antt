@@ -1,4 +1,4 @@
--- `choose_values` meets its contract; the loop's invariant is `Choosing`: the pivot columns have 0. Assumes nothing.
+-- `choose_values` meets its contract; the loop's invariant is `Choosing`: the pivot columns have 0, and the number is below 2 ^ 31. Assumes nothing.
 use Prim.Native.Nat.{_-_}
 use mathlib.Core.Path.{_≡_, _∙_}
 use native.Mathlib.Omega.{arith}
@@ -10,7 +10,7 @@ use Rattle.answer_open.proofs.choose.choose_values.Statement.{statement
 use Rattle.answer_open.proofs.choose.choose_values.Tie as tie
 
 abbrev Inv-loop : tie.InvT-loop
-Inv-loop p co cob r seed values₀ x₀ i₀ values x i = Choosing p r (view co cob) values i
+Inv-loop p co cob r seed values₀ x₀ i₀ values x i = Choosing p r (view co cob) values x i
 
 abbrev μ-loop : tie.MeasureT-loop
 μ-loop p co cob r seed values₀ x₀ i₀ values x i = length values - i
@@ -31,7 +31,7 @@ clear-requires : tie.Need-clear-requires Inv-loop μ-loop
 clear-requires c κs = search needs
 
 loop-holds : tie.Need-loop-holds Inv-loop μ-loop
-loop-holds c = choosing-starts _ _ _ _ (c .before .before .before .before .before .before .before .pre) _ (c .before .before .clear .ensures)
+loop-holds c = choosing-starts _ _ _ _ (c .before .before .before .before .before .before .before .pre) _ _ (omega arith) (c .before .before .clear .ensures)
 
 word-requires : tie.Need-word-requires Inv-loop μ-loop
 word-requires c κs = omega (arith, c .before .loop .inv .long)
@@ -40,14 +40,14 @@ index-requires : tie.Need-index-requires Inv-loop μ-loop
 index-requires c κs = search needs
 
 residue-from-requires : tie.Need-residue-from-requires Inv-loop μ-loop
-residue-from-requires c κs = start (c .before .before .before) .pre .two
+residue-from-requires c κs = let turn = c .before .before .before in (start turn .pre .two, turn .loop .inv .number)
 
 mul-values : tie.Need-mul-values Inv-loop μ-loop
 mul-values c = search needs
 
 slice-write-values : tie.Need-slice-write-values Inv-loop μ-loop
 slice-write-values c = let i = c .before in let turn = i .before .before .before in
-    choosing-place (start turn .args .p) _ _ _ (start turn .pre) (turn .loop .values) (turn .loop .i) _ (omega arith) (place i) (turn .loop .inv)
+    choosing-place (start turn .args .p) _ _ _ (start turn .pre) (turn .loop .values) _ (turn .loop .i) _ (omega arith) (place i) (turn .loop .inv)
 
 next-number-requires : tie.Need-next-number-requires Inv-loop μ-loop
 next-number-requires c κs = search needs
@@ -60,7 +60,7 @@ loop-less c = let turn = c .before .before .before .before .before in omega (ari
 
 loop-again : tie.Need-loop-again Inv-loop μ-loop
 loop-again c = let v = c .before in let i = v .before in let turn = i .before .before .before in
-    choosing-turn (start turn .args .p) _ _ _ (start turn .pre) (turn .loop .values) (turn .loop .i) _ (omega arith) (place i) (turn .loop .inv) (v .residue-from .result) (v .residue-from .ensures)
+    choosing-turn (start turn .args .p) _ _ _ (start turn .pre) (turn .loop .values) _ (turn .loop .i) _ (omega arith) (place i) (turn .loop .inv) (v .residue-from .result) _ (v .residue-from .ensures) (c .next-number .ensures)
 
 same-length : tie.Need-same-length Inv-loop μ-loop
 same-length c = long (c .before)

@@ -1,19 +1,19 @@
--- `settle_by_counts` meets its contract; the loop's invariant is `Settled`: the pivot columns of the rows from k on have their verdicts. Assumes nothing.
+-- `settle_by_counts` meets its contract; the loop's invariant is `SettledTo`: the pivot columns of the rows from k on have their verdicts. Assumes nothing.
 use native.Mathlib.Omega.{arith}
 use lib.ListN.{length}
 use borrow.Author.Needs.{needs}
 use Rattle.sparse.specs.Words.{view}
 use Rattle.sparse.specs.Matrix.{viewed}
-use Rattle.answer_open.specs.Opening.{Settled}
-use Rattle.answer_open.proofs.PivotLoop.{settled-starts, settled-place, settled-count, settled-counted}
+use Rattle.answer_open.specs.Opening.{SettledTo}
+use Rattle.answer_open.proofs.PivotLoop.{settled-place, settled-count, settled-counted}
 use Rattle.answer_open.proofs.pivots.settle_by_counts.Statement.{statement}
 use Rattle.answer_open.proofs.pivots.settle_by_counts.Tie as tie
 
 abbrev Inv-loop : tie.InvT-loop
-Inv-loop p us usb uc ucb uv uvb co cob r marks₀ k₀ marks k = Settled p r (viewed us usb uc ucb uv uvb) (view co cob) (length marks₀) marks k
+Inv-loop p us usb uc ucb uv uvb co cob r from marks₀ k₀ marks k = SettledTo p r (viewed us usb uc ucb uv uvb) (view co cob) (length marks₀) from marks k
 
 abbrev μ-loop : tie.MeasureT-loop
-μ-loop p us usb uc ucb uv uvb co cob r marks₀ k₀ marks k = k
+μ-loop p us usb uc ucb uv uvb co cob r from marks₀ k₀ marks k = k
 
 abbrev start : tie.At-loop Inv-loop μ-loop → tie.Start Inv-loop μ-loop
 start c = c .before .before .before .before .before .before .before .before .before .before
@@ -26,23 +26,23 @@ abbrev word-at : tie.After-index Inv-loop μ-loop → tie.After-word Inv-loop μ
 word-at c = c .before .before .before .before
 
 loop-holds : tie.Need-loop-holds Inv-loop μ-loop
-loop-holds c = settled-starts _ _ _ _ _ (c .before .before .before .before .before .before .before .before .before .pre .clear)
+loop-holds c = record { settled = c .before .before .before .before .before .before .before .before .before .pre .settled; most = omega arith }
 
 sub-word : tie.Need-sub-word Inv-loop μ-loop
 sub-word c = omega arith
 
 word-requires : tie.Need-word-requires Inv-loop μ-loop
-word-requires c κs = let f = start (c .before) .pre .factor in omega (arith, f .rank, f .long, c .before .loop .inv .inside)
+word-requires c κs = let f = start (c .before) .pre .factor in omega (arith, f .rank, f .long, c .before .loop .inv .settled .inside)
 
 sub-row-closed : tie.Need-sub-row-closed Inv-loop μ-loop
 sub-row-closed c = omega arith
 
 row-closed-requires : tie.Need-row-closed-requires Inv-loop μ-loop
 row-closed-requires c κs = let turn = c .before .before .before in
-    settled-count _ _ _ _ _ (start turn .pre .factor) _ (turn .loop .k) (omega arith) (turn .loop .inv)
+    settled-count _ _ _ _ _ (start turn .pre .factor) _ (turn .loop .k) (omega arith) (turn .loop .inv .settled)
 
 same-length : tie.Need-same-length Inv-loop μ-loop
-same-length c = c .before .before .before .before .before .loop .inv .long
+same-length c = c .before .before .before .before .before .loop .inv .settled .long
 
 returns : tie.Need-returns Inv-loop μ-loop
 returns c = c .before .before .before .before .before .loop .inv
@@ -58,7 +58,7 @@ mul-marks c = search needs
 
 slice-write-marks : tie.Need-slice-write-marks Inv-loop μ-loop
 slice-write-marks c = let l = loop-at c in
-    settled-place _ _ _ _ _ (start l .pre .factor) (l .loop .marks) (l .loop .k) (omega arith) (l .loop .inv) _ (omega (arith, c .index .ensures, word-at c .word .ensures))
+    settled-place _ _ _ _ _ (start l .pre .factor) (l .loop .marks) (l .loop .k) (omega arith) (l .loop .inv .settled) _ (omega (arith, c .index .ensures, word-at c .word .ensures))
 
 sub-k : tie.Need-sub-k Inv-loop μ-loop
 sub-k c = omega arith
@@ -68,10 +68,13 @@ loop-less c = omega arith
 
 loop-again : tie.Need-loop-again Inv-loop μ-loop
 loop-again c = let l = loop-at c in
-    settled-counted _ _ _ _ _ (start l .pre .factor) (l .loop .marks) (l .loop .k) (omega arith) (l .loop .inv) _ _ _ (word-at c .word .ensures) (c .index .ensures) (c .before .before .row-closed .ensures) (omega arith)
+    record {
+      settled = settled-counted _ _ _ _ _ (start l .pre .factor) (l .loop .marks) (l .loop .k) (omega arith) (l .loop .inv .settled) _ _ _ (word-at c .word .ensures) (c .index .ensures) (c .before .before .row-closed .ensures) (omega arith);
+      most = omega (arith, l .loop .inv .most);
+    }
 
 same-length-2 : tie.Need-same-length-2 Inv-loop μ-loop
-same-length-2 c = c .before .loop .inv .long
+same-length-2 c = c .before .loop .inv .settled .long
 
 returns-2 : tie.Need-returns-2 Inv-loop μ-loop
 returns-2 c = c .before .loop .inv

@@ -1,17 +1,19 @@
--- `settle_left` meets its contract; the loop's invariant is `Settling`: the pivot columns of the rows from k on have their verdicts. Assumes nothing.
+-- `settle_left` meets its contract; the loop's invariant is `SettledOn`: the pivot columns of the rows from k on have their verdicts. Assumes nothing.
 use Prim.Native.Nat.{_-_, _<_}
-use mathlib.Core.Path.{_≡_, sym, _∙_}
+use mathlib.Core.Path.{_≡_, _∙_}
 use native.Mathlib.Omega.{arith}
 use lib.ListN.{length, getD}
 use borrow.Author.Needs.{needs}
 use Rattle.sparse.specs.Words.{view}
 use Rattle.sparse.specs.Matrix.{viewed}
-use Rattle.answer_open.proofs.PivotLoop.{Settling, settled-place, settled-ready, settled-next, settled-ends}
+use Rattle.answer_open.specs.Opening.{SettledOn}
+use Rattle.answer_open.proofs.SettleSteps.{settling-starts}
+use Rattle.answer_open.proofs.PivotLoop.{settled-place, settled-ready, settled-next, settled-ends}
 use Rattle.answer_open.proofs.pivots.settle_left.Statement.{statement}
 use Rattle.answer_open.proofs.pivots.settle_left.Tie as tie
 
 abbrev Inv-loop : tie.InvT-loop
-Inv-loop q us usb uc ucb uv uvb co cob r left marks₀ work₀ k₀ marks work k = Settling (q .p) r (viewed us usb uc ucb uv uvb) (view co cob) (length marks₀) marks work k
+Inv-loop q us usb uc ucb uv uvb co cob r left marks₀ work₀ k₀ marks work k = SettledOn (q .p) r (viewed us usb uc ucb uv uvb) (view co cob) (length marks₀) left marks work k
 
 abbrev μ-loop : tie.MeasureT-loop
 μ-loop q us usb uc ucb uv uvb co cob r left marks₀ work₀ k₀ marks work k = k
@@ -30,7 +32,7 @@ column c =
     settled-place _ _ _ _ _ (start turn .pre .factor) (turn .loop .marks) (turn .loop .k) (omega arith) (turn .loop .inv .settled) _ (place c)
 
 loop-holds : tie.Need-loop-holds Inv-loop μ-loop
-loop-holds c = let d = c .before .before .before .before .before .before .before .before .before .before .pre in record { settled = d .settled; long = sym (d .long); clear = d .clear }
+loop-holds c = settling-starts _ _ _ _ _ _ _ (c .before .before .before .before .before .before .before .before .before .before .pre)
 
 sub-k : tie.Need-sub-k Inv-loop μ-loop
 sub-k c = omega arith
@@ -58,6 +60,7 @@ loop-again : tie.Need-loop-again Inv-loop μ-loop
 loop-again c = let i = c .before .before .before .before .before in let turn = i .before .before .before in let l = turn .loop in let t = c .before .before .pivot-open in
     record {
       settled = settled-next _ _ _ _ _ (start turn .pre .factor) (l .marks) (l .k) (omega arith) (l .inv .settled) (l .work) _ (i .index .result) (t .result) (place i) (l .inv .long) (t .ensures);
+      most = omega (arith, l .inv .most);
       long = t .kept .1 .1 .1 .1 .1 .1 .1 .1 .1 .1 .1 .1 .0 ∙ l .inv .long;
       clear = t .ensures .row;
     }
