@@ -1,3 +1,3 @@
 pub mod Marking
-pub mod Searching
+pub mod SearchSteps
 pub mod SettleSteps

@@ -1,14 +1,36 @@
 -- The loops that mark blocks, one turn at a time.
 use mathlib.Core.Path.{_≡_, refl, sym, ap, _∙_}
-use mathlib.Core.Bool.{Bool, true, false, true≢false}
+use mathlib.Core.Bool.{Bool, true, false, true≢false, cond}
 use mathlib.Core.List.{List}
 use Prim.Native.Nat.{ℕ, _+_, _-_, _≤_, _<_}
 use native.Mathlib.Decide.{ℕ-discrete}
 use native.Mathlib.Omega.{arith}
+use lib.Dec.{eqb}
 use lib.ListN.{length, getD, set, length-set, List·getD-eq-default}
+use borrow.Author.Tests.{eq-eqb, ne-eqb}
 use lib.Seq.{getD-set-same, getD-set-other}
-use Rattle.factor_touch.specs.Touched.{cellBlock, pivotBlock, ColumnsMarked, NoteReady, Noted}
+use Rattle.factor_touch.specs.Touched.{cellBlock, freeBlock, pivotBlock, ColumnsMarked, NoteReady, Noted}
 use Rattle.factor_touch.specs.Marking.{EachMarked}
+
+-- ---- the block of a column that is no pivot, and of one that is
+
+module _ (place : List ℕ) (j : ℕ) where
+  pub free-here : getD place j 0 ≡ 2048 → freeBlock place j ≡ cellBlock j
+  unfolding freeBlock
+  free-here e = ap (λ (t : Bool). cond t (cellBlock j) 128) (eq-eqb (getD place j 0) 2048 e)
+
+  pub free-shared : ¬ (getD place j 0 ≡ 2048) → freeBlock place j ≡ 128
+  unfolding freeBlock
+  free-shared e = ap (λ (t : Bool). cond t (cellBlock j) 128) (ne-eqb (getD place j 0) 2048 e)
+
+  pub free-inside : j < 2048 → freeBlock place j < 129
+  free-inside h = go (ℕ-discrete (getD place j 0) 2048)
+    where
+      go : Dec (getD place j 0 ≡ 2048) → freeBlock place j < 129
+      go (yes e) = omega (arith, free-here e)
+      go (no e) = omega (arith, free-shared e)
+
+-- ---- marks are set
 
 -- a mark is set, and none is taken away
 module _ (marks : List ℕ) (b : ℕ) (h : b < length marks) where
@@ -67,7 +89,7 @@ module _ (full : Bool) (cs place touched₀ pending₀ : List ℕ) (ready : Note
   pub noted-all : (touched pending : List ℕ) → EachMarked touched₀ touched → EachMarked pending₀ pending → Noted cs place touched₀ pending₀ touched pending true
   noted-all touched pending t q =
       record {
-        cells = all-columns-marked cellBlock cs touched₀ touched (ready .cells) t;
+        cells = all-columns-marked (freeBlock place) cs touched₀ touched (ready .cells) t;
         pivots = all-columns-marked (pivotBlock place) cs pending₀ pending (ready .pivots) q;
         all = λ e. (t .each, q .each);
       }
@@ -78,6 +100,6 @@ module _ (full : Bool) (cs place touched₀ pending₀ : List ℕ) (ready : Note
   pub note-anyway : NoteReady false cs place touched₀ pending₀
   note-anyway = record { cells = ready .cells; places = ready .places; pivots = ready .pivots; all = λ e. absurd (true≢false (sym e)) }
 
-pub noted-row : (cs place touched₀ pending₀ touched pending : List ℕ) → ColumnsMarked cellBlock cs touched₀ touched × ColumnsMarked (pivotBlock place) cs pending₀ pending
+pub noted-row : (cs place touched₀ pending₀ touched pending : List ℕ) → ColumnsMarked (freeBlock place) cs touched₀ touched × ColumnsMarked (pivotBlock place) cs pending₀ pending
     → Noted cs place touched₀ pending₀ touched pending false
 noted-row cs place touched₀ pending₀ touched pending m = record { cells = m .0; pivots = m .1; all = λ e. absurd (true≢false (sym e)) }

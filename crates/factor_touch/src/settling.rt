@@ -1,55 +1,17 @@
 // The working row at the end of a reduction, whose cells are 0 outside the marked blocks: these blocks are passed over.
 ghost use Prim.Native.Nat.{_<_, _^_};
-ghost use lib.ListN.{take};
-ghost use Rattle.sparse.specs.Scan.{NextNonzero};
 ghost use Rattle.sparse.specs.Storing.{RowStored};
 ghost use Rattle.sparse.specs.Views.{before, after};
 ghost use Rattle.factor_touch.specs.Settling.{SettleReady, RowSettled, StoreSettledReady};
-ghost use Rattle.factor_touch.specs.Searching.{BlockEnd, BlockReady, SearchReady, CellCounted};
+ghost use Rattle.factor_touch.specs.Searching.{CellCounted};
+use crate::searching::next_touched;
 use residue::Modulus;
 use sparse::dense::put;
-use sparse::scan::next_nonzero;
 
 // How many cells of the working row are not 0, and the first of them, or the length.
 pub struct SettledCells {
     pub count: usize,
     pub low: usize,
-}
-
-// Where the block of cell j ends in a row of n cells.
-pub fn block_end(j: usize, n: usize) -> usize
-    requires { ⌜ (j < n) × (n < 2 ^ 62) ⌝ }
-    ensures { λ e. ⌜ BlockEnd j n e ⌝ }
-{
-    let end = j / 16 * 16 + 16;
-    if end < n { end } else { n }
-}
-
-// The first cell from j on that is not 0, in the block of j; where there is none, the end of the block.
-fn next_in_block(touched: &[u8], row: &[u64], j: usize, end: usize) -> usize
-    requires { ⌜ BlockReady (now touched) (now row) j end ⌝ }
-    ensures { λ r. ⌜ NextNonzero (take end (before row)) j r ⌝ }
-{
-    if touched[j / 16] == 0 {
-        return end;
-    }
-    next_nonzero(&row[..end], j)
-}
-
-// The first cell from `from` on that is not 0, or the length.
-fn next_touched(touched: &[u8], row: &[u64], from: usize) -> usize
-    requires { ⌜ SearchReady (now touched) (now row) from ⌝ }
-    ensures { λ r. ⌜ NextNonzero (before row) from r ⌝ }
-{
-    let mut j = from;
-    while j < row.len() {
-        let end = block_end(j, row.len());
-        j = next_in_block(touched, row, j, end);
-        if j < end {
-            return j;
-        }
-    }
-    j
 }
 
 // Counts the cell of column j, whose residue is v.

@@ -1,8 +1,8 @@
 -- `block_end` meets its contract. Assumes nothing.
 use native.Mathlib.Omega.{arith}
-use Rattle.factor_touch.proofs.Searching.{block-ends}
-use Rattle.factor_touch.proofs.settling.block_end.Statement.{statement}
-use Rattle.factor_touch.proofs.settling.block_end.Tie as tie
+use Rattle.factor_touch.proofs.SearchSteps.{block-ends}
+use Rattle.factor_touch.proofs.searching.block_end.Statement.{statement}
+use Rattle.factor_touch.proofs.searching.block_end.Tie as tie
 
 mul-end : tie.Need-mul-end
 mul-end c = omega arith
