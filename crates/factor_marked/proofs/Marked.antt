@@ -11,7 +11,8 @@ use Rattle.lists.specs.Filled.{zeros}
 use Rattle.lists.proofs.Filled.{zeros-at}
 use Rattle.sparse.specs.Row.{Below}
 use Rattle.sparse.specs.Matrix.{rowOf}
-use Rattle.factor_touch.specs.Touched.{cellBlock, pivotBlock, Covers, ColumnsMarked, NoteReady, Noted}
+use Rattle.factor_touch.specs.Touched.{freeBlock, pivotBlock, Covers, ColumnsMarked, NoteReady, Noted}
+use Rattle.factor_touch.proofs.Marking.{free-inside}
 use Rattle.factor_marked.specs.Marking.{Marks}
 use Rattle.factor_marked.specs.Needs.{NoteRowReady}
 
@@ -39,7 +40,7 @@ module _ (place touched pending w : List ℕ) (full : Bool) (s : Marks place tou
       → NoteReady full cs place touched pending
   note-ready cs narrow long places low =
       record {
-        cells = λ t h. omega (arith, narrow, low t h, s .cell-blocks);
+        cells = λ t h. omega (arith, free-inside place (getD cs t 0) (omega (arith, narrow, low t h)), s .cell-blocks);
         places = λ t h. omega (arith, long, low t h);
         pivots = λ t h. omega (arith, places (getD cs t 0) (low t h), s .pivot-blocks);
         all = s .all;
@@ -48,7 +49,7 @@ module _ (place touched pending w : List ℕ) (full : Bool) (s : Marks place tou
   pub marks-cleared : (c : ℕ) → Marks place touched pending (set w c 0) full
   marks-cleared c =
       record {
-        cells = covers-cleared cellBlock touched w c (s .cells);
+        cells = covers-cleared (freeBlock place) touched w c (s .cells);
         pivots = covers-cleared (pivotBlock place) pending w c (s .pivots);
         cell-blocks = s .cell-blocks;
         pivot-blocks = s .pivot-blocks;
@@ -59,7 +60,7 @@ module _ (place touched pending w : List ℕ) (full : Bool) (s : Marks place tou
       → Marks place touched′ pending′ w′ full′
   marks-noted cs touched′ pending′ w′ full′ long t n =
       record {
-        cells = covers-noted cellBlock cs touched touched′ w w′ long t (n .cells) (s .cells);
+        cells = covers-noted (freeBlock place) cs touched touched′ w w′ long t (n .cells) (s .cells);
         pivots = covers-noted (pivotBlock place) cs pending pending′ w w′ long t (n .pivots) (s .pivots);
         cell-blocks = n .cells .long ∙ s .cell-blocks;
         pivot-blocks = n .pivots .long ∙ s .pivot-blocks;
@@ -67,7 +68,7 @@ module _ (place touched pending w : List ℕ) (full : Bool) (s : Marks place tou
       }
 
 -- before the first row nothing is marked that need be: the working row is all zero
-pub marks-none : (place touched pending w : List ℕ) → length touched ≡ 128 → length pending ≡ 129 → w ≡ zeros (length w) → Marks place touched pending w false
+pub marks-none : (place touched pending w : List ℕ) → length touched ≡ 129 → length pending ≡ 129 → w ≡ zeros (length w) → Marks place touched pending w false
 marks-none place touched pending w long longer clear =
     record { cells = λ j h e. zero j; pivots = λ j h e. zero j; cell-blocks = long; pivot-blocks = longer; all = λ e. absurd (true≢false (sym e)) }
   where

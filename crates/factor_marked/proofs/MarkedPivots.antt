@@ -4,6 +4,7 @@ use mathlib.Core.Bool.{Bool, true, false, true≢false}
 use mathlib.Core.List.{List}
 use Prim.Native.Nat.{ℕ, zero, suc, _+_, _-_, _/_, _%_, _≤_, _<_}
 use native.Mathlib.Nat.{zero-mod}
+use native.Mathlib.Decide.{ℕ-discrete, decLt}
 use native.Mathlib.Omega.{arith}
 use lib.ListN.{length, getD, set}
 use Rattle.lists.specs.Tabulate.{tabulate}
@@ -12,10 +13,13 @@ use Rattle.algebra.specs.Reduction.{reduced, multiples}
 use Rattle.sparse.specs.Row.{Below}
 use Rattle.sparse.specs.Matrix.{Compressed, matrix}
 use Rattle.sparse.proofs.Nonzeros.{stored-none}
-use Rattle.factor_touch.specs.Searching.{BlockEnd}
+use Rattle.factor_touch.specs.Touched.{cellBlock}
+use Rattle.factor_touch.specs.Searching.{FirstNonzero}
+use Rattle.factor_touch.proofs.Marking.{free-here}
 use Rattle.factor_reduce.specs.Needs.{EntryReady}
 use Rattle.factor_reduce.proofs.Gathering.{entry-none, entry-over, entry-stored, Gathering, gathering-columns, gathering-values, gathering-ends, gathering-ready, gathering-zero, gathering-turn, gathering-over}
 use Rattle.factor_marked.specs.Marking.{residues, cellBound, Marks, MultipleMarked, PivotMarked, MultiplesMarked}
+use Rattle.factor_marked.specs.Pivots.{pivotCell, PivotSearchReady}
 use Rattle.factor_marked.specs.Needs.{PivotStepReady, MarkedGatherReady}
 use Rattle.factor_marked.proofs.Residues.{residues-long, residue-at, residue-twice, residues-small, bound-starts, bound-later}
 
@@ -28,6 +32,8 @@ module _ (p k c : ℕ) (U : Compressed) (at limit : ℕ) (place touched pending 
       record {
         entry = entry-none p k c (matrix U k) x at limit (residues p w) lc lv (residues p w′) (t .taken) (h .lists .place) z;
         below = t .below;
+        cleared = t .cleared;
+        still = t .still;
         marks = t .marks;
       }
 
@@ -37,6 +43,8 @@ module _ (p k c : ℕ) (U : Compressed) (at limit : ℕ) (place touched pending 
         record {
           entry = entry-over p k c (matrix U k) x at limit (residues p w) lc lv (residues p w′) (t .taken) some e lc lv at;
           below = t .below;
+          cleared = t .cleared;
+          still = t .still;
           marks = t .marks;
         }
 
@@ -45,6 +53,8 @@ module _ (p k c : ℕ) (U : Compressed) (at limit : ℕ) (place touched pending 
         record {
           entry = entry-stored p k c (matrix U k) x at limit (residues p w) lc lv (residues p w′) (t .taken) some room;
           below = t .below;
+          cleared = t .cleared;
+          still = t .still;
           marks = t .marks;
         }
 
@@ -53,6 +63,7 @@ module _ (p k c : ℕ) (U : Compressed) (at limit : ℕ) (place touched pending 
 pub record MarkedGathering (p : ℕ) (C : List ℕ) (U : Compressed) (l limit : ℕ) (place w₀ lc₀ lv₀ touched pending w lc lv : List ℕ) (full : Bool) (next k : ℕ) : Type 0 where
   pub rows : Gathering p C U l limit w₀ lc₀ lv₀ (residues p w) lc lv next k
   pub below : Below (cellBound p k) w
+  pub cleared : (j : ℕ) → j < k → getD w (vector C j) 0 ≡ 0
   pub marks : Marks place touched pending w full
 
 module _ (p : ℕ) (C : List ℕ) (U : Compressed) (l limit : ℕ) (place touched₀ pending₀ w₀ lc₀ lv₀ : List ℕ) (full₀ : Bool)
@@ -71,6 +82,7 @@ module _ (p : ℕ) (C : List ℕ) (U : Compressed) (l limit : ℕ) (place touche
           room = ready .rows .lists .place;
         };
         below = bound-starts p w₀ (ready .rows .upper .below);
+        cleared = λ j h. absurd (omega arith);
         marks = ready .marks;
       }
 
@@ -94,12 +106,13 @@ module _ (p : ℕ) (C : List ℕ) (U : Compressed) (l limit : ℕ) (place touche
     marked-ends h =
         record {
           gathered = gathering-ends p C U l limit w₀ lc₀ lv₀ (ready .rows) (residues p w) lc lv next k (s .rows) h;
-          covers = λ o. s .marks .cells;
+          covers = λ o j b e. cell j (omega (arith, b, marked-long)) e (ℕ-discrete (getD place j 0) 2048);
         }
-
-    pub marked-block : k < length C → k / 16 < length pending
-    marked-block h =
-        omega (arith, ready .placed .inside (getD C k 0) (ready .rows .upper .columns .below k h), ready .placed .pivots k h, s .marks .pivot-blocks)
+      where
+        -- a column is that of a pivot, and cleared, or its block is its own
+        cell : (j : ℕ) → j < length w₀ → getD touched (cellBlock j) 0 ≡ 0 → Dec (getD place j 0 ≡ 2048) → getD w j 0 ≡ 0
+        cell j b e (yes q) = s .marks .cells j (omega (arith, b, marked-long)) (ap (vector touched) (free-here place j q) ∙ e)
+        cell j b e (no q) = let t = ready .placed .only j b q in ap (vector w) (sym (t .column)) ∙ s .cleared (t .pivot) (omega (arith, t .inside, h))
 
     -- no cell of the pivots from k to k + d is other than 0: nothing is taken away
     pub marked-pass : (d : ℕ) → k + d ≤ length C → ((j : ℕ) → k ≤ j → j < k + d → getD w (vector C j) 0 ≡ 0) → Gathering p C U l limit w₀ lc₀ lv₀ (residues p w) lc lv next (k + d)
@@ -114,24 +127,40 @@ module _ (p : ℕ) (C : List ℕ) (U : Compressed) (l limit : ℕ) (place touche
         cell : getD (residues p w) (vector C (k + d)) 0 ≡ 0
         cell = residue-at p w (vector C (k + d)) inside ∙ ap (λ (y : ℕ). y % p) (z (k + d) (omega arith) (omega arith)) ∙ zero-mod p
 
-    pub marked-over : k < length C → getD pending (k / 16) 0 ≡ 0 → (e : ℕ) → BlockEnd k (length C) e → MarkedGathering p C U l limit place w₀ lc₀ lv₀ touched pending w lc lv full next e
-    marked-over h none e b =
+    pub marked-search : PivotSearchReady pending C w k
+    marked-search =
         record {
-          rows = subst (λ (n : ℕ). Gathering p C U l limit w₀ lc₀ lv₀ (residues p w) lc lv next n) (omega (arith, b .after)) (marked-pass (e - k) (omega (arith, b .after, b .inside)) cell);
-          below = bound-later p w k e (omega (arith, b .after)) (s .below);
+          marks = record {
+            columns = λ j b. omega (arith, ready .rows .upper .columns .below j b, marked-long);
+            few = ready .rows .narrow;
+            blocks = omega (arith, s .marks .pivot-blocks, few (ℕ-discrete (length C) 0));
+            covers = λ j b e. s .marks .pivots (vector C j) (omega (arith, ready .rows .upper .columns .below j b, marked-long)) (ap (λ (n : ℕ). getD pending (n / 16) 0) (ready .placed .pivots j b) ∙ e);
+          };
+          inside = s .rows .inside;
+        }
+      where
+        -- the last pivot has its place
+        few : Dec (length C ≡ 0) → length C ≤ 2049
+        few (yes e) = omega arith
+        few (no e) = let k = length C - 1 in
+            omega (arith, ready .placed .pivots k (omega arith), ready .placed .inside (vector C k) (ready .rows .upper .columns .below k (omega arith)))
+
+    pub marked-passed : (r : ℕ) → FirstNonzero (pivotCell C w) (length C) k r → MarkedGathering p C U l limit place w₀ lc₀ lv₀ touched pending w lc lv full next r
+    marked-passed r d =
+        record {
+          rows = subst (λ (n : ℕ). Gathering p C U l limit w₀ lc₀ lv₀ (residues p w) lc lv next n) whole
+              (marked-pass (r - k) (omega (arith, d .span .inside, whole)) (λ j a b. d .span .none j a (omega (arith, b, whole))));
+          below = bound-later p w k r (d .span .least) (s .below);
+          cleared = λ j b. cleared j b (decLt j k);
           marks = s .marks;
         }
       where
-        cell : (j : ℕ) → k ≤ j → j < k + (e - k) → getD w (vector C j) 0 ≡ 0
-        cell j a g =
-            s .marks .pivots (vector C j) (omega (arith, ready .rows .upper .columns .below j inside, marked-long))
-            (ap (λ (n : ℕ). getD pending (n / 16) 0) (ready .placed .pivots j inside) ∙ ap (λ (n : ℕ). getD pending n 0) (b .block j a before) ∙ none)
-          where
-            before : j < e
-            before = omega (arith, b .after)
+        whole : k + (r - k) ≡ r
+        whole = omega (arith, d .span .least)
 
-            inside : j < length C
-            inside = omega (arith, b .inside, before)
+        cleared : (j : ℕ) → j < r → Dec (j < k) → getD w (vector C j) 0 ≡ 0
+        cleared j b (yes a) = s .cleared j a
+        cleared j b (no a) = d .span .none j (omega arith) b
 
     module _ (h : k < length C) (c : ℕ) (ec : c ≡ vector C k) where
       entry-ready : EntryReady p k c U next limit (residues p w) lc lv
@@ -158,13 +187,20 @@ module _ (p : ℕ) (C : List ℕ) (U : Compressed) (l limit : ℕ) (place touche
 
       module _ (touched′ pending′ w′ lc′ lv′ : List ℕ) (over : Bool) (next′ : ℕ) (full′ : Bool)
           (d : PivotMarked p k c (matrix U k) next limit place w lc lv touched′ pending′ w′ lc′ lv′ over next′ full′) where
-        pub marked-turn : over ≡ false → MarkedGathering p C U l limit place w₀ lc₀ lv₀ touched′ pending′ w′ lc′ lv′ full′ next′ (k + 1)
+        marked-turn : over ≡ false → MarkedGathering p C U l limit place w₀ lc₀ lv₀ touched′ pending′ w′ lc′ lv′ full′ next′ (k + 1)
         marked-turn o =
             record {
               rows = gathering-turn p C U l limit w₀ lc₀ lv₀ (ready .rows) (residues p w) lc lv next k (s .rows) h c ec (residues p w′) lc′ lv′ over next′ (d .entry) o;
               below = d .below;
+              cleared = λ j b. cleared j b (ℕ-discrete j k);
               marks = d .marks;
             }
+          where
+            -- row k of U is 0 at the columns of earlier pivots
+            cleared : (j : ℕ) → j < k + 1 → Dec (j ≡ k) → getD w′ (vector C j) 0 ≡ 0
+            cleared j b (yes q) = ap (λ (i : ℕ). getD w′ (vector C i) 0) q ∙ ap (vector w′) (sym ec) ∙ d .cleared
+            cleared j b (no q) =
+                d .still (vector C j) (omega (arith, ready .rows .upper .columns .below j (omega arith), marked-long)) (ready .rows .upper .left k j (omega arith) h) (s .cleared j (omega arith))
 
         pub marked-full : over ≡ true → (touched″ w″ lc″ lv″ : List ℕ) (next″ : ℕ) → MultiplesMarked p C U l limit w₀ lc₀ lv₀ touched″ w″ lc″ lv″ (record { over = true; next = next″ })
         marked-full o touched″ w″ lc″ lv″ next″ =
@@ -172,3 +208,16 @@ module _ (p : ℕ) (C : List ℕ) (U : Compressed) (l limit : ℕ) (place touche
               gathered = gathering-over p C U l limit w₀ lc₀ lv₀ (ready .rows) (residues p w) lc lv next k (s .rows) h c ec (residues p w′) lc′ lv′ over next′ (d .entry) o lc″ lv″ (residues p w″) next″;
               covers = λ e. absurd (true≢false e);
             }
+
+  -- after a turn: the search for the next pivot, and what it comes to
+  module _ (touched pending w lc lv : List ℕ) (full : Bool) (next k : ℕ) (s : MarkedGathering p C U l limit place w₀ lc₀ lv₀ touched pending w lc lv full next k) (h : k < length C) (c : ℕ) (ec : c ≡ vector C k)
+      (touched′ pending′ w′ lc′ lv′ : List ℕ) (over : Bool) (next′ : ℕ) (full′ : Bool)
+      (d : PivotMarked p k c (matrix U k) next limit place w lc lv touched′ pending′ w′ lc′ lv′ over next′ full′) (o : over ≡ false) where
+    turned : MarkedGathering p C U l limit place w₀ lc₀ lv₀ touched′ pending′ w′ lc′ lv′ full′ next′ (k + 1)
+    turned = marked-turn touched pending w lc lv full next k s h c ec touched′ pending′ w′ lc′ lv′ over next′ full′ d o
+
+    pub turn-search : PivotSearchReady pending′ C w′ (k + 1)
+    turn-search = marked-search touched′ pending′ w′ lc′ lv′ full′ next′ (k + 1) turned
+
+    pub turn-passed : (r : ℕ) → FirstNonzero (pivotCell C w′) (length C) (k + 1) r → MarkedGathering p C U l limit place w₀ lc₀ lv₀ touched′ pending′ w′ lc′ lv′ full′ next′ r
+    turn-passed = marked-passed touched′ pending′ w′ lc′ lv′ full′ next′ (k + 1) turned

@@ -78,6 +78,7 @@ placed-cut r m columns C place e h s =
       long = s .long;
       inside = s .inside;
       pivots = λ k b. ap (λ (c : ℕ). getD place c 0) (same k (omega (arith, b, long))) ∙ s .pivots k (omega (arith, b, long));
+      only = λ j b q. let t = s .only j b q in record { pivot = t .pivot; inside = omega (arith, t .inside, long); column = same (t .pivot) (t .inside) ∙ t .column };
     }
   where
     long : length C ≡ r

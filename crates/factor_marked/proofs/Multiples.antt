@@ -20,7 +20,7 @@ use Rattle.sparse.proofs.Rows.{form-row, form-starts}
 use Rattle.sparse.proofs.Subtraction.{below-set}
 use Rattle.factor_touch.specs.Touched.{Noted}
 use Rattle.factor_reduce.specs.InPlace.{MultipleTaken}
-use Rattle.factor_marked.specs.Marking.{residues, cellBound, MultipleMarked}
+use Rattle.factor_marked.specs.Marking.{residues, cellBound, StillZero, MultipleMarked}
 use Rattle.factor_marked.specs.Needs.{NoteRowReady, MultipleReady}
 use Rattle.factor_marked.proofs.Residues.{residues-long, residue-at, residue-twice, residues-small, bound-square, bound-next, bound-later, bound-positive, bound-room}
 use Rattle.factor_marked.proofs.Marked.{Touches, note-ready, marks-cleared, marks-noted}
@@ -48,6 +48,14 @@ residues-taken p c x u w₀ w pos h unit e long cells =
     cell j g (no q) =
         (exact (now j g ∙ ap (λ (z : ℕ). z % p) (getD-set-other w c j 0 0 q)) ⊙ same-mod (getD w j 0)) ⊕ exact refl
         ⊙ (cells j g ⊙ turn (same-mod (getD w₀ j 0)) ⊙ exact (sym (residue-at p w₀ j g)))
+
+-- a cell that is 0 stays 0 where another is cleared
+still-cleared : (u : Vector) (c : ℕ) (w₀ w : List ℕ) → c < length w → StillZero u w₀ w → StillZero u w₀ (set w c 0)
+still-cleared u c w₀ w h s j b e z = go (ℕ-discrete j c)
+  where
+    go : Dec (j ≡ c) → getD (set w c 0) j 0 ≡ 0
+    go (yes q) = rw q (getD-set-same w c 0 0 h)
+    go (no q) = getD-set-other w c j 0 0 q ∙ s j b e z
 
 module _ (p k c : ℕ) (U : Compressed) (place touched pending w : List ℕ) (full : Bool) (h : MultipleReady p k c U place touched pending w full) where
   row : Row p (length w) (rowOf (U .starts) k (U .cols)) (rowOf (U .starts) k (U .vals))
@@ -81,6 +89,8 @@ module _ (p k c : ℕ) (U : Compressed) (place touched pending w : List ℕ) (fu
           taken = residues-taken p c x (matrix U k) w w (h .positive) (h .column) (h .unit) e refl
               (λ j g. exact (omega (arith, ap (λ (y : ℕ). y * matrix U k j) z)));
           below = bounded w (bound-later p w k (k + 1) (omega arith) (h .below));
+          cleared = getD-set-same w c 0 0 (h .column);
+          still = still-cleared (matrix U k) c w w (h .column) (λ j b o y. y);
           marks = marks-cleared place touched pending w full (h .marks) c;
         }
 
@@ -90,15 +100,22 @@ module _ (p k c : ℕ) (U : Compressed) (place touched pending w : List ℕ) (fu
         record {
           taken = residues-taken p c x (matrix U k) w w₁ (h .positive) (h .column) (h .unit) e (s .long) (s .cells);
           below = bounded w₁ (rw (sym (bound-next p k)) (s .below));
-          marks = marks-cleared place touched′ pending′ w₁ full′ (marks-noted place touched pending w full (h .marks) (rowOf (U .starts) k (U .cols)) touched′ pending′ w₁ full′ (s .long) still n) c;
+          cleared = getD-set-same w₁ c 0 0 inside;
+          still = still-cleared (matrix U k) c w w₁ inside kept;
+          marks = marks-cleared place touched′ pending′ w₁ full′ (marks-noted place touched pending w full (h .marks) (rowOf (U .starts) k (U .cols)) touched′ pending′ w₁ full′ (s .long) touched-only n) c;
         }
       where
         s : SubtractedTo p (cellBound p k + growth p) (λ j. x * matrix U k j) w w₁
         s = grown (cellBound p k) (bound-square p k) (h .below)
 
-        still : Touches (rowOf (U .starts) k (U .cols)) w w₁
-        still j g absent z =
-            s .kept j g (ap (λ (y : ℕ). x * y) (entry-absent (rowOf (U .starts) k (U .cols)) (rowOf (U .starts) k (U .vals)) j absent) ∙ mul-zero x) ∙ z
+        inside : c < length w₁
+        inside = omega (arith, h .column, s .long)
+
+        kept : StillZero (matrix U k) w w₁
+        kept j g o z = s .kept j g (ap (λ (y : ℕ). x * y) o ∙ mul-zero x) ∙ z
+
+        touched-only : Touches (rowOf (U .starts) k (U .cols)) w w₁
+        touched-only j g absent = kept j g (entry-absent (rowOf (U .starts) k (U .cols)) (rowOf (U .starts) k (U .vals)) j absent)
 
 pub taken-long : (p k c : ℕ) (u : Vector) (place w₀ touched pending w : List ℕ) (x : ℕ) (full : Bool) → MultipleMarked p k c u place w₀ touched pending w x full → length w ≡ length w₀
 taken-long p k c u place w₀ touched pending w x full t = sym (residues-long p w) ∙ t .taken .long ∙ residues-long p w₀

@@ -154,7 +154,7 @@ module _ (p i r at l total : ℕ) (A : Compressed) (columns us place w lc lv uc 
   abbrev reduction : Reduction
   reduction = reductionBy p (length w) r (take r columns) (cut r at us uc uv) (matrix A i)
 
-  pub row-ready : (touched : List ℕ) → length touched ≡ 128 → MarkedRowFrom p i r at l total A columns us uc uv place touched w lc lv
+  pub row-ready : (touched : List ℕ) → length touched ≡ 129 → MarkedRowFrom p i r at l total A columns us uc uv place touched w lc lv
   row-ready touched e = record { row = h .other .row; placed = h .placed; narrow = h .narrow; blocks = e }
 
   module _ (touched lc₁ lv₁ w₁ : List ℕ) (o : Gathered) (g : RowMarked p l total reduction lc lv touched lc₁ lv₁ w₁ o) where
@@ -181,7 +181,7 @@ module _ (p i r at l total : ℕ) (A : Compressed) (columns us place w lc lv uc 
           ∙ ap (λ (n : ℕ). first n (λ j. eqb (getD (residues p w₁) j 0 % p) 0)) (sym (residues-long p w₁))
 
       module _ (total₁ : ℕ) (et : total₁ ≡ total + (o .next - l)) where
-        pub remainder-ready : length touched ≡ 128 → RemainderReady p r at (o .next) total₁ touched w₁ (entryListsOf lc₁ lv₁ uc uv)
+        pub remainder-ready : length touched ≡ 129 → RemainderReady p r at (o .next) total₁ touched w₁ (entryListsOf lc₁ lv₁ uc uv)
         remainder-ready long =
             record {
               prime = h .other .prime;

@@ -1,4 +1,5 @@
 -- What taking a row needs where the blocks that it touches are marked.
+--   PivotOf r C j                            j is the column of a pivot, one of C[0] to C[r - 1]
 --   Placed r C place m                       `place` gives each of m columns the number of its pivot, those of C[0] to C[r - 1], and 2048 where it is none
 --   NoteRowReady full k starts cols ..       the columns of row k of a stored matrix can be marked
 --   MultipleReady p k c U x place ..         x times row k of U, which is 1 at column c, can be taken away, and its columns marked
@@ -24,10 +25,16 @@ use Rattle.factor_row.specs.Entries.{EntryLists}
 use Rattle.factor_row.specs.Needs.{GatherRowReady, GatherReadyFrom, ListsReady, PivotReady, OtherReady}
 use Rattle.factor_marked.specs.Marking.{cellBound, Marks}
 
+pub record PivotOf (r : ℕ) (C : List ℕ) (j : ℕ) : Type 0 where
+  pub pivot : ℕ
+  pub inside : pivot < r
+  pub column : getD C pivot 0 ≡ j
+
 pub record Placed (r : ℕ) (C place : List ℕ) (m : ℕ) : Type 0 where
   pub long : m ≤ length place
   pub inside : (j : ℕ) → j < m → getD place j 0 ≤ 2048
   pub pivots : (k : ℕ) → k < r → getD place (getD C k 0) 0 ≡ k
+  pub only : (j : ℕ) → j < m → ¬ (getD place j 0 ≡ 2048) → PivotOf r C j
 
 -- ---- a row of U is marked and taken away
 
@@ -67,13 +74,13 @@ pub record MarkedRowReady (p i l total : ℕ) (A : Compressed) (C : List ℕ) (U
   pub row : GatherRowReady p i l total A C U w lc lv
   pub placed : Placed (length C) C place (length w)
   pub narrow : length w ≤ 2048
-  pub blocks : length touched ≡ 128
+  pub blocks : length touched ≡ 129
 
 pub record MarkedRowFrom (p i r at l total : ℕ) (A : Compressed) (columns us uc uv place touched w lc lv : List ℕ) : Type 0 where
   pub row : GatherReadyFrom p i r at l total A columns us uc uv w lc lv
   pub placed : Placed r columns place (length w)
   pub narrow : length w ≤ 2048
-  pub blocks : length touched ≡ 128
+  pub blocks : length touched ≡ 129
 
 -- ---- it is taken
 

@@ -1,12 +1,12 @@
-// A row less multiples of the rows of U, row after row, as `factor_reduce` has it. A block of sixteen pivots without a mark has a
-// 0 at each of its columns, and is passed over.
+// A row less multiples of the rows of U, row after row, as `factor_reduce` has it. Pivots at whose columns the row is 0 are passed
+// over.
 ghost use Rattle.sparse.specs.Matrix.{matrix};
 ghost use Rattle.sparse.specs.Views.{before, after, storedAt, storedBefore};
 ghost use Rattle.factor_marked.specs.Marking.{MultipleMarked, PivotMarked, MultiplesMarked};
 ghost use Rattle.factor_marked.specs.Needs.{MultipleReady, PivotStepReady, MarkedGatherReady};
+use crate::next_pivot::next_pivot;
 use crate::noting::note_stored_row;
 use factor_reduce::gather::Gathered;
-use factor_touch::settling::block_end;
 use lists::index;
 use residue::Modulus;
 use sparse::growing::grow_list_row;
@@ -123,39 +123,35 @@ pub fn gather_marked(
 {
     let mut full = noted;
     let mut next = l;
-    let mut k = 0;
+    let mut k = next_pivot(pending, co, work, 0);
     while k < co.len() {
-        if pending[k / 16] == 0 {
-            k = block_end(k, co.len());
-        } else {
-            let c = index(co[k]);
-            let g = gather_pivot(
-                q,
-                us,
-                uc,
-                uv,
-                k,
-                c,
-                next,
-                limit,
-                full,
-                place,
-                touched,
-                pending,
-                work,
-                lc,
-                lv,
-            );
-            if g.over {
-                return Gathered {
-                    over: true,
-                    next: next,
-                };
-            }
-            next = g.next;
-            full = g.full;
-            k += 1;
+        let c = index(co[k]);
+        let g = gather_pivot(
+            q,
+            us,
+            uc,
+            uv,
+            k,
+            c,
+            next,
+            limit,
+            full,
+            place,
+            touched,
+            pending,
+            work,
+            lc,
+            lv,
+        );
+        if g.over {
+            return Gathered {
+                over: true,
+                next: next,
+            };
         }
+        next = g.next;
+        full = g.full;
+        k = next_pivot(pending, co, work, k + 1);
     }
     Gathered {
         over: false,

@@ -2,6 +2,7 @@
 // pivots, the blocks without a mark are passed over.
 pub mod gather;
 pub mod gathering;
+pub mod next_pivot;
 pub mod noting;
 pub mod settled_pivot;
 pub mod taking;

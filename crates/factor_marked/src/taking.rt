@@ -82,7 +82,7 @@ pub fn take_marked(
     requires { ⌜ MarkedReady (q .p) i r at l total (storedAt starts cols vals) (now co) (now us) (now place) (now work) (entriesAt lc lv uc uv) ⌝ }
     ensures { λ s. ⌜ RowFound (q .p) at l total (reductionBy (q .p) (length (before work)) r (frontBefore r co) (cutBefore r at us uc uv) (rowBefore starts cols vals i)) (entriesBefore lc lv uc uv) (entriesAfter lc lv uc uv) (after work) s ⌝ }
 {
-    let mut touched = [0u8; 128];
+    let mut touched = [0u8; 129];
     let g = gather_row(
         q,
         starts,

@@ -4,7 +4,7 @@ use mathlib.Core.Path.{_≡_, _∙_}
 use native.Mathlib.Omega.{arith}
 use lib.ListN.{length, getD}
 use Rattle.sparse.specs.Matrix.{compressed}
-use Rattle.factor_marked.proofs.MarkedPivots.{MarkedGathering, marked-starts, marked-long, marked-columns, marked-values, marked-cells, marked-pivots, marked-ends, marked-block, marked-over, marked-ready, marked-turn, marked-full}
+use Rattle.factor_marked.proofs.MarkedPivots.{MarkedGathering, marked-starts, marked-long, marked-columns, marked-values, marked-cells, marked-pivots, marked-ends, marked-search, marked-passed, marked-ready, turn-search, turn-passed, marked-full}
 use Rattle.factor_marked.proofs.gather.gather_marked.Statement.{statement}
 use Rattle.factor_marked.proofs.gather.gather_marked.Tie as tie
 
@@ -16,71 +16,75 @@ abbrev μ-loop : tie.MeasureT-loop
 μ-loop q us uc uv co l limit noted place touched₀ pending₀ work₀ lc₀ lv₀ full₀ next₀ k₀ touched pending work lc lv full next k = length co - k
 
 abbrev start : tie.At-loop Inv-loop μ-loop → tie.Start Inv-loop μ-loop
-start c = c .before .before .before .before .before .before .before .before .before .before .before
+start c = c .before .before .before .before .before .before .before .before .before .before .before .before .before .before
 
 abbrev loop : tie.After-index Inv-loop μ-loop → tie.At-loop Inv-loop μ-loop
-loop c = c .before .before .before .before .before
+loop c = c .before .before .before
+
+-- where a turn took the column of its pivot, from the test after it
+abbrev turn : tie.After-slice-known10 Inv-loop μ-loop → tie.After-index Inv-loop μ-loop
+turn c = c .before .before .before .before .before .before .before .before .before .before .before .before .before .before .before .before
 
 -- the index is C[k]
 column : (c : tie.After-index Inv-loop μ-loop) → c .index .result ≡ getD (start (loop c) .args .co .now) (loop c .loop .k) 0
 column c = c .index .ensures
 
+next-pivot-requires : tie.Need-next-pivot-requires Inv-loop μ-loop
+next-pivot-requires c κs = marked-search _ _ _ _ _ _ _ _ _ _ _ _ (c .before .before .before .before .before .before .before .before .before .before .before .before .pre) _ _ _ _ _ _ _ _ (marked-starts _ _ _ _ _ _ _ _ _ _ _ _ (c .before .before .before .before .before .before .before .before .before .before .before .before .pre))
+
 loop-holds : tie.Need-loop-holds Inv-loop μ-loop
-loop-holds c = marked-starts _ _ _ _ _ _ _ _ _ _ _ _ (c .before .before .before .before .before .before .before .before .before .before .pre)
-
-slice-read-if1 : tie.Need-slice-read-if1 Inv-loop μ-loop
-slice-read-if1 c = let l = c .before .before in marked-block _ _ _ _ _ _ _ _ _ _ _ _ (start l .pre) _ _ _ _ _ _ _ _ (l .loop .inv) (c .before .loop-test .taken)
-
-block-end-requires : tie.Need-block-end-requires Inv-loop μ-loop
-block-end-requires c κs = (c .before .before .loop-test .taken, omega (arith, start (c .before .before .before) .pre .rows .narrow))
-
-loop-less : tie.Need-loop-less Inv-loop μ-loop
-loop-less c = let b = c .block-end .ensures in omega (arith, b .after, b .inside)
-
-loop-again : tie.Need-loop-again Inv-loop μ-loop
-loop-again c = let l = c .before .before .before .before in marked-over _ _ _ _ _ _ _ _ _ _ _ _ (start l .pre) _ _ _ _ _ _ _ _ (l .loop .inv) (c .before .before .before .loop-test .taken) (c .before .if1 .taken) _ (c .block-end .ensures)
+loop-holds c = marked-passed _ _ _ _ _ _ _ _ _ _ _ _ (c .before .before .before .before .before .before .before .before .before .before .before .before .before .pre) _ _ _ _ _ _ _ _ (marked-starts _ _ _ _ _ _ _ _ _ _ _ _ (c .before .before .before .before .before .before .before .before .before .before .before .before .before .pre)) _ (c .next-pivot .ensures)
 
 mul-index : tie.Need-mul-index Inv-loop μ-loop
-mul-index c = omega (arith, start (c .before .before .before) .good, c .before .before .loop-test .taken)
+mul-index c = omega (arith, start (c .before) .good, c .loop-test .taken)
 
 shared-slice-read-index : tie.Need-shared-slice-read-index Inv-loop μ-loop
-shared-slice-read-index c = c .before .before .before .loop-test .taken
+shared-slice-read-index c = c .before .loop-test .taken
 
 index-requires : tie.Need-index-requires Inv-loop μ-loop
 index-requires c κs = tt
 
 gather-pivot-requires : tie.Need-gather-pivot-requires Inv-loop μ-loop
 gather-pivot-requires c κs = let i = c .before .before .before .before .before in let l = loop i in
-    marked-ready _ _ _ _ _ _ _ _ _ _ _ _ (start l .pre) _ _ _ _ _ _ _ _ (l .loop .inv) (i .before .before .before .before .loop-test .taken) _ (column i)
+    marked-ready _ _ _ _ _ _ _ _ _ _ _ _ (start l .pre) _ _ _ _ _ _ _ _ (l .loop .inv) (i .before .before .loop-test .taken) _ (column i)
 
 same-length : tie.Need-same-length Inv-loop μ-loop
-same-length c = let l = c .before .before .before .before .before .before .before .before .before .before .before .before .before .before .before .before .before .before .before .before .before .before in c .before .before .before .before .before .before .before .before .before .before .before .gather-pivot .kept .1 .1 .1 .1 .1 .1 .1 .1 .1 .1 .0 ∙ marked-cells _ _ _ _ _ _ _ _ _ _ _ _ (start l .pre) _ _ _ _ _ _ _ _ (l .loop .inv)
+same-length c = let l = loop (turn (c .before)) in
+    c .before .before .before .before .before .before .before .before .before .before .before .gather-pivot .kept .1 .1 .1 .1 .1 .1 .1 .1 .1 .1 .0 ∙ marked-cells _ _ _ _ _ _ _ _ _ _ _ _ (start l .pre) _ _ _ _ _ _ _ _ (l .loop .inv)
 
 same-length-2 : tie.Need-same-length-2 Inv-loop μ-loop
-same-length-2 c = let l = c .before .before .before .before .before .before .before .before .before .before .before .before .before .before .before .before .before .before .before .before .before .before in c .before .before .before .before .before .before .before .before .before .before .before .gather-pivot .kept .1 .1 .1 .1 .1 .1 .1 .1 .1 .1 .1 .0 ∙ marked-pivots _ _ _ _ _ _ _ _ _ _ _ _ (start l .pre) _ _ _ _ _ _ _ _ (l .loop .inv)
+same-length-2 c = let l = loop (turn (c .before)) in
+    c .before .before .before .before .before .before .before .before .before .before .before .gather-pivot .kept .1 .1 .1 .1 .1 .1 .1 .1 .1 .1 .1 .0 ∙ marked-pivots _ _ _ _ _ _ _ _ _ _ _ _ (start l .pre) _ _ _ _ _ _ _ _ (l .loop .inv)
 
 same-length-3 : tie.Need-same-length-3 Inv-loop μ-loop
-same-length-3 c = let l = c .before .before .before .before .before .before .before .before .before .before .before .before .before .before .before .before .before .before .before .before .before .before in c .before .before .before .before .before .before .before .before .before .before .before .gather-pivot .kept .1 .1 .1 .1 .1 .1 .1 .1 .1 .1 .1 .1 .0 ∙ marked-long _ _ _ _ _ _ _ _ _ _ _ _ (start l .pre) _ _ _ _ _ _ _ _ (l .loop .inv)
+same-length-3 c = let l = loop (turn (c .before)) in
+    c .before .before .before .before .before .before .before .before .before .before .before .gather-pivot .kept .1 .1 .1 .1 .1 .1 .1 .1 .1 .1 .1 .1 .0 ∙ marked-long _ _ _ _ _ _ _ _ _ _ _ _ (start l .pre) _ _ _ _ _ _ _ _ (l .loop .inv)
 
 same-length-4 : tie.Need-same-length-4 Inv-loop μ-loop
-same-length-4 c = let l = c .before .before .before .before .before .before .before .before .before .before .before .before .before .before .before .before .before .before .before .before .before .before in c .before .before .before .before .before .before .before .before .before .before .before .gather-pivot .kept .1 .1 .1 .1 .1 .1 .1 .1 .1 .1 .1 .1 .1 .0 ∙ marked-columns _ _ _ _ _ _ _ _ _ _ _ _ (start l .pre) _ _ _ _ _ _ _ _ (l .loop .inv)
+same-length-4 c = let l = loop (turn (c .before)) in
+    c .before .before .before .before .before .before .before .before .before .before .before .gather-pivot .kept .1 .1 .1 .1 .1 .1 .1 .1 .1 .1 .1 .1 .1 .0 ∙ marked-columns _ _ _ _ _ _ _ _ _ _ _ _ (start l .pre) _ _ _ _ _ _ _ _ (l .loop .inv)
 
 same-length-5 : tie.Need-same-length-5 Inv-loop μ-loop
-same-length-5 c = let l = c .before .before .before .before .before .before .before .before .before .before .before .before .before .before .before .before .before .before .before .before .before .before in c .before .before .before .before .before .before .before .before .before .before .before .gather-pivot .kept .1 .1 .1 .1 .1 .1 .1 .1 .1 .1 .1 .1 .1 .1 .0 ∙ marked-values _ _ _ _ _ _ _ _ _ _ _ _ (start l .pre) _ _ _ _ _ _ _ _ (l .loop .inv)
+same-length-5 c = let l = loop (turn (c .before)) in
+    c .before .before .before .before .before .before .before .before .before .before .before .gather-pivot .kept .1 .1 .1 .1 .1 .1 .1 .1 .1 .1 .1 .1 .1 .1 .0 ∙ marked-values _ _ _ _ _ _ _ _ _ _ _ _ (start l .pre) _ _ _ _ _ _ _ _ (l .loop .inv)
 
 returns : tie.Need-returns Inv-loop μ-loop
-returns c = let i = c .before .before .before .before .before .before .before .before .before .before .before .before .before .before .before .before .before in let l = loop i in
-    marked-full _ _ _ _ _ _ _ _ _ _ _ _ (start l .pre) _ _ _ _ _ _ _ _ (l .loop .inv) (i .before .before .before .before .loop-test .taken) _ (column i) _ _ _ _ _ _ _ _ (c .before .before .before .before .before .before .before .before .before .before .before .gather-pivot .ensures) (c .if2 .taken) _ _ _ _ _
+returns c = let i = turn (c .before) in let l = loop i in
+    marked-full _ _ _ _ _ _ _ _ _ _ _ _ (start l .pre) _ _ _ _ _ _ _ _ (l .loop .inv) (i .before .before .loop-test .taken) _ (column i) _ _ _ _ _ _ _ _ (c .before .before .before .before .before .before .before .before .before .before .before .gather-pivot .ensures) (c .if1 .taken) _ _ _ _ _
 
-add-k : tie.Need-add-k Inv-loop μ-loop
-add-k c = let i = c .before .before .before .before .before .before .before .before .before .before .before .before .before .before .before .before .before in omega (arith, i .before .before .before .before .loop-test .taken, start (loop i) .good)
+add-next-pivot : tie.Need-add-next-pivot Inv-loop μ-loop
+add-next-pivot c = let i = turn (c .before .before .before) in omega (arith, i .before .before .loop-test .taken, start (loop i) .good)
 
-loop-less-2 : tie.Need-loop-less-2 Inv-loop μ-loop
-loop-less-2 c = omega (arith, c .before .before .before .before .before .before .before .before .before .before .before .before .before .before .before .before .before .before .before .before .before .loop-test .taken)
+next-pivot-requires-2 : tie.Need-next-pivot-requires-2 Inv-loop μ-loop
+next-pivot-requires-2 c κs = let i = turn (c .before .before .before) in let l = loop i in
+    turn-search _ _ _ _ _ _ _ _ _ _ _ _ (start l .pre) _ _ _ _ _ _ _ _ (l .loop .inv) (i .before .before .loop-test .taken) _ (column i) _ _ _ _ _ _ _ _ (c .before .before .before .before .before .before .before .before .before .before .before .before .before .gather-pivot .ensures) (c .before .before .if1 .left)
 
-loop-again-2 : tie.Need-loop-again-2 Inv-loop μ-loop
-loop-again-2 c = let i = c .before .before .before .before .before .before .before .before .before .before .before .before .before .before .before .before .before in let l = loop i in
-    marked-turn _ _ _ _ _ _ _ _ _ _ _ _ (start l .pre) _ _ _ _ _ _ _ _ (l .loop .inv) (i .before .before .before .before .loop-test .taken) _ (column i) _ _ _ _ _ _ _ _ (c .before .before .before .before .before .before .before .before .before .before .before .gather-pivot .ensures) (c .if2 .left)
+loop-less : tie.Need-loop-less Inv-loop μ-loop
+loop-less c = let i = turn (c .before .before .before .before) in let d = c .next-pivot2 .ensures in omega (arith, d .span .least, d .span .inside, i .before .before .loop-test .taken)
+
+loop-again : tie.Need-loop-again Inv-loop μ-loop
+loop-again c = let i = turn (c .before .before .before .before) in let l = loop i in
+    turn-passed _ _ _ _ _ _ _ _ _ _ _ _ (start l .pre) _ _ _ _ _ _ _ _ (l .loop .inv) (i .before .before .loop-test .taken) _ (column i) _ _ _ _ _ _ _ _ (c .before .before .before .before .before .before .before .before .before .before .before .before .before .before .gather-pivot .ensures) (c .before .before .before .if1 .left) _ (c .next-pivot2 .ensures)
 
 same-length-6 : tie.Need-same-length-6 Inv-loop μ-loop
 same-length-6 c = let l = c .before in marked-cells _ _ _ _ _ _ _ _ _ _ _ _ (start l .pre) _ _ _ _ _ _ _ _ (l .loop .inv)
@@ -106,11 +110,8 @@ gather-marked-spec =
     (tie.spec
     Inv-loop
     μ-loop
+    next-pivot-requires
     loop-holds
-    slice-read-if1
-    block-end-requires
-    loop-less
-    loop-again
     mul-index
     shared-slice-read-index
     index-requires
@@ -121,9 +122,10 @@ gather-marked-spec =
     same-length-4
     same-length-5
     returns
-    add-k
-    loop-less-2
-    loop-again-2
+    add-next-pivot
+    next-pivot-requires-2
+    loop-less
+    loop-again
     same-length-6
     same-length-7
     same-length-8

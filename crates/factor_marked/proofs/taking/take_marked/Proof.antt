@@ -14,7 +14,7 @@ abbrev row : tie.Else1 → tie.After-gather-row
 row c = c .before .before .before .before .before .before .before .before
 
 -- the marks of the cells are as many as at first
-blocks : (c : tie.Else1) → length (row c .gather-row .last .1 .1 .1 .1 .1 .1 .1 .1 .1 .1 .1 .1 .1 .1 .0) ≡ 128
+blocks : (c : tie.Else1) → length (row c .gather-row .last .1 .1 .1 .1 .1 .1 .1 .1 .1 .1 .1 .1 .1 .1 .0) ≡ 129
 blocks c = row c .gather-row .kept .1 .1 .1 .1 .1 .1 .1 .1 .1 .1 .1 .1 .1 .1 .0
 
 slice-aggregate-gather-row : tie.Need-slice-aggregate-gather-row
