@@ -27,8 +27,8 @@ pub marked-ready : (p i : ℕ) (place : List ℕ) (A : Compressed) (R C : List �
 marked-ready p i place A R C L U w from h = record { other = other-ready p i false A R C L U w from (h .turn); placed = h .placed; narrow = h .narrow }
 
 -- the places before any pivot has its own
-pub no-places : (n : ℕ) (place : List ℕ) → place ≡ replicate n 2048 → (j : ℕ) → j < length place → getD place j 0 ≤ 2048
-no-places n place e j b = omega (arith, ap (λ (l : List ℕ). getD l j 0) e, getD-replicate {A = ℕ} n j 2048 0 (omega (arith, ap length e, length-replicate {A = ℕ} n 2048)))
+pub no-places : (n : ℕ) (place : List ℕ) → place ≡ replicate n 2048 → (j : ℕ) → j < length place → getD place j 0 ≡ 2048
+no-places n place e j b = ap (λ (l : List ℕ). getD l j 0) e ∙ getD-replicate {A = ℕ} n j 2048 0 (omega (arith, ap length e, length-replicate {A = ℕ} n 2048))
 
 module _ (p s : ℕ) (A : Compressed) (R₀ C₀ : List ℕ) (L₀ U₀ : Compressed) (w₀ : List ℕ) (from₀ : Progress) where
   abbrev m : ℕ
@@ -54,13 +54,13 @@ module _ (p s : ℕ) (A : Compressed) (R₀ C₀ : List ℕ) (L₀ U₀ : Compre
         subst (λ (r : ℕ). Distinct r m (vector C₀)) (h .ready .rank)
         (state-distinct p (length R₀) m (matrix A) (h .ready .f) R₀ C₀ L₀ U₀ (from₀ .r) (from₀ .at) (from₀ .l) (from₀ .total) (from₀ .d) (h .ready .held .holds) (h .ready .held .state))
 
-    pub places-ready : (place : List ℕ) → length place ≡ 2048 → ((j : ℕ) → j < length place → getD place j 0 ≤ 2048) → PlaceReady s C₀ place
-    places-ready place long bounded =
+    pub places-ready : (place : List ℕ) → length place ≡ 2048 → ((j : ℕ) → j < length place → getD place j 0 ≡ 2048) → PlaceReady s C₀ place
+    places-ready place long none =
         record {
           inside = omega (arith, rank-first, h .ready .lent .columns);
           few = omega (arith, rank-first, h .narrow);
           distinct = record { below = λ a b. omega (arith, columns-first .below a b, h .narrow); apart = columns-first .apart };
-          bounded = bounded;
+          none = none;
         }
 
     pub taking-starts : (place₀ place : List ℕ) → length place₀ ≡ 2048 → PlacesFilled s C₀ place₀ place → Taking place R₀ C₀ L₀ U₀ w₀ s from₀

@@ -7,7 +7,7 @@ use native.Mathlib.Omega.{arith}
 use lib.ListN.{length, getD, set, length-set}
 use lib.Seq.{getD-set-same, getD-set-other}
 use Rattle.algebra.specs.Matrix.{Distinct, vector}
-use Rattle.factor_marked.specs.Needs.{Placed}
+use Rattle.factor_marked.specs.Needs.{PivotOf, Placed}
 use Rattle.factor_turn.proofs.OtherRows.{ColumnsGrown}
 use Rattle.factor_others.specs.Needs.{PlaceReady, PlacesFilled, EnterReady, PlaceEntered}
 
@@ -19,6 +19,7 @@ module _ (r : ℕ) (C place : List ℕ) (m : ℕ) (h : Placed r C place m) (c : 
         long = omega (arith, h .long, length-set place c r);
         inside = λ j g. inside j g (ℕ-discrete j c);
         pivots = λ k g. pivots k g (ℕ-discrete k r);
+        only = λ j g q. only j g q (ℕ-discrete j c);
       }
     where
       inside : (j : ℕ) → j < m → Dec (j ≡ c) → getD (set place c r) j 0 ≤ 2048
@@ -31,6 +32,10 @@ module _ (r : ℕ) (C place : List ℕ) (m : ℕ) (h : Placed r C place m) (c : 
           getD-set-other place c (getD C k 0) r 0 (λ q. e (d .apart k r g (omega arith) (q ∙ ec)))
           ∙ h .pivots k (omega arith)
 
+      only : (j : ℕ) → j < m → ¬ (getD (set place c r) j 0 ≡ 2048) → Dec (j ≡ c) → PivotOf (r + 1) C j
+      only j g q (yes e) = record { pivot = r; inside = omega arith; column = sym ec ∙ sym e }
+      only j g q (no e) = let t = h .only j g (λ z. q (getD-set-other place c j r 0 e ∙ z)) in record { pivot = t .pivot; inside = omega (arith, t .inside); column = t .column }
+
 -- ---- the structural pivots
 
 module _ (s : ℕ) (C place₀ : List ℕ) where
@@ -41,7 +46,16 @@ module _ (s : ℕ) (C place₀ : List ℕ) where
 
   pub filling-starts : PlaceReady s C place₀ → Filling place₀ 0
   filling-starts ready =
-      record { inside = omega arith; long = refl; placed = record { long = omega arith; inside = ready .bounded; pivots = λ k h. absurd (omega arith) } }
+      record { inside = omega arith; long = refl; placed = none }
+    where
+      none : Placed 0 C place₀ (length place₀)
+      none =
+          record {
+            long = omega arith;
+            inside = λ j h. omega (arith, ready .none j h);
+            pivots = λ k h. absurd (omega arith);
+            only = λ j h q. absurd (q (ready .none j h));
+          }
 
   pub filling-turn : PlaceReady s C place₀ → (place : List ℕ) (k c : ℕ) → k < s → c ≡ getD C k 0 → Filling place k → Filling (set place c k) (k + 1)
   filling-turn ready place k c b e t =
@@ -58,7 +72,7 @@ module _ (s : ℕ) (C place₀ : List ℕ) where
 
 -- the places of fewer columns
 pub placed-fewer : (r : ℕ) (C place : List ℕ) (m m′ : ℕ) → m′ ≤ m → Placed r C place m → Placed r C place m′
-placed-fewer r C place m m′ h t = record { long = omega (arith, t .long); inside = λ j b. t .inside j (omega arith); pivots = t .pivots }
+placed-fewer r C place m m′ h t = record { long = omega (arith, t .long); inside = λ j b. t .inside j (omega arith); pivots = t .pivots; only = λ j b. t .only j (omega arith) }
 
 -- ---- a turn
 
@@ -73,7 +87,13 @@ module _ (r r′ m : ℕ) (C C′ place₀ : List ℕ) (few : r ≤ 2048) (g : C
 
   -- the pivots found before are where they were
   earlier : Placed r C′ place₀ m
-  earlier = record { long = h .long; inside = h .inside; pivots = λ k b. ap (λ (c : ℕ). getD place₀ c 0) (g .front k b) ∙ h .pivots k b }
+  earlier =
+      record {
+        long = h .long;
+        inside = h .inside;
+        pivots = λ k b. ap (λ (c : ℕ). getD place₀ c 0) (g .front k b) ∙ h .pivots k b;
+        only = λ j b q. let t = h .only j b q in record { pivot = t .pivot; inside = t .inside; column = g .front (t .pivot) (t .inside) ∙ t .column };
+      }
 
   pub places-grown : (place : List ℕ) → PlaceEntered r r′ C′ place₀ place → Placed r′ C′ place m
   places-grown place d = go (decLt r r′)

@@ -1,6 +1,6 @@
 -- The rows that have no structural pivot: what taking them by way of the blocks that they touch needs, and where each pivot column has its place.
---   PlaceReady s C place             the first s columns of C can be given their places
---   PlacesFilled s C place₀ place    so they are, and no place is larger than it may be
+--   PlaceReady s C place             the first s columns of C can be given their places, and no column has one yet
+--   PlacesFilled s C place₀ place    so they are, and no other column has one
 --   EnterReady r found C place       column r of C can be given its place, where r is below `found`
 --   PlaceEntered r found C ..        so it is
 --   MarkedTurnReady p i place A ..   row i can be taken, where each pivot column has its place
@@ -22,7 +22,7 @@ pub record PlaceReady (s : ℕ) (C place : List ℕ) : Type 0 where
   pub inside : s ≤ length C
   pub few : s ≤ 2048
   pub distinct : Distinct s (length place) (vector C)
-  pub bounded : (j : ℕ) → j < length place → getD place j 0 ≤ 2048
+  pub none : (j : ℕ) → j < length place → getD place j 0 ≡ 2048
 
 pub record PlacesFilled (s : ℕ) (C place₀ place : List ℕ) : Type 0 where
   pub long : length place ≡ length place₀
