@@ -7,7 +7,7 @@
 #   make uninstall    removes these
 #   make clean        removes target/command; the archive and the proofs stay
 #
-# Other variables: CC, CPPFLAGS, CFLAGS, LDFLAGS, and LIBRARY for an archive that lies elsewhere.
+# Other variables: CC, CPPFLAGS, CFLAGS, LDFLAGS, STATIC, and LIBRARY for an archive that lies elsewhere.
 
 PREFIX ?= /usr/local
 BINDIR ?= $(PREFIX)/bin
@@ -17,6 +17,8 @@ MANDIR ?= $(PREFIX)/share/man
 CFLAGS ?= -O2
 archive := target/staticlib/libplq.a
 LIBRARY ?= $(archive)
+# The command is linked with the C library in it where the compiler can, so that nothing is loaded when it starts; STATIC= leaves it out.
+STATIC ?= $(shell echo 'int main(void) { return 0; }' | $(CC) -static -x c - -o /dev/null 2>/dev/null && echo -static)
 
 built := target/command
 soname := libplq.so.1
@@ -37,7 +39,7 @@ $(archive): crates.txt $(shell find crates -path '*/src/*.rt')
 
 $(built)/plq: command/plq.c include/plq.h $(LIBRARY)
 	@mkdir -p $(built)
-	$(CC) -std=c99 $(CPPFLAGS) $(CFLAGS) -Iinclude command/plq.c $(LIBRARY) $(LDFLAGS) -o $@
+	$(CC) -std=c99 $(CPPFLAGS) $(CFLAGS) -Iinclude command/plq.c $(LIBRARY) $(STATIC) $(LDFLAGS) -o $@
 
 # The archive's code does not depend on where it lies, so that it serves for both.
 $(built)/$(soname): $(LIBRARY)

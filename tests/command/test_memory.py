@@ -6,7 +6,6 @@ import unittest
 from random import Random
 
 from kit import (
-    COMMAND,
     D_EARLIER,
     INCLUDE,
     LIBRARY,
@@ -22,7 +21,8 @@ from kit import (
 )
 from plans import BenchPlan, filling, random_sparse, text, wide_pads
 
-VALGRIND = ("valgrind", "-q", "--error-exitcode=9", "--leak-check=full", COMMAND)
+VALGRIND = ("valgrind", "-q", "--error-exitcode=9", "--leak-check=full")
+SOURCE = ROOT / "command" / "plq.c"
 MORE = {
     "check, refused": ("check", plan_d, plan_d),
     "picture of a certificate": ("picture", plan_d, D_EARLIER),
@@ -53,23 +53,31 @@ class Faults(Scratch):
                 found = plq(*arguments, stdin=QUESTIONS, command=command)
                 self.assertEqual(found, plq(*arguments, stdin=QUESTIONS))
 
-    def test_valgrind(self):
+    def built(self, name, *flags):
+        """The command with a C library that is loaded; None where it cannot be built so."""
+        needs("cc")
+        command = self.path(name)
+        build = ("cc", "-std=c99", "-g", *flags, INCLUDE, SOURCE, LIBRARY, "-o", command)
+        done = subprocess.run(build, capture_output=True, timeout=PATIENCE)
+        return command if done.returncode == 0 else None
+
+    def valgrind(self):
+        """It sees what is allocated only where the C library is loaded."""
         needs("valgrind")
-        self.assertFaultless(*VALGRIND)
+        return (*VALGRIND, self.built("loaded"))
+
+    def test_valgrind(self):
+        self.assertFaultless(*self.valgrind())
 
     def test_making_a_file_under_valgrind(self):
-        needs("valgrind")
-        made = self.path("made.plq")
+        made, valgrind = self.path("made.plq"), self.valgrind()
         for _ in range(2):
-            self.assertDone(b"certificate of 217 bytes\n", "make", plan_d, made, command=VALGRIND)
+            self.assertDone(b"certificate of 217 bytes\n", "make", plan_d, made, command=valgrind)
 
     def test_sanitizers(self):
-        needs("cc")
-        command = self.path("sanitized")
         sanitize = ("-fsanitize=address,undefined", "-fno-sanitize-recover=all")
-        source = (ROOT / "command" / "plq.c", LIBRARY, "-o", command)
-        build = ("cc", "-std=c99", "-g", *sanitize, INCLUDE, *source)
-        if subprocess.run(build, capture_output=True, timeout=PATIENCE).returncode:
+        command = self.built("sanitized", *sanitize)
+        if not command:
             self.skipTest("sanitizers (the compiler has none)")
         self.assertFaultless(command)
         for content in plans():
