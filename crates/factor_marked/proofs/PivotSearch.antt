@@ -7,7 +7,7 @@ use native.Mathlib.Omega.{arith}
 use lib.ListN.{length}
 use Rattle.factor_touch.specs.Touched.{cellBlock}
 use Rattle.factor_touch.specs.Searching.{ZeroSpan, FirstNonzero, marksOf, BlockEnd, BlockPassable}
-use Rattle.factor_marked.specs.Pivots.{pivotCell, PivotsReady, PivotPassable}
+use Rattle.factor_marked.specs.Pivots.{pivotCell, PivotCellsReady, PivotPassable}
 
 module _ (pending C w : List ℕ) (k : ℕ) (h : PivotPassable pending C w k) where
   pub block-inside : cellBlock k < length pending
@@ -21,7 +21,7 @@ module _ (pending C w : List ℕ) (k : ℕ) (h : PivotPassable pending C w k) wh
 
   -- in the block of pivot k, one by one
   module _ (e : ℕ) (b : BlockEnd k (length C) e) where
-    pub rest-ready : PivotsReady C w (k + 1) e
+    pub rest-ready : PivotCellsReady C w (k + 1) e
     rest-ready = record { inside = omega (arith, b .after); ends = b .inside; columns = h .marks .columns }
 
     pub rest-passed : (r : ℕ) → FirstNonzero (pivotCell C w) e (k + 1) r → (k < r) × ZeroSpan (pivotCell C w) (length C) k r

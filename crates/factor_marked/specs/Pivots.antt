@@ -1,7 +1,7 @@
 -- The search for the next pivot at whose column the working row is not 0.
 --   pivotCell C w k                   the cell of the working row at the column of pivot k
 --   PivotMarks pending C w            the columns are columns of the row; where the block of a pivot is not marked its cell is 0
---   PivotsReady C w from end          the cells of the pivots from `from` up to `end` can be looked at
+--   PivotCellsReady C w from end      the cells of the pivots from `from` up to `end` can be looked at
 --   PivotPassable pending C w k       the cell of pivot k is 0, and can be passed over with those after it
 --   PivotSearchReady pending C w ..   what the search from pivot `from` on needs
 use Prim.Native.Nat.{ℕ, _*_, _^_, _≤_, _<_}
@@ -20,7 +20,7 @@ pub record PivotMarks (pending C w : List ℕ) : Type 0 where
   pub blocks : length C ≤ 16 * length pending
   pub covers : (k : ℕ) → k < length C → marksOf pending k ≡ 0 → pivotCell C w k ≡ 0
 
-pub record PivotsReady (C w : List ℕ) (from end : ℕ) : Type 0 where
+pub record PivotCellsReady (C w : List ℕ) (from end : ℕ) : Type 0 where
   pub inside : from ≤ end
   pub ends : end ≤ length C
   pub columns : Below (length w) C

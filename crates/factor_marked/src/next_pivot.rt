@@ -4,14 +4,14 @@ ghost use Prim.Native.Nat.{_<_};
 ghost use lib.ListN.{length};
 ghost use Rattle.sparse.specs.Views.{before};
 ghost use Rattle.factor_touch.specs.Searching.{ZeroSpan, FirstNonzero};
-ghost use Rattle.factor_marked.specs.Pivots.{pivotCell, PivotsReady, PivotPassable, PivotSearchReady};
+ghost use Rattle.factor_marked.specs.Pivots.{pivotCell, PivotCellsReady, PivotPassable, PivotSearchReady};
 use factor_touch::searching::block_end;
 use factor_touch::searching::next_marked;
 use lists::index;
 
 // The first pivot from `from` on, and before `end`, at whose column the row is not 0, or `end`.
 fn next_in_pivots(co: &[u32], work: &[u64], from: usize, end: usize) -> usize
-    requires { ⌜ PivotsReady (now co) (now work) from end ⌝ }
+    requires { ⌜ PivotCellsReady (now co) (now work) from end ⌝ }
     ensures { λ r. ⌜ FirstNonzero (pivotCell (before co) (before work)) end from r ⌝ }
 {
     let mut k = from;
