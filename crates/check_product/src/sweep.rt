@@ -98,14 +98,14 @@ fn row_length(starts: &[u32], sb: &[u8], k: usize) -> usize
     index_at(starts, sb, k + 1) - index_at(starts, sb, k)
 }
 
-// Whether the rows of U that a row of L names, and `own` entries more, have fewer entries together than there are cells.
+// Whether the rows of U that a row of L names, and `own` entries more, have fewer entries together than the limit.
 // It counts down, and ends where nothing is left. The answer only chooses the shorter of two ways to one result: the
 // contract says nothing of it.
-fn touches_few(ks: &[u32], kb: &[u8], us: &[u32], usb: &[u8], own: usize, cells: usize) -> bool
+fn touches_few(ks: &[u32], kb: &[u8], us: &[u32], usb: &[u8], own: usize, limit: usize) -> bool
     requires { ⌜ CountsRows (viewAt ks kb) (viewAt us usb) ⌝ }
 {
     let n = count(ks, kb);
-    let mut left = cells;
+    let mut left = limit;
     let mut t = 0;
     while t < n {
         let k = index_at(ks, kb, t);
@@ -120,7 +120,8 @@ fn touches_few(ks: &[u32], kb: &[u8], us: &[u32], usb: &[u8], own: usize, cells:
 }
 
 // Whether every cell stands for 0; all cells are set to 0. Only the columns of a row of A and of the rows of U that a row
-// of L names can be other than 0: they alone are swept, unless that takes more steps than there are cells.
+// of L names can be other than 0: they alone are swept, where they are few. Going through all cells in order takes about
+// a quarter of the time for each cell that single columns take.
 pub fn clear_touched(
     q: Modulus,
     cols: &[u32],
@@ -136,7 +137,7 @@ pub fn clear_touched(
     ensures { λ z. ⌜ TestedAndCleared (q .p) (before work) (after work) z ⌝ }
 {
     let own = cols.len();
-    if !touches_few(ks, kb, us, usb, own, work.len()) {
+    if !touches_few(ks, kb, us, usb, own, work.len() / 4) {
         return zero_and_clear(q, work);
     }
     let zero = sweep_rows(q, ks, kb, us, usb, uc, ucb, work);

@@ -5,10 +5,10 @@ use Rattle.check_product.proofs.sweep.touches_few.Statement.{statement}
 use Rattle.check_product.proofs.sweep.touches_few.Tie as tie
 
 abbrev Inv-loop : tie.InvT-loop
-Inv-loop ks kb us usb own cells n left₀ t₀ left t = t ≤ n
+Inv-loop ks kb us usb own limit n left₀ t₀ left t = t ≤ n
 
 abbrev μ-loop : tie.MeasureT-loop
-μ-loop ks kb us usb own cells n left₀ t₀ left t = n - t
+μ-loop ks kb us usb own limit n left₀ t₀ left t = n - t
 
 abbrev start : tie.In-loop Inv-loop μ-loop → tie.Start Inv-loop μ-loop
 start c = c .before .before .before .before .before .before .before
