@@ -3,6 +3,8 @@
 --   CombinesRows ..     r rows of U, and a sparse row that says how often each is taken
 --   ComparesRow ..      these, and a working row that is 0 outside the columns of a row of A
 --   Comparable ..       a matrix A and a set whose orders and storage passed, and a working row that is all zero
+--   ComparesMultiple .. two sparse rows, and the residue that the second is multiplied by
+--   NamesRows ..        A and a set as far as position i needs them: the row of A that R names, L's row i, the rows of U
 --   StartsRise ..       no row start is less than the one before
 --   RowsInside ..       the rows lie inside the list of columns, and each column is below a width: the form, without the values
 --   CountsRows ..       rows of U, by number, to count their entries
@@ -44,6 +46,22 @@ pub record Comparable (p n r : ℕ) (A : Compressed) (R : List ℕ) (L U : Compr
   pub U-rows : length (U .starts) ≡ r + 1
   pub narrow : r ≤ 2 ^ 32
   pub cleared : w ≡ zeros (length w)
+
+pub record ComparesMultiple (p c : ℕ) (cols vals cols′ vals′ : List ℕ) : Type 0 where
+  pub paired : length cols ≡ length vals
+  pub paired′ : length cols′ ≡ length vals′
+  pub residue : c < p
+  pub below : Below p vals′
+
+pub record NamesRows (p r i : ℕ) (A : Compressed) (R : List ℕ) (L U : Compressed) : Type 0 where
+  pub width : ℕ
+  pub A-form : form p width A ≡ true
+  pub A-row : getD R i 0 + 1 < length (A .starts)
+  pub order : i < length R
+  pub L-form : form p r L ≡ true
+  pub L-row : i + 1 < length (L .starts)
+  pub U-form : form p width U ≡ true
+  pub U-rows : length (U .starts) ≡ r + 1
 
 abbrev pub StartsRise : List ℕ → Type 0
 StartsRise starts = (k : ℕ) → k + 1 < length starts → getD starts k 0 ≤ getD starts (k + 1) 0

@@ -1,4 +1,5 @@
-// The product of a set compared with the matrix (refusal 14), row by row in the working row.
+// The product of a set compared with the matrix (refusal 14), row by row: in the lists where the row is
+// one row of U times a number, else in the working row.
 ghost use mathlib.Core.Path.{_≡_};
 ghost use Prim.Native.Nat.{_+_, _*_, _<_};
 ghost use lib.ListN.{length, getD};
@@ -12,8 +13,10 @@ ghost use Rattle.pluq.specs.Judge.{agrees};
 ghost use Rattle.check_product.specs.Combination.{isCombination};
 ghost use Rattle.check_product.specs.Needs.{CombinesRows, ComparesRow, Comparable};
 
+mod copied;
 mod sweep;
 
+use crate::copied::is_copied;
 use crate::sweep::clear_touched;
 use lists::index;
 use lists::part;
@@ -87,9 +90,9 @@ fn is_combination(
     clear_touched(q, cols, ks, kb, us, usb, uc, ucb, work)
 }
 
-// Whether row R[i] of A is row i of the product, at all columns. A's row is put into the working row:
+// Whether row R[i] of A is row i of the product, at all columns, in the working row. A's row is put there:
 // taken away p - 1 times it is added once. The two rows are handed on as middle parts of their lists.
-fn row_agrees(
+fn row_combines(
     q: Modulus,
     starts: &[u32],
     cols: &[u32],
@@ -136,6 +139,85 @@ fn row_agrees(
         uv,
         uvb,
         r,
+        work,
+    )
+}
+
+// Whether row R[i] of A is row i of the product, at all columns. Where it is seen to be a multiple of one row of U, nothing
+// is put into the working row.
+fn row_agrees(
+    q: Modulus,
+    starts: &[u32],
+    cols: &[u32],
+    vals: &[u32],
+    ro: &[u32],
+    rob: &[u8],
+    ls: &[u32],
+    lsb: &[u8],
+    lc: &[u32],
+    lcb: &[u8],
+    lv: &[u32],
+    lvb: &[u8],
+    us: &[u32],
+    usb: &[u8],
+    uc: &[u32],
+    ucb: &[u8],
+    uv: &[u32],
+    uvb: &[u8],
+    r: usize,
+    n: usize,
+    i: usize,
+    work: &mut [u64],
+) -> bool
+    requires { ⌜ (i < n) × Comparable (q .p) n r (storedAt starts cols vals) (viewAt ro rob) (viewedAt ls lsb lc lcb lv lvb) (viewedAt us usb uc ucb uv uvb) (now work) ⌝ }
+    ensures { λ z. ⌜ (z ≡ agrees (q .p) (length (before work)) r (matrix (storedBefore starts cols vals)) (vectorBefore ro rob) (matrixBefore ls lsb lc lcb lv lvb) (matrixBefore us usb uc ucb uv uvb) i) × (after work ≡ before work) ⌝ }
+{
+    if is_copied(
+        q,
+        starts,
+        cols,
+        vals,
+        ro,
+        rob,
+        ls,
+        lsb,
+        lc,
+        lcb,
+        lv,
+        lvb,
+        us,
+        usb,
+        uc,
+        ucb,
+        uv,
+        uvb,
+        r,
+        i,
+    ) {
+        return true;
+    }
+    row_combines(
+        q,
+        starts,
+        cols,
+        vals,
+        ro,
+        rob,
+        ls,
+        lsb,
+        lc,
+        lcb,
+        lv,
+        lvb,
+        us,
+        usb,
+        uc,
+        ucb,
+        uv,
+        uvb,
+        r,
+        n,
+        i,
         work,
     )
 }

@@ -91,7 +91,7 @@ fn sweep_rows(
 }
 
 // How many entries row k has.
-fn row_length(starts: &[u32], sb: &[u8], k: usize) -> usize
+pub fn row_length(starts: &[u32], sb: &[u8], k: usize) -> usize
     requires { ⌜ (k + 1 < length (viewAt starts sb)) × StartsRise (viewAt starts sb) ⌝ }
     ensures { λ r. ⌜ r ≡ getD (viewBefore starts sb) (k + 1) 0 - getD (viewBefore starts sb) k 0 ⌝ }
 {
