@@ -27,6 +27,7 @@ TARGET = ROOT / "target"
 COMMAND = TARGET / "command" / "plq"
 LIBRARY = TARGET / "staticlib" / "libplq.a"
 INCLUDE = f"-I{ROOT / 'include'}"
+SOURCE = ROOT / "command" / "plq.c"
 EXAMPLES = ROOT / "examples"
 plan_d = EXAMPLES / "D.txt"
 D_PLQ = EXAMPLES / "D.plq"
@@ -139,6 +140,15 @@ class Scratch(unittest.TestCase):
         if content is not None:
             path.write_bytes(content)
         return path
+
+    def built(self, name, *flags):
+        """The command with a C library that is loaded, for tools that come between the two;
+        None where it cannot be built so."""
+        needs("cc")
+        command = self.path(name)
+        build = ("cc", "-std=c99", "-g", *flags, INCLUDE, SOURCE, LIBRARY, "-o", command)
+        done = subprocess.run(build, capture_output=True, timeout=PATIENCE)
+        return command if done.returncode == 0 else None
 
     def assertEnds(self, ended, status, output=None, said=None):
         self.assertEqual(ended.status, status, str(ended)[:400])

@@ -15,6 +15,7 @@ from kit import (
     PATIENCE,
     REPORT_D,
     ROOT,
+    SOURCE,
     TARGET,
     Scratch,
     needs,
@@ -23,7 +24,6 @@ from kit import (
 )
 
 WARNINGS = ("-Wall", "-Wextra", "-Wpedantic", "-Wshadow", "-Wconversion", "-Werror")
-SOURCE = ROOT / "command" / "plq.c"
 USES_HEADER = b"""#include "plq.h"
 #include "plq.h"
 int main(void)

@@ -22,7 +22,6 @@ from kit import (
 from plans import BenchPlan, filling, random_sparse, text, wide_pads
 
 VALGRIND = ("valgrind", "-q", "--error-exitcode=9", "--leak-check=full")
-SOURCE = ROOT / "command" / "plq.c"
 MORE = {
     "check, refused": ("check", plan_d, plan_d),
     "picture of a certificate": ("picture", plan_d, D_EARLIER),
@@ -52,14 +51,6 @@ class Faults(Scratch):
             with self.subTest(verb=name):
                 found = plq(*arguments, stdin=QUESTIONS, command=command)
                 self.assertEqual(found, plq(*arguments, stdin=QUESTIONS))
-
-    def built(self, name, *flags):
-        """The command with a C library that is loaded; None where it cannot be built so."""
-        needs("cc")
-        command = self.path(name)
-        build = ("cc", "-std=c99", "-g", *flags, INCLUDE, SOURCE, LIBRARY, "-o", command)
-        done = subprocess.run(build, capture_output=True, timeout=PATIENCE)
-        return command if done.returncode == 0 else None
 
     def valgrind(self):
         """It sees what is allocated only where the C library is loaded."""

@@ -88,8 +88,9 @@ class Late(Scratch):
         subprocess.run(build, check=True, timeout=PATIENCE)
         said = words("standard output", "Input/output error")
         late = {**os.environ, "LD_PRELOAD": str(library)}
+        command = (self.built("loaded"),)
         for arguments in VERBS.values():
-            self.assertEnds(plq(*arguments, env=late), 2, said=said)
+            self.assertEnds(plq(*arguments, env=late, command=command), 2, said=said)
 
 
 class Closed(Scratch):
