@@ -1,1 +1,2 @@
 // Linear algebra modulo a prime: definitions in specs/, theorems in proofs/, and no code.
+#![tactic(auto)]

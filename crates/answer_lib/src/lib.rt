@@ -1,4 +1,6 @@
 // The answer to a question about a plan's text, from a certificate, or from the engine's own factors where the certificate has no bytes.
+#![tactic(auto)]
+
 ghost use Rattle.std.specs.Prelude.{ℕ, ◌≡◌, length};
 ghost use Rattle.limits.specs.Limits.{work_length};
 ghost use Rattle.call_answer.specs.Calls.{AnswersIn};

@@ -1,4 +1,6 @@
 // Slot values answered from a set that passed (document 02, slip 6).
+#![tactic(auto)]
+
 pub mod contradiction;
 mod forward;
 mod gaps;

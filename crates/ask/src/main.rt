@@ -5,6 +5,8 @@
 // them, or `contradiction` and the combination of the slots that shows that none does.
 // With the verb `settings` alone the settings of the free words are printed: `free` and how many there are, then a line for each of them,
 // `setting` and its values.
+#![tactic(auto)]
+
 ghost use Rattle.std.specs.Prelude.{◌+◌, ◌≤◌, ◌<◌, ◌^◌, length};
 ghost use Rattle.limits.specs.Limits.{starts_length};
 ghost use Rattle.byte_buffer.specs.Fills.{Fills};

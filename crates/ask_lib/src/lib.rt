@@ -1,4 +1,6 @@
 // The answer to a question about a plan's text.
+#![tactic(auto)]
+
 ghost use Rattle.std.specs.Prelude.{◌≡◌, take};
 ghost use Rattle.byte_buffer.specs.Fills.{Fills};
 ghost use Rattle.call_answer.specs.Calls.{answer_detail};

@@ -1,4 +1,6 @@
 // The words that give slot values, from a plan's text; or the contradiction between them.
+#![tactic(auto)]
+
 ghost use Rattle.std.specs.Prelude.{◌≡◌, take};
 ghost use Rattle.byte_buffer.specs.Fills.{Fills};
 ghost use Rattle.call_slots.specs.Calls.{solution_detail};

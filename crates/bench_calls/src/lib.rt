@@ -1,5 +1,7 @@
 // What the benchmark times within one process (include/plq_timing.h) beside the calls of the library: the stages alone, and the words from slot values. They
 // need no storage of the caller's but the buffer, so that a time is that of the work and of clearing the lists, and of nothing else.
+#![tactic(auto)]
+
 ghost use Rattle.std.specs.Prelude.{◌≡◌, length};
 ghost use Rattle.byte_buffer.specs.Fills.{Fills};
 ghost use Rattle.bench_calls.specs.Timed.{held_rank, timed_rank, timed_words};

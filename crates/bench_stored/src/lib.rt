@@ -1,5 +1,7 @@
 // Calls on a stored plan for the benchmark alone (include/plq_timing.h): factoring, the check and the list of open columns, each without the reading of a text, in
 // lists of the caller's that may be longer than the library's own.
+#![tactic(auto)]
+
 ghost use Rattle.std.specs.Prelude.{◌≡◌};
 ghost use Rattle.refusals.specs.Refusals.{number_of};
 ghost use Rattle.call_factor.specs.Lengths.{lent_of};

@@ -1,4 +1,6 @@
 // Bytes stored in a lent buffer, one run after another.
+#![tactic(auto)]
+
 ghost use Rattle.std.specs.Prelude.{◌+◌, ◌≤◌, length};
 ghost use Rattle.lists.specs.Stored.{Stored};
 

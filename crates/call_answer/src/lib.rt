@@ -1,4 +1,6 @@
 // The calls that answer a question from a set of factors, which is checked first, without owners; `call_owned` has the public ones.
+#![tactic(auto)]
+
 ghost use Rattle.std.specs.Prelude.{◌≡◌};
 ghost use Rattle.call_answer.specs.Calls.{answer_of};
 
@@ -9,7 +11,7 @@ pub mod from_factors;
 pub mod question;
 
 // The answer to a question: refused by a number of document 01's table with its detail, open, or closed.
-#[derive(Drop)]
+#[derive(Clone, Copy)]
 pub enum Answer {
     Refused(u32, u32),
     Open,

@@ -1,4 +1,6 @@
 // The call that factors a stored plan, without owners; `call_owned` has the public one.
+#![tactic(auto)]
+
 ghost use Rattle.std.specs.Prelude.{◌≡◌};
 ghost use Rattle.factor_all.specs.Factorization.{Leaves};
 ghost use Rattle.call_factor.specs.Lengths.{lent_lengths, lent_outcome, lent_of};
@@ -16,7 +18,7 @@ use refusals::numbers::WRONG_LENGTH;
 use residue::Modulus;
 
 // How long the lists are that are lent to factoring.
-#[derive(Drop)]
+#[derive(Clone, Copy)]
 pub struct Lent {
     pub rows: usize,
     pub columns: usize,

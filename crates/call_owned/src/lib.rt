@@ -1,5 +1,7 @@
 // The public calls on a stored plan with the owners of its words (document 02, slip 4). Each tests that there is an owner for each word and then is
 // the call without them: owners alter no factor, no certificate and no verdict on a question.
+#![tactic(auto)]
+
 ghost use Rattle.std.specs.Prelude.{◌≡◌, eqb, length};
 ghost use Rattle.sparse.specs.Views.{before};
 

@@ -1,4 +1,6 @@
 // The tests that every call on a stored plan begins with.
+#![tactic(auto)]
+
 ghost use Rattle.std.specs.Prelude.{◌≡◌};
 ghost use Rattle.call_plan.specs.Tests.{plan_lengths, set_lengths, limits_ok, plan_outcome};
 ghost use Rattle.sparse.specs.Views.{stored_before, set_before};

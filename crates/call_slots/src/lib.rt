@@ -1,4 +1,6 @@
 // The calls that answer slot values from a set of factors, which is checked first (document 02, slip 6).
+#![tactic(auto)]
+
 ghost use Rattle.std.specs.Prelude.{◌≡◌};
 ghost use Rattle.call_slots.specs.Calls.{solution_of};
 
@@ -9,7 +11,7 @@ pub mod from_factors;
 pub mod slots;
 
 // The answer to slot values: refused by a number of document 01's table with its detail, solved by a setting of the words, or a contradiction.
-#[derive(Drop)]
+#[derive(Clone, Copy)]
 pub enum Solution {
     Refused(u32, u32),
     Solved,

@@ -1,4 +1,6 @@
 // The call that writes a certificate, without owners; `call_owned` has the public one.
+#![tactic(auto)]
+
 ghost use Rattle.certificate.specs.Layout.{certificate_of};
 ghost use Rattle.call_write.specs.Call.{write_outcome, WritesIn};
 ghost use Rattle.sparse.specs.Views.{stored_before, set_before};
@@ -10,7 +12,7 @@ use refusals::Outcome;
 use refusals::numbers::WRONG_LENGTH;
 
 // What writing returns: the outcome, and the certificate's length, 0 on a refusal.
-#[derive(Drop)]
+#[derive(Clone, Copy)]
 pub struct Written {
     pub outcome: Outcome,
     pub length: usize,

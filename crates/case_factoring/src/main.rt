@@ -1,6 +1,8 @@
 // The cases of document 01 that concern factoring, one line each: the name; the number and its detail, where a row counts from 0 as
 // the library counts it; the rank and the number of structural pivots; and how many cells of R, C, L's starts, columns and values, U's
 // starts, columns and values and the working row are not 0. Lent lists hold 9s before. Where factoring is done, R, C, L and U follow.
+#![tactic(auto)]
+
 mod block;
 mod plan_d;
 mod plans;

@@ -1,4 +1,6 @@
 // What the programs that run cases share: what they print of numbers, outcomes and lists, on standard output, and the first cells of lists.
+#![tactic(auto)]
+
 ghost use Rattle.std.specs.Prelude.{◌+◌, ◌^◌, ◌≤◌, ◌<◌, length};
 
 use refusals::Outcome;

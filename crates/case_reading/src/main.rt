@@ -1,6 +1,8 @@
 // The cases of documents 01 and 02 that concern reading, one line each: the name; the number and its detail; p, n, m and the number of
 // entries; and how many cells of the starts, the columns, the values and the owners are not 0. Lent lists hold 9s before. Of some plans
 // the first cells of each list follow.
+#![tactic(auto)]
+
 use run::{cells_case, length_case, long_case, plain_case, room_case};
 
 mod long;

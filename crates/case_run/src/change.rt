@@ -46,7 +46,7 @@ pub const FIRST_COLUMN: u32 = 19;
 pub const FIRST_VALUE: u32 = 20;
 
 // What is changed, and to what.
-#[derive(Drop)]
+#[derive(Clone, Copy)]
 pub struct Change {
     pub of: u32,
     pub to: u32,

@@ -4,7 +4,7 @@ use crate::change::{Change, given};
 use std::num::wrapping_add_u32;
 use text_plan::Reading;
 
-#[derive(Drop)]
+#[derive(Clone, Copy)]
 pub struct Handed {
     pub p: u32,
     pub n: u32,

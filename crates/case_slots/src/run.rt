@@ -7,7 +7,7 @@ use case_print::parts::{first_bytes, first_size, within, within_row};
 use case_print::{list, nonzero_row, number};
 
 // How much is lent, by the number of cells.
-#[derive(Drop)]
+#[derive(Clone, Copy)]
 pub struct Lent {
     pub owners: u32,
     pub s: u32,

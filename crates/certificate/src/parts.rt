@@ -7,7 +7,7 @@ use lists::index;
 use sparse::words::word;
 
 // The byte at which each list begins, and the one after the last list: R, C, then starts, columns and values of L and of U.
-#[derive(Drop)]
+#[derive(Clone, Copy)]
 pub struct Places {
     pub ro: usize,
     pub co: usize,

@@ -1,5 +1,7 @@
 // The product of a set compared with the matrix (refusal 14), row by row: in the lists where the row is
 // one row of U times a number, else in the working row.
+#![tactic(auto)]
+
 ghost use Rattle.std.specs.Prelude.{◌≡◌, ◌+◌, ◌*◌, ◌<◌, length, get_or};
 ghost use Rattle.lists.specs.Filled.{zeros};
 ghost use Rattle.lists.specs.Tests.{first};

@@ -1,6 +1,8 @@
 // The check of a set against a stored matrix: refusals 11 to 14, in order. The matrix is in stored lists. The names of the lists of
 // a set: `ro` and `co` are the row and column order, `ls`, `lc`, `lv` the starts, columns and values of L, `us`, `uc`, `uv` those of U,
 // each with its bytes.
+#![tactic(auto)]
+
 ghost use Rattle.std.specs.Prelude.{◌≡◌};
 ghost use Rattle.pluq.specs.Judge.{judge_factors, judge};
 ghost use Rattle.check_set.specs.Needs.{Judgeable, Checkable};

@@ -1,1 +1,2 @@
 // PLUQ factors of a plan under document 01's pivot rules: definitions in specs/, theorems in proofs/.
+#![tactic(auto)]

@@ -14,7 +14,7 @@ use refusals::numbers::STORAGE_TOO_SHORT;
 use residue::Modulus;
 
 // What factoring returns: the outcome, and the rank and the number of structural pivots, 0 on a refusal.
-#[derive(Drop)]
+#[derive(Clone, Copy)]
 pub struct Factored {
     pub outcome: Outcome,
     pub rank: u32,

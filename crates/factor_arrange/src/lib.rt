@@ -1,5 +1,7 @@
 // The order of the structural pivots (document 02, slip 9): always the lowest-numbered row to which no row still waiting leads.
 // One pivot leads to another when its row has an entry in the other's column. The modulus and the values are named in contracts only.
+#![tactic(auto)]
+
 ghost use Rattle.std.specs.Prelude.{length};
 ghost use Rattle.factor_arrange.specs.Needs.{ArrangeReady, Arranged, ListReady, OrderReady};
 ghost use Rattle.sparse.specs.Views.{before, after, stored_at, stored_before};

@@ -13,14 +13,14 @@ use lists::index;
 use residue::Modulus;
 
 // A multiple that was taken away, and whether all blocks are marked.
-#[derive(Drop)]
+#[derive(Clone, Copy)]
 struct Multiple {
     x: u32,
     full: bool,
 }
 
 // Whether the multiples of a row did not fit, the place after them, and whether all blocks are marked.
-#[derive(Drop)]
+#[derive(Clone, Copy)]
 struct Progress {
     over: bool,
     next: usize,

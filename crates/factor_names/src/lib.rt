@@ -1,4 +1,6 @@
 // Rows of a stored matrix as lists of columns, for what looks at where entries stand and not at their values.
+#![tactic(auto)]
+
 ghost use Rattle.std.specs.Prelude.{◌≡◌};
 ghost use Rattle.sparse.specs.Matrix.{row_of};
 ghost use Rattle.sparse.specs.Views.{before};

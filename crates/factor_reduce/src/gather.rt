@@ -12,7 +12,7 @@ use residue::Modulus;
 use sparse::kernel::subtract_list_row;
 
 // Whether the multiples of a row did not fit, and the place after them.
-#[derive(Drop)]
+#[derive(Clone, Copy)]
 pub struct Gathered {
     pub over: bool,
     pub next: usize,

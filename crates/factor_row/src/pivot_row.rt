@@ -3,7 +3,7 @@ ghost use Rattle.std.specs.Prelude.{◌≡◌, ◌&&◌, ◌+◌, ◌≤◌, leb
 
 // How far the factors are after a row: whether its entries did not fit, its pivot column (the length of the working row where it
 // is dependent), the entries of U stored, the entries of L's pivot rows, and all entries of L.
-#[derive(Drop)]
+#[derive(Clone, Copy)]
 pub struct Step {
     pub over: bool,
     pub column: usize,

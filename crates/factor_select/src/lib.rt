@@ -1,6 +1,8 @@
 // More pivots before any arithmetic (document 02, slip 9; document 003, 3.4): rows that rule 1 left take a column where no cycle closes.
 // The working row has a cell for each column, one more than the row chosen for it; `chosen` a cell for each row, one more than its column; 0 is none.
 // The modulus and the values are named in contracts only.
+#![tactic(auto)]
+
 ghost use Rattle.std.specs.Prelude.{◌≡◌, ◌+◌, length};
 ghost use Rattle.elimination.specs.Structural.{leading};
 ghost use Rattle.factor_names.specs.Named.{ByRow, Named};

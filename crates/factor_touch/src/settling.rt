@@ -10,7 +10,7 @@ use residue::Modulus;
 use sparse::dense::put;
 
 // How many cells of the working row are not 0, and the first of them, or the length.
-#[derive(Drop)]
+#[derive(Clone, Copy)]
 pub struct SettledCells {
     pub count: usize,
     pub low: usize,

@@ -12,7 +12,7 @@ use residue::Modulus;
 
 // How far the factoring is: whether the entries of a row did not fit, the pivots found, the entries of U stored, the entries of
 // L's pivot rows, all entries of L, and the dependent rows found.
-#[derive(Drop)]
+#[derive(Clone, Copy)]
 pub struct Progress {
     pub over: bool,
     pub r: usize,
@@ -23,7 +23,7 @@ pub struct Progress {
 }
 
 // Where a pass ended: the row whose entries did not fit, if there is one, and how far it came.
-#[derive(Drop)]
+#[derive(Clone, Copy)]
 pub struct Pass {
     pub stop: u32,
     pub progress: Progress,

@@ -1,4 +1,5 @@
 // Document 01's limits (specs/Limits), for code: as numbers that are compared, and as lengths of lists.
+#![tactic(auto)]
 
 // n and m, as a stored plan has them and as a text states them.
 pub const LARGEST_SIZE: u32 = 2048;

@@ -1,5 +1,7 @@
 // The library. For programs in Rattle: reading a plan's text, and the calls on stored plans with the owners of their words. For planning programs in C
 // (include/plq.h): the calls that take a plan as its text and need no storage of the caller's to work in.
+#![tactic(auto)]
+
 ghost use Rattle.std.specs.Prelude.{◌≡◌};
 ghost use Rattle.text_calls.specs.Calls.{check_text_of, packed, Makes, ReportsText, AnswersText};
 ghost use Rattle.sparse.specs.Views.{before, after};

@@ -1,4 +1,6 @@
 // What the programs print, written into a lent buffer.
+#![tactic(auto)]
+
 pub mod answer;
 pub mod lines;
 mod number;

@@ -8,7 +8,7 @@ use crate::number::put_labelled;
 use byte_buffer::put_bytes;
 
 // The numbers of a report: the sizes of a plan, its rank with the structural pivots, and the entry counts of L and U.
-#[derive(Drop)]
+#[derive(Clone, Copy)]
 pub struct Summary {
     pub modulus: u32,
     pub slots: u32,

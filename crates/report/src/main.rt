@@ -1,5 +1,7 @@
 // The report program: the report of the plan text on standard input, on standard output. Where the input cannot be read, or the report not
 // be written, standard error says so; of an input that cannot be read there is no report.
+#![tactic(auto)]
+
 ghost use Rattle.report_lib.specs.Reporting.{ReportLists};
 
 use limits::{PRINT_ROOM, WORK_CELLS};

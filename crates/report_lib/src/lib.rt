@@ -1,4 +1,6 @@
 // The report of a plan's text.
+#![tactic(auto)]
+
 ghost use Rattle.std.specs.Prelude.{◌≡◌};
 ghost use Rattle.call_open.specs.Calls.{ListsIn};
 ghost use Rattle.stages.specs.Staged.{Fits};
@@ -17,7 +19,7 @@ use refusals::numbers::STORAGE_TOO_SHORT;
 use stages::{Stages, factor_owned, first_refusal};
 
 // What reporting returns: the first refusal, by reading or by factoring, and the length of what is printed.
-#[derive(Drop)]
+#[derive(Clone, Copy)]
 pub struct Reported {
     pub outcome: Outcome,
     pub size: usize,

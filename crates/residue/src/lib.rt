@@ -1,4 +1,6 @@
 // Arithmetic modulo p on residues, the numbers 0 to p - 1.
+#![tactic(auto)]
+
 ghost use Rattle.std.specs.Prelude.{◌≡◌, ◌<◌, ◌%◌};
 ghost use Rattle.residue.specs.Arithmetic.{add_mod, mul_mod, neg_mod, Residue, Residues};
 ghost use Rattle.residue.specs.Inverse.{inv_mod, Invertible};
@@ -13,7 +15,7 @@ use crate::prime_test::is_prime;
 const LARGEST_MODULUS: u32 = 4294967291;
 
 // The modulus p of a call, with the operations on residues modulo p.
-#[derive(Drop)]
+#[derive(Clone, Copy)]
 pub struct Modulus {
     pub p: u32,
 }

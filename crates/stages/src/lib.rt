@@ -1,4 +1,6 @@
 // A plan's text, read and then factored: the stages that the calls on a text begin with. They work in lists of the largest lengths.
+#![tactic(auto)]
+
 ghost use Rattle.std.specs.Prelude.{◌≡◌};
 ghost use Rattle.sparse.specs.Views.{before, after, stored_at, stored_before, stored_after, storage_at, storage_after};
 ghost use Rattle.stages.specs.Lists.{StageLists, OwnedLists};
@@ -13,7 +15,7 @@ use refusals::Outcome;
 use text_plan::Reading;
 
 // What the stages return: what reading returned, what factoring returned after it, and the entry counts of L and U.
-#[derive(Drop)]
+#[derive(Clone, Copy)]
 pub struct Stages {
     pub reading: Reading,
     pub factored: Factored,

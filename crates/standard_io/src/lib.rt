@@ -1,11 +1,13 @@
 // Standard input and standard output of the programs. A read that fails is no end of the input, and a write that fails is no end of the output:
 // each is said on standard error, and answered. A program has no exit status to say it by.
+#![tactic(auto)]
+
 ghost use Rattle.standard_io.specs.Within.{Within};
 
 use libc::{EINTR, STDIN_FILENO, STDOUT_FILENO};
 
 // How many bytes were read, or that a read failed.
-#[derive(Drop)]
+#[derive(Clone, Copy)]
 pub enum Input {
     Read(usize),
     Failed,

@@ -1,4 +1,6 @@
 // What the calls for C do with a text once their storage is there: make, check, deliver a report, and hand on an answer. `plq` lends the storage and exports them.
+#![tactic(auto)]
+
 ghost use Rattle.std.specs.Prelude.{◌≡◌};
 ghost use Rattle.text_calls.specs.Calls.{packed};
 

@@ -10,14 +10,14 @@ pub const NINE: u8 = 57;
 const MINUS: u8 = 45;
 
 // A field as a number without sign.
-#[derive(Drop)]
+#[derive(Clone, Copy)]
 pub enum Number {
     Value(u64),
     NotNumber,
 }
 
 // A field as a number with a sign: `Minus(n)` is -n, and n is not 0.
-#[derive(Drop)]
+#[derive(Clone, Copy)]
 pub enum Signed {
     Plus(u64),
     Minus(u64),

@@ -6,14 +6,14 @@ ghost use Rattle.text_fields.specs.Runs.{Limit, DigitRun, well_written, field_at
 use crate::numbers::{NINE, ZERO, wide};
 
 // A run of digits: the number that they say, and the place after them.
-#[derive(Drop)]
+#[derive(Clone, Copy)]
 pub struct Run {
     pub value: u64,
     pub end: usize,
 }
 
 // A field as a number without sign, and the place after it.
-#[derive(Drop)]
+#[derive(Clone, Copy)]
 pub enum Field {
     Value { n: u64, end: usize },
     NotNumber,

@@ -11,14 +11,14 @@ use text_fields::numbers::Number;
 const LETTER_M: u8 = 77;
 
 // Where the spaces of a line stand, if there are two.
-#[derive(Drop)]
+#[derive(Clone, Copy)]
 pub enum Spaces {
     At { first: usize, second: usize },
     NotTwo,
 }
 
 // The sizes of a plan, or that the line has no such form.
-#[derive(Drop)]
+#[derive(Clone, Copy)]
 pub enum Header {
     Given { n: u64, m: u64 },
     NotHeader,

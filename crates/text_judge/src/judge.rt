@@ -10,7 +10,7 @@ use refusals::numbers::REPEATED_PLACE;
 use residue::Modulus;
 
 // The modulus and the sizes of a plan.
-#[derive(Drop)]
+#[derive(Clone, Copy)]
 pub struct Sizes {
     pub modulus: Modulus,
     pub n: u32,
@@ -18,7 +18,7 @@ pub struct Sizes {
 }
 
 // What a line is judged to be: refused by a number, the last line, or the entry v at i and j, which count from 1.
-#[derive(Drop)]
+#[derive(Clone, Copy)]
 pub enum Verdict {
     Refused(u32),
     Last,

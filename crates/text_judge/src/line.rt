@@ -10,14 +10,14 @@ use text_fields::runs::{Field, field_from};
 pub const SPACE: u8 = 32;
 
 // How a line starts: two numbers, each with a space after it, and the place of what is left.
-#[derive(Drop)]
+#[derive(Clone, Copy)]
 pub enum Start {
     Pair { i: u64, j: u64, rest: usize },
     NotPair,
 }
 
 // The three numbers of a line, or that it has no such form.
-#[derive(Drop)]
+#[derive(Clone, Copy)]
 pub enum Line {
     Triple { i: u64, j: u64, v: Signed },
     NotTriple,

@@ -16,7 +16,7 @@ const LARGEST_V: u64 = 2147483647;
 const LARGEST_MINUS_V: u64 = 2147483648;
 
 // What a line is: refused by 3 or 4, the last line, the triple v at i and j, which count from 1, or one at i and j that 6 or 7 refuses.
-#[derive(Drop)]
+#[derive(Clone, Copy)]
 pub enum Sight {
     Stops(u32),
     Finishes,

@@ -1,13 +1,15 @@
 // The line reader: it borrows a text and carries the place of the next line and that line's number.
 // The functions over the struct only take it apart or put it together; the work is done by `line_at`, on a slice and a place,
 // and by `place_past`, on numbers. Whoever has a plain text calls `line_from` and `next_from`.
+#![tactic(auto)]
+
 ghost use Rattle.std.specs.Prelude.{◌≡◌, ◌+◌, ◌<◌, ◌^◌};
 ghost use Rattle.text_lines.specs.Line.{line_at, line_end, Ends};
 
 // The byte that ends a line.
 const LINE_FEED: u8 = 10;
 
-#[derive(Drop)]
+#[derive(Clone, Copy)]
 pub struct LineReader<'a> {
     pub text: &'a [u8],
     pub at: usize,
@@ -15,7 +17,7 @@ pub struct LineReader<'a> {
 }
 
 // Where a line starts, and its number: what a reader carries beside its text.
-#[derive(Drop)]
+#[derive(Clone, Copy)]
 pub struct Place {
     pub at: usize,
     pub line: u32,

@@ -14,7 +14,7 @@ use text_judge::judge::Sizes;
 use text_lines::Place;
 
 // What the first two lines lead to: a refusal, or the sizes, and the place and number of the third line.
-#[derive(Drop)]
+#[derive(Clone, Copy)]
 pub enum Opening {
     Refused { number: u32, detail: u32 },
     Opened { s: Sizes, third: Place },

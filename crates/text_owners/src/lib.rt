@@ -1,6 +1,8 @@
 // Reads a plan text with the owners of its words (document 01, "Plan text"; document 02, slip 4) into lent lists. The plan's own text ends with
 // its first line `0 0 0` and is read by `text_plan`; what follows it says the owners. A text that is accepted ends with the plan or with one line
 // more, so the plan's end is guessed from the text's end first: only where that does not pass is the line `0 0 0` looked for.
+#![tactic(auto)]
+
 ghost use Rattle.std.specs.Prelude.{◌≡◌, length};
 ghost use Rattle.text_owners.specs.Call.{text_call_of, GivesText};
 ghost use Rattle.text_owners.specs.Cut.{counts};

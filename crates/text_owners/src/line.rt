@@ -14,7 +14,7 @@ const SPACE: u8 = 32;
 const LARGEST_OWNER: u64 = 255;
 
 // What a line says: an owner for each word, the same with one that is no byte, or something else.
-#[derive(Drop)]
+#[derive(Clone, Copy)]
 pub enum OwnersLine {
     Stated,
     TooLarge,

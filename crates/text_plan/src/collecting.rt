@@ -12,7 +12,7 @@ use text_judge::sight::Sight;
 use text_lines::Place;
 
 // How many lines were collected, and what ended it, places that are taken twice left aside: the last line, or a refusal.
-#[derive(Drop)]
+#[derive(Clone, Copy)]
 pub struct Gathered {
     pub count: u32,
     pub outcome: Outcome,

@@ -1,5 +1,7 @@
 // Reads a plan's own text, which ends with the line `0 0 0` (document 01, "Plan text"; triples in any order, document 02, slip 2), into lent lists.
 // `text_owners` has the public call, which reads what may follow it too.
+#![tactic(auto)]
+
 ghost use Rattle.std.specs.Prelude.{◌≡◌, [], length, drop};
 ghost use Rattle.text_fields.specs.Pieces.{pieces};
 ghost use Rattle.text_opening.specs.Reading.{fresh, triples, read_of};
@@ -21,7 +23,7 @@ pub mod sorting;
 pub mod triples;
 
 // What reading a text returns: passed with the modulus, the sizes and the number of entries; or refused, and 0 for all of them.
-#[derive(Drop)]
+#[derive(Clone, Copy)]
 pub struct Reading {
     pub outcome: Outcome,
     pub p: u32,

@@ -11,7 +11,7 @@ use text_judge::judge::{Sizes, Verdict};
 use text_lines::Place;
 
 // What they come to: a refusal and its line, or the number of entries and the row of the last triple.
-#[derive(Drop)]
+#[derive(Clone, Copy)]
 pub enum TripleLines {
     Refused { number: u32, line: u32 },
     Read { count: u32, row: u64 },

@@ -1,0 +1,13 @@
+-- `clear` meets its contract; the loop's invariant is `Clearing`. Assumes nothing.
+use Prim.Native.Nat.{◌-◌}
+use native.Mathlib.Omega.{arith}
+use lib.ListN.{length}
+use Rattle.lists.proofs.Filled.{Clearing, clearing-starts, clearing-turn, clearing-ends}
+use Rattle.lists.proofs.clear.Given as goal
+
+-- `clear` meets its contract; the loop's invariant is `Clearing`. Assumes nothing.
+abbrev pub invariant-loop-i : goal.invariant-loop-i
+invariant-loop-i l = Clearing l.initial.list l.list l.i
+
+abbrev pub decreases-loop-i : goal.decreases-loop-i
+decreases-loop-i l = length l.initial.list - l.i

@@ -1,0 +1,18 @@
+-- `clear_row` meets its contract; the loop's invariant is `Clearing`. Assumes nothing.
+use Prim.Native.Nat.{◌-◌}
+use native.Mathlib.Omega.{arith}
+use lib.ListN.{length}
+use Rattle.lists.proofs.Filled.{Clearing, clearing-starts, clearing-turn, clearing-ends}
+use Rattle.lists.proofs.clear_row.Goals as goal
+
+pub loop-i-init : goal.loop-i-init
+loop-i-init c = clearing-starts _
+
+pub loop-i-preserved : goal.loop-i-preserved
+loop-i-preserved c = clearing-turn _ _ _ (omega arith) c.loop-i.invariant
+
+pub shape_of-row : goal.shape_of-row
+shape_of-row c = c.loop-i.invariant.long
+
+pub returns : goal.returns
+returns c = clearing-ends _ _ _ (omega arith) c.loop-i.invariant
