@@ -1,7 +1,7 @@
 // The settings of the free columns, filled in one after another, m cells each: m is the length of the working row.
 ghost use Rattle.std.specs.Prelude.{length, ◌≡◌};
 ghost use Rattle.lists.specs.Stored.{Stored};
-ghost use Rattle.sparse.specs.Views.{before, after, view_at, view_before, viewed_at, viewed_before};
+ghost use Rattle.sparse.specs.Views.{view_at, view_before, viewed_at, viewed_before};
 ghost use Rattle.answer_kernel.specs.Filling.{block_of, free_settings};
 ghost use Rattle.answer_kernel.specs.Needs.{BlockReady, SettingsReady};
 
@@ -25,8 +25,8 @@ pub fn fill_block(
     basis: &mut [u32],
     work: &[u64],
 ) -> usize
-    requires { BlockReady q.p r c at (viewed_at us usb uc ucb uv uvb) (view_at co cob) basis.old work.now }
-    ensures { Stored (before basis) (after basis) at result (block_of q.p (length (before work)) r (view_before co cob) (viewed_before us usb uc ucb uv uvb) c) }
+    requires { BlockReady q.p r c at (viewed_at us.now usb.now uc.now ucb.now uv.now uvb.now) (view_at co.now cob.now) basis.old work.now }
+    ensures { Stored basis.old basis.new at result (block_of q.p (length work.now) r (view_before co.now cob.now) (viewed_before us.now usb.now uc.now ucb.now uv.now uvb.now) c) }
 {
     if work[c] != 0 {
         return at;
@@ -52,8 +52,8 @@ pub fn fill_settings(
     basis: &mut [u32],
     work: &[u64],
 )
-    requires { SettingsReady q.p r (viewed_at us usb uc ucb uv uvb) (view_at co cob) basis.old work.now }
-    ensures { after basis ≡ free_settings q.p (length (before work)) r (view_before co cob) (viewed_before us usb uc ucb uv uvb) }
+    requires { SettingsReady q.p r (viewed_at us.now usb.now uc.now ucb.now uv.now uvb.now) (view_at co.now cob.now) basis.old work.now }
+    ensures { basis.new ≡ free_settings q.p (length work.now) r (view_before co.now cob.now) (viewed_before us.now usb.now uc.now ucb.now uv.now uvb.now) }
 {
     let mut at = 0;
     let mut c = 0;

@@ -5,7 +5,7 @@ ghost use Rattle.stages.specs.Lists.{Held};
 ghost use Rattle.answer_lib.specs.Answering.{answer_text_of};
 ghost use Rattle.answer_lib.specs.Held.{certified_held_of};
 ghost use Rattle.answer_lib.specs.Needs.{CertifiedReady};
-ghost use Rattle.sparse.specs.Views.{before, stored_at, stored_before};
+ghost use Rattle.sparse.specs.Views.{stored_at, stored_before};
 
 use call_answer::Answer;
 use call_answer::from_certificate::answer_from_certificate;
@@ -26,8 +26,8 @@ fn answer_read(
     z: &mut [u32],
     work: &mut [u64],
 ) -> Answer
-    requires { Held r (stored_at starts cols vals) }
-    ensures { AnswersIn (certified_held_of r (stored_before starts cols vals) (before certificate) (before y)) result x z work }
+    requires { Held r (stored_at starts.now cols.now vals.now) }
+    ensures { AnswersIn (certified_held_of r (stored_before starts.now cols.now vals.now) certificate.now y.now) result x z work }
 {
     let read = r.outcome;
     if let Outcome::Refused(number, detail) = read {
@@ -63,7 +63,7 @@ pub fn answer_certified(
     work: &mut [u64],
 ) -> Answer
     requires { CertifiedReady certificate.now work.old }
-    ensures { AnswersIn (λ (a b w : ℕ). answer_text_of (before text) (before certificate) (before y) a b) result x z work }
+    ensures { AnswersIn (λ (a b w : ℕ). answer_text_of text.now certificate.now y.now a b) result x z work }
 {
     let mut starts = [0u32; START_CELLS];
     let mut cols = [0u32; ENTRY_CELLS];

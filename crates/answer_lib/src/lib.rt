@@ -5,7 +5,6 @@ ghost use Rattle.std.specs.Prelude.{ℕ, ◌≡◌, length};
 ghost use Rattle.limits.specs.Limits.{work_length};
 ghost use Rattle.call_answer.specs.Calls.{AnswersIn};
 ghost use Rattle.answer_lib.specs.Answering.{answer_text_of};
-ghost use Rattle.sparse.specs.Views.{before};
 
 use call_answer::Answer;
 
@@ -26,7 +25,7 @@ pub fn answer_text(
     work: &mut [u64],
 ) -> Answer
     requires { length work.old ≡ work_length }
-    ensures { AnswersIn (λ (a b w : ℕ). answer_text_of (before text) (before certificate) (before y) a b) result x z work }
+    ensures { AnswersIn (λ (a b w : ℕ). answer_text_of text.now certificate.now y.now a b) result x z work }
 {
     if certificate.len() == 0 {
         own::answer_own(text, y, x, z, work)

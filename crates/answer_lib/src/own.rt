@@ -6,7 +6,7 @@ ghost use Rattle.stages.specs.Staged.{Fits};
 ghost use Rattle.answer_lib.specs.Answering.{answer_text_of};
 ghost use Rattle.answer_lib.specs.Held.{answer_held_of, answer_staged_of};
 ghost use Rattle.answer_lib.specs.Needs.{StagedReady};
-ghost use Rattle.sparse.specs.Views.{before, stored_at, stored_before, storage_at, storage_before};
+ghost use Rattle.sparse.specs.Views.{stored_at, stored_before, storage_at, storage_before};
 
 use call_answer::Answer;
 use call_answer::from_factors::answer_from_factors;
@@ -34,8 +34,8 @@ fn answer_held(
     z: &mut [u32],
     work: &mut [u64],
 ) -> Answer
-    requires { Fits s (stored_at starts cols vals) (storage_at ro co ls lc lv us uc uv work) }
-    ensures { AnswersIn (answer_held_of s (stored_before starts cols vals) (storage_before ro co ls lc lv us uc uv work) (before y)) result x z work }
+    requires { Fits s (stored_at starts.now cols.now vals.now) (storage_at ro.now co.now ls.now lc.now lv.now us.now uc.now uv.now work.old) }
+    ensures { AnswersIn (answer_held_of s (stored_before starts.now cols.now vals.now) (storage_before ro.now co.now ls.now lc.now lv.now us.now uc.now uv.now work.old) y.now) result x z work }
 {
     let n = s.reading.n as usize;
     let m = s.reading.m as usize;
@@ -85,8 +85,8 @@ fn answer_staged(
     z: &mut [u32],
     work: &mut [u64],
 ) -> Answer
-    requires { StagedReady s (stored_at starts cols vals) (storage_at ro co ls lc lv us uc uv work) }
-    ensures { AnswersIn (answer_staged_of s (stored_before starts cols vals) (storage_before ro co ls lc lv us uc uv work) (before y)) result x z work }
+    requires { StagedReady s (stored_at starts.now cols.now vals.now) (storage_at ro.now co.now ls.now lc.now lv.now us.now uc.now uv.now work.old) }
+    ensures { AnswersIn (answer_staged_of s (stored_before starts.now cols.now vals.now) (storage_before ro.now co.now ls.now lc.now lv.now us.now uc.now uv.now work.old) y.now) result x z work }
 {
     let refused = first_refusal(s);
     if let Outcome::Refused(number, detail) = refused {
@@ -102,7 +102,7 @@ fn answer_staged(
 // Reads a plan's text, factors the plan, and answers a question from its factors.
 pub fn answer_own(text: &[u8], y: &[u32], x: &mut [u32], z: &mut [u32], work: &mut [u64]) -> Answer
     requires { length work.old ≡ work_length }
-    ensures { AnswersIn (λ (a b w : ℕ). answer_text_of (before text) [] (before y) a b) result x z work }
+    ensures { AnswersIn (λ (a b w : ℕ). answer_text_of text.now [] y.now a b) result x z work }
 {
     let mut starts = [0u32; START_CELLS];
     let mut cols = [0u32; ENTRY_CELLS];

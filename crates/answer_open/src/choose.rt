@@ -1,7 +1,7 @@
 // Values for the columns that are no pivot columns, by a fixed rule that looks like chance. Which ones they are decides only how much a witness
 // shows.
 ghost use Rattle.std.specs.Prelude.{◌≤◌, ◌<◌, ◌^◌};
-ghost use Rattle.sparse.specs.Views.{after, view_at, view_before};
+ghost use Rattle.sparse.specs.Views.{view_at, view_before};
 ghost use Rattle.answer_open.specs.Witness.{Chosen};
 ghost use Rattle.answer_open.specs.Needs.{ChooseReady};
 
@@ -28,8 +28,8 @@ fn residue_from(p: u32, x: u32) -> u32
 
 // Gives each column that is no pivot column a residue, and each pivot column 0.
 pub fn choose_values(p: u32, co: &[u32], cob: &[u8], r: usize, seed: u32, values: &mut [u32])
-    requires { ChooseReady p r (view_at co cob) values.old }
-    ensures { Chosen p r (view_before co cob) (after values) }
+    requires { ChooseReady p r (view_at co.now cob.now) values.old }
+    ensures { Chosen p r (view_before co.now cob.now) values.new }
 {
     clear(values);
     let mut x: u32 = 2147483647; // its residue is not 0, so that there is always a witness

@@ -2,7 +2,7 @@
 ghost use Rattle.std.specs.Prelude.{◌≡◌, ◌<◌, length};
 ghost use Rattle.sparse.specs.Row.{Below};
 ghost use Rattle.sparse.specs.Matrix.{row_of};
-ghost use Rattle.sparse.specs.Views.{before, view_at, view_before, viewed_at};
+ghost use Rattle.sparse.specs.Views.{view_at, view_before, viewed_at};
 ghost use Rattle.answer_open.specs.Counting.{closed_at, closed_others};
 ghost use Rattle.answer_open.specs.Needs.{CountReady};
 
@@ -12,7 +12,7 @@ use sparse::words::{bytes_part, count, list_part, word};
 // 1 where the column c is another one than d and not open, else 0.
 fn closed_at(marks: &[u32], d: u32, c: u32) -> usize
     requires { c < length marks.now }
-    ensures { result ≡ closed_at d (before marks) c }
+    ensures { result ≡ closed_at d marks.now c }
 {
     if c == d {
         return 0;
@@ -25,8 +25,8 @@ fn closed_at(marks: &[u32], d: u32, c: u32) -> usize
 
 // How many columns of a sparse row are other ones than d and not open.
 fn closed_others(cols: &[u32], cb: &[u8], marks: &[u32], d: u32) -> usize
-    requires { Below (length marks.now) (view_at cols cb) }
-    ensures { result ≡ closed_others d (before marks) (view_before cols cb) }
+    requires { Below (length marks.now) (view_at cols.now cb.now) }
+    ensures { result ≡ closed_others d marks.now (view_before cols.now cb.now) }
 {
     let n = count(cols, cb);
     let mut found: usize = 0;
@@ -52,8 +52,8 @@ pub fn row_closed(
     k: usize,
     d: u32,
 ) -> usize
-    requires { CountReady p k (viewed_at us usb uc ucb uv uvb) marks.now }
-    ensures { result ≡ closed_others d (before marks) (row_of (view_before us usb) k (view_before uc ucb)) }
+    requires { CountReady p k (viewed_at us.now usb.now uc.now ucb.now uv.now uvb.now) marks.now }
+    ensures { result ≡ closed_others d marks.now (row_of (view_before us.now usb.now) k (view_before uc.now ucb.now)) }
 {
     let a = index(word(us, usb, k));
     let e = index(word(us, usb, k + 1));

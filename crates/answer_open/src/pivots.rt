@@ -1,7 +1,7 @@
 // All open columns, from the last row of U up.
 ghost use Rattle.std.specs.Prelude.{length, get_or};
 ghost use Rattle.lists.specs.Tabulate.{tabulate};
-ghost use Rattle.sparse.specs.Views.{before, after, view_at, view_before, viewed_at, viewed_before, vector_before, matrix_before};
+ghost use Rattle.sparse.specs.Views.{view_at, view_before, viewed_at, viewed_before, vector_before, matrix_before};
 ghost use Rattle.answer_open.specs.Opening.{open_cell, SettledTo, SettledOn, PivotCell, ColumnsListed, AllColumns};
 ghost use Rattle.answer_open.specs.Needs.{PivotCellReady, CountingReady, NextReady, LeftReady, PivotsReady, ColumnsReady};
 
@@ -32,8 +32,8 @@ fn pivot_open(
     r: usize,
     work: &mut [u64],
 ) -> u32
-    requires { PivotCellReady q.p k r (viewed_at us usb uc ucb uv uvb) (view_at co cob) marks.now work.old }
-    ensures { PivotCell (open_cell q.p (length (before work)) (vector_before co cob) (matrix_before us usb uc ucb uv uvb) r (get_or (view_before co cob) k 0)) result (after work) }
+    requires { PivotCellReady q.p k r (viewed_at us.now usb.now uc.now ucb.now uv.now uvb.now) (view_at co.now cob.now) marks.now work.old }
+    ensures { PivotCell (open_cell q.p (length work.old) (vector_before co.now cob.now) (matrix_before us.now usb.now uc.now ucb.now uv.now uvb.now) r (get_or (view_before co.now cob.now) k 0)) result work.new }
 {
     let d = word(co, cob, k);
     if marks[index(d)] != 0 {
@@ -65,8 +65,8 @@ fn settle_by_counts(
     from: usize,
     marks: &mut [u32],
 ) -> usize
-    requires { CountingReady p r from (viewed_at us usb uc ucb uv uvb) (view_at co cob) marks.old }
-    ensures { SettledTo p r (viewed_before us usb uc ucb uv uvb) (view_before co cob) (length (before marks)) from (after marks) result }
+    requires { CountingReady p r from (viewed_at us.now usb.now uc.now ucb.now uv.now uvb.now) (view_at co.now cob.now) marks.old }
+    ensures { SettledTo p r (viewed_before us.now usb.now uc.now ucb.now uv.now uvb.now) (view_before co.now cob.now) (length marks.old) from marks.new result }
 {
     let mut k = from;
     while 0 < k {
@@ -97,8 +97,8 @@ fn settle_next(
     marks: &mut [u32],
     work: &mut [u64],
 ) -> usize
-    requires { NextReady q.p r left (viewed_at us usb uc ucb uv uvb) (view_at co cob) marks.old work.old }
-    ensures { SettledOn q.p r (viewed_before us usb uc ucb uv uvb) (view_before co cob) (length (before marks)) left (after marks) (after work) result }
+    requires { NextReady q.p r left (viewed_at us.now usb.now uc.now ucb.now uv.now uvb.now) (view_at co.now cob.now) marks.old work.old }
+    ensures { SettledOn q.p r (viewed_before us.now usb.now uc.now ucb.now uv.now uvb.now) (view_before co.now cob.now) (length marks.old) left marks.new work.new result }
 {
     let k = left - 1;
     let j = index(word(co, cob, k));
@@ -122,8 +122,8 @@ fn settle_few(
     marks: &mut [u32],
     work: &mut [u64],
 ) -> usize
-    requires { LeftReady q.p r from (viewed_at us usb uc ucb uv uvb) (view_at co cob) marks.old work.old }
-    ensures { SettledOn q.p r (viewed_before us usb uc ucb uv uvb) (view_before co cob) (length (before marks)) from (after marks) (after work) result }
+    requires { LeftReady q.p r from (viewed_at us.now usb.now uc.now ucb.now uv.now uvb.now) (view_at co.now cob.now) marks.old work.old }
+    ensures { SettledOn q.p r (viewed_before us.now usb.now uc.now ucb.now uv.now uvb.now) (view_before co.now cob.now) (length marks.old) from marks.new work.new result }
 {
     let mut left = from;
     let mut tries = FEW_REDUCTIONS;
@@ -153,8 +153,8 @@ fn settle_left(
     marks: &mut [u32],
     work: &mut [u64],
 )
-    requires { LeftReady q.p r left (viewed_at us usb uc ucb uv uvb) (view_at co cob) marks.old work.old }
-    ensures { ColumnsListed (tabulate (length (before marks)) (open_cell q.p (length (before marks)) (vector_before co cob) (matrix_before us usb uc ucb uv uvb) r)) (after marks) (after work) }
+    requires { LeftReady q.p r left (viewed_at us.now usb.now uc.now ucb.now uv.now uvb.now) (view_at co.now cob.now) marks.old work.old }
+    ensures { ColumnsListed (tabulate (length marks.old) (open_cell q.p (length marks.old) (vector_before co.now cob.now) (matrix_before us.now usb.now uc.now ucb.now uv.now uvb.now) r)) marks.new work.new }
 {
     let mut k = left;
     while 0 < k {
@@ -179,8 +179,8 @@ fn open_pivots(
     marks: &mut [u32],
     work: &mut [u64],
 )
-    requires { PivotsReady q.p r (viewed_at us usb uc ucb uv uvb) (view_at co cob) marks.old work.old }
-    ensures { ColumnsListed (tabulate (length (before marks)) (open_cell q.p (length (before marks)) (vector_before co cob) (matrix_before us usb uc ucb uv uvb) r)) (after marks) (after work) }
+    requires { PivotsReady q.p r (viewed_at us.now usb.now uc.now ucb.now uv.now uvb.now) (view_at co.now cob.now) marks.old work.old }
+    ensures { ColumnsListed (tabulate (length marks.old) (open_cell q.p (length marks.old) (vector_before co.now cob.now) (matrix_before us.now usb.now uc.now ucb.now uv.now uvb.now) r)) marks.new work.new }
 {
     clear(marks);
     let counted = settle_by_counts(q.p, us, usb, uc, ucb, uv, uvb, co, cob, r, r, marks);
@@ -206,8 +206,8 @@ pub fn open_columns(
     marks: &mut [u32],
     work: &mut [u64],
 )
-    requires { ColumnsReady q.p r (viewed_at us usb uc ucb uv uvb) (view_at co cob) marks.old work.old }
-    ensures { AllColumns q.p r (view_before co cob) (viewed_before us usb uc ucb uv uvb) (after marks) (after work) }
+    requires { ColumnsReady q.p r (viewed_at us.now usb.now uc.now ucb.now uv.now uvb.now) (view_at co.now cob.now) marks.old work.old }
+    ensures { AllColumns q.p r (view_before co.now cob.now) (viewed_before us.now usb.now uc.now ucb.now uv.now uvb.now) marks.new work.new }
 {
     let m = marks.len();
     open_pivots(

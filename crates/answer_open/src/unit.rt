@@ -1,6 +1,6 @@
 // The unit question of a pivot column, answered by reduction.
 ghost use Rattle.std.specs.Prelude.{length, get_or};
-ghost use Rattle.sparse.specs.Views.{before, after, view_at, view_before, viewed_at, vector_before, matrix_before};
+ghost use Rattle.sparse.specs.Views.{view_at, view_before, viewed_at, vector_before, matrix_before};
 ghost use Rattle.answer_open.specs.Opening.{open_cell, ReducesOn, PivotCell};
 ghost use Rattle.answer_open.specs.Needs.{ReduceFromReady, UnitReady};
 
@@ -24,8 +24,8 @@ fn reduce_from(
     r: usize,
     work: &mut [u64],
 )
-    requires { ReduceFromReady q.p k r (viewed_at us usb uc ucb uv uvb) (view_at co cob) work.old }
-    ensures { ReducesOn q.p (vector_before co cob) (matrix_before us usb uc ucb uv uvb) k r (before work) (after work) }
+    requires { ReduceFromReady q.p k r (viewed_at us.now usb.now uc.now ucb.now uv.now uvb.now) (view_at co.now cob.now) work.old }
+    ensures { ReducesOn q.p (vector_before co.now cob.now) (matrix_before us.now usb.now uc.now ucb.now uv.now uvb.now) k r work.old work.new }
 {
     let mut i = k;
     while i < r {
@@ -50,8 +50,8 @@ pub fn unit_open(
     r: usize,
     work: &mut [u64],
 ) -> u32
-    requires { UnitReady q.p k r (viewed_at us usb uc ucb uv uvb) (view_at co cob) work.old }
-    ensures { PivotCell (open_cell q.p (length (before work)) (vector_before co cob) (matrix_before us usb uc ucb uv uvb) r (get_or (view_before co cob) k 0)) result (after work) }
+    requires { UnitReady q.p k r (viewed_at us.now usb.now uc.now ucb.now uv.now uvb.now) (view_at co.now cob.now) work.old }
+    ensures { PivotCell (open_cell q.p (length work.old) (vector_before co.now cob.now) (matrix_before us.now usb.now uc.now ucb.now uv.now uvb.now) r (get_or (view_before co.now cob.now) k 0)) result work.new }
 {
     let m = work.len();
     let j = index(word(co, cob, k));

@@ -1,6 +1,6 @@
 // Witnesses: a vector z with U z = 0 shows that each column at which it is not 0 is closed.
 ghost use Rattle.std.specs.Prelude.{◌<◌, length};
-ghost use Rattle.sparse.specs.Views.{before, after, view_at, view_before, viewed_at, vector_before, matrix_before};
+ghost use Rattle.sparse.specs.Views.{view_at, view_before, viewed_at, vector_before, matrix_before};
 ghost use Rattle.answer_open.specs.Witness.{NonzeroPivot, ClosedPivot, ChangedOnly, MarkedOne};
 ghost use Rattle.answer_open.specs.Needs.{MarkOneReady, MarkReady, RoundReady, WitnessReady};
 
@@ -17,7 +17,7 @@ const FEW_MISSING: usize = 8;
 // Marks the column c where its value is not 0; gives 1 where it was not marked before, else 0.
 fn mark_one(c: usize, values: &[u32], marks: &mut [u32]) -> usize
     requires { MarkOneReady c values.now marks.old }
-    ensures { MarkedOne c (before values) (before marks) (after marks) result }
+    ensures { MarkedOne c values.now marks.old marks.new result }
 {
     if values[c] == 0 {
         return 0;
@@ -31,8 +31,8 @@ fn mark_one(c: usize, values: &[u32], marks: &mut [u32]) -> usize
 
 // Marks the pivot columns of the first `left` rows whose values are not 0; gives how many were not marked before.
 fn mark_nonzero(co: &[u32], cob: &[u8], left: usize, values: &[u32], marks: &mut [u32]) -> usize
-    requires { MarkReady left (view_at co cob) values.now marks.old }
-    ensures { ChangedOnly (NonzeroPivot left (view_before co cob) (before values)) (before marks) (after marks) }
+    requires { MarkReady left (view_at co.now cob.now) values.now marks.old }
+    ensures { ChangedOnly (NonzeroPivot left (view_before co.now cob.now) values.now) marks.old marks.new }
 {
     let mut found: usize = 0;
     let mut i = 0;
@@ -61,8 +61,8 @@ fn mark_round(
     values: &mut [u32],
     marks: &mut [u32],
 ) -> usize
-    requires { RoundReady q.p r left (viewed_at us usb uc ucb uv uvb) (view_at co cob) values.old marks.old }
-    ensures { ChangedOnly (ClosedPivot q.p (length (before marks)) (vector_before co cob) (matrix_before us usb uc ucb uv uvb) r left) (before marks) (after marks) }
+    requires { RoundReady q.p r left (viewed_at us.now usb.now uc.now ucb.now uv.now uvb.now) (view_at co.now cob.now) values.old marks.old }
+    ensures { ChangedOnly (ClosedPivot q.p (length marks.old) (vector_before co.now cob.now) (matrix_before us.now usb.now uc.now ucb.now uv.now uvb.now) r left) marks.old marks.new }
 {
     choose_values(q.p, co, cob, r, seed, values);
     solve_upper(q, us, usb, uc, ucb, uv, uvb, co, cob, r, values);
@@ -118,8 +118,8 @@ fn mark_rounds(
     values: &mut [u32],
     marks: &mut [u32],
 )
-    requires { RoundReady q.p r left (viewed_at us usb uc ucb uv uvb) (view_at co cob) values.old marks.old }
-    ensures { ChangedOnly (ClosedPivot q.p (length (before marks)) (vector_before co cob) (matrix_before us usb uc ucb uv uvb) r left) (before marks) (after marks) }
+    requires { RoundReady q.p r left (viewed_at us.now usb.now uc.now ucb.now uv.now uvb.now) (view_at co.now cob.now) values.old marks.old }
+    ensures { ChangedOnly (ClosedPivot q.p (length marks.old) (vector_before co.now cob.now) (matrix_before us.now usb.now uc.now ucb.now uv.now uvb.now) r left) marks.old marks.new }
 {
     let mut missing = left;
     let mut rounds = rounds_for(q.p);
@@ -147,8 +147,8 @@ pub fn mark_closed(
     left: usize,
     marks: &mut [u32],
 )
-    requires { WitnessReady q.p r left (viewed_at us usb uc ucb uv uvb) (view_at co cob) marks.old }
-    ensures { ChangedOnly (ClosedPivot q.p (length (before marks)) (vector_before co cob) (matrix_before us usb uc ucb uv uvb) r left) (before marks) (after marks) }
+    requires { WitnessReady q.p r left (viewed_at us.now usb.now uc.now ucb.now uv.now uvb.now) (view_at co.now cob.now) marks.old }
+    ensures { ChangedOnly (ClosedPivot q.p (length marks.old) (vector_before co.now cob.now) (matrix_before us.now usb.now uc.now ucb.now uv.now uvb.now) r left) marks.old marks.new }
 {
     if left == 0 {
         return;

@@ -2,7 +2,7 @@
 ghost use Rattle.std.specs.Prelude.{◌≡◌, length};
 ghost use Rattle.algebra.specs.Sum.{δ};
 ghost use Rattle.algebra.specs.Matrix.{vector};
-ghost use Rattle.sparse.specs.Views.{before, after, view_at, viewed_at, viewed_set_at, viewed_set_before, vector_before, matrix_before};
+ghost use Rattle.sparse.specs.Views.{view_at, viewed_at, viewed_set_at, viewed_set_before, vector_before, matrix_before};
 ghost use Rattle.row_space.specs.Substitution.{through_l, through_u};
 ghost use Rattle.row_space.specs.Solving.{residues};
 ghost use Rattle.row_space.specs.Solve.{solve};
@@ -31,8 +31,8 @@ pub fn open_answer(
     z: &mut [u32],
     work: &mut [u64],
 )
-    requires { OpenReady q.p (viewed_at ls lsb lc lcb lv lvb) (view_at ro rob) x.old z.old work.old }
-    ensures { Opened (through_l q.p (length (before x)) (length (before work)) (vector_before ro rob) (matrix_before ls lsb lc lcb lv lvb) (residues q.p (before z))) (after x) (after z) (after work) }
+    requires { OpenReady q.p (viewed_at ls.now lsb.now lc.now lcb.now lv.now lvb.now) (view_at ro.now rob.now) x.old z.old work.old }
+    ensures { Opened (through_l q.p (length x.old) (length work.old) (vector_before ro.now rob.now) (matrix_before ls.now lsb.now lc.now lcb.now lv.now lvb.now) (residues q.p z.old)) x.new z.new work.new }
 {
     load(z, work);
     clear(x);
@@ -55,8 +55,8 @@ pub fn kernel_vector(
     j: usize,
     z: &mut [u32],
 )
-    requires { ClosedReady q.p r j (viewed_at us usb uc ucb uv uvb) (view_at co cob) z.old }
-    ensures { after z ≡ through_u q.p (length (before z)) r (vector_before co cob) (matrix_before us usb uc ucb uv uvb) (δ j) }
+    requires { ClosedReady q.p r j (viewed_at us.now usb.now uc.now ucb.now uv.now uvb.now) (view_at co.now cob.now) z.old }
+    ensures { z.new ≡ through_u q.p (length z.old) r (vector_before co.now cob.now) (matrix_before us.now usb.now uc.now ucb.now uv.now uvb.now) (δ j) }
 {
     clear(z);
     z[j] = 1;
@@ -79,8 +79,8 @@ pub fn closed_answer(
     x: &mut [u32],
     z: &mut [u32],
 )
-    requires { ClosedReady q.p r j (viewed_at us usb uc ucb uv uvb) (view_at co cob) z.old }
-    ensures { ClosedAs (through_u q.p (length (before z)) r (vector_before co cob) (matrix_before us usb uc ucb uv uvb) (δ j)) (after x) (after z) }
+    requires { ClosedReady q.p r j (viewed_at us.now usb.now uc.now ucb.now uv.now uvb.now) (view_at co.now cob.now) z.old }
+    ensures { ClosedAs (through_u q.p (length z.old) r (vector_before co.now cob.now) (matrix_before us.now usb.now uc.now ucb.now uv.now uvb.now) (δ j)) x.new z.new }
 {
     clear(x);
     kernel_vector(q, us, usb, uc, ucb, uv, uvb, co, cob, r, j, z);
@@ -111,8 +111,8 @@ pub fn answer(
     z: &mut [u32],
     work: &mut [u64],
 ) -> Verdict
-    requires { AnswerReady q.p (viewed_set_at r ro rob co cob ls lsb lc lcb lv lvb us usb uc ucb uv uvb) y.now x.old z.old work.old }
-    ensures { Answered (solve q.p (length (before x)) (length (before z)) (viewed_set_before r ro rob co cob ls lsb lc lcb lv lvb us usb uc ucb uv uvb) (vector (before y))) result (after x) (after z) (after work) }
+    requires { AnswerReady q.p (viewed_set_at r ro.now rob.now co.now cob.now ls.now lsb.now lc.now lcb.now lv.now lvb.now us.now usb.now uc.now ucb.now uv.now uvb.now) y.now x.old z.old work.old }
+    ensures { Answered (solve q.p (length x.old) (length z.old) (viewed_set_before r ro.now rob.now co.now cob.now ls.now lsb.now lc.now lcb.now lv.now lvb.now us.now usb.now uc.now ucb.now uv.now uvb.now) (vector y.now)) result x.new z.new work.new }
 {
     let m = z.len();
     let j = reduce_question(

@@ -1,7 +1,6 @@
 // The test of a question.
 ghost use Rattle.std.specs.Prelude.{◌≡◌, ◌^◌, ◌<◌, length};
 ghost use Rattle.row_space.specs.Question.{question_outcome};
-ghost use Rattle.sparse.specs.Views.{before};
 
 use refusals::Outcome;
 use refusals::numbers::QUESTION_TOO_LARGE;
@@ -9,7 +8,7 @@ use refusals::numbers::QUESTION_TOO_LARGE;
 // Refuses a question with a value that is p or more: 15, at the first such index.
 pub fn question_ok(y: &[u32], p: u32) -> Outcome
     requires { length y.now < 2 ^ 32 }
-    ensures { result ≡ question_outcome p (before y) }
+    ensures { result ≡ question_outcome p y.now }
 {
     let mut j = 0;
     while j < y.len() {

@@ -1,7 +1,7 @@
 // The reduction of a question by the rows of U, in order, in the working row.
 ghost use Rattle.std.specs.Prelude.{◌≡◌, ◌%◌, ◌≤◌, ◌<◌, length, get_or, take};
 ghost use Rattle.algebra.specs.Matrix.{vector};
-ghost use Rattle.sparse.specs.Views.{before, after, view_at, viewed_at, viewed_before, vector_before, matrix_before};
+ghost use Rattle.sparse.specs.Views.{view_at, viewed_at, viewed_before, vector_before, matrix_before};
 ghost use Rattle.answer_question.specs.Needs.{EliminationReady, MultiplesReady, QuestionReady};
 ghost use Rattle.answer_question.specs.Reducing.{Eliminated, Reduced, QuestionReduced};
 ghost use Rattle.row_space.specs.Solve.{lowest_of};
@@ -15,7 +15,7 @@ use sparse::words::word;
 // Fills the working row with the first numbers of a list.
 pub fn load(list: &[u32], work: &mut [u64])
     requires { length work.old ≤ length list.now }
-    ensures { after work ≡ take (length (before work)) (before list) }
+    ensures { work.new ≡ take (length work.old) list.now }
 {
     let mut i = 0;
     while i < work.len() {
@@ -37,8 +37,8 @@ pub fn reduce_by_row(
     c: usize,
     work: &mut [u64],
 ) -> u32
-    requires { EliminationReady q.p k c (viewed_at us usb uc ucb uv uvb) work.old }
-    ensures { Eliminated q.p (viewed_before us usb uc ucb uv uvb) k c (before work) (after work) result }
+    requires { EliminationReady q.p k c (viewed_at us.now usb.now uc.now ucb.now uv.now uvb.now) work.old }
+    ensures { Eliminated q.p (viewed_before us.now usb.now uc.now ucb.now uv.now uvb.now) k c work.old work.new result }
 {
     let v = q.reduce_cell(work[c]);
     if v == 0 {
@@ -63,8 +63,8 @@ pub fn reduce(
     multiples: &mut [u32],
     work: &mut [u64],
 )
-    requires { MultiplesReady q.p r (viewed_at us usb uc ucb uv uvb) (view_at co cob) multiples.old work.old }
-    ensures { Reduced q.p (vector_before co cob) (matrix_before us usb uc ucb uv uvb) r (vector (before work)) (after multiples) (after work) }
+    requires { MultiplesReady q.p r (viewed_at us.now usb.now uc.now ucb.now uv.now uvb.now) (view_at co.now cob.now) multiples.old work.old }
+    ensures { Reduced q.p (vector_before co.now cob.now) (matrix_before us.now usb.now uc.now ucb.now uv.now uvb.now) r (vector work.old) multiples.new work.new }
 {
     let mut k = 0;
     while k < r {
@@ -77,7 +77,7 @@ pub fn reduce(
 // The lowest place at which the working row does not stand for 0, or its length.
 pub fn lowest_nonzero(q: Modulus, work: &[u64]) -> usize
     requires { 0 < q.p }
-    ensures { result ≡ lowest_of (length (before work)) (λ l. get_or (before work) l 0 % q.p) }
+    ensures { result ≡ lowest_of (length work.now) (λ l. get_or work.now l 0 % q.p) }
 {
     first_nonzero(q, work)
 }
@@ -98,8 +98,8 @@ pub fn reduce_question(
     multiples: &mut [u32],
     work: &mut [u64],
 ) -> usize
-    requires { QuestionReady q.p r (viewed_at us usb uc ucb uv uvb) (view_at co cob) y.now multiples.old work.old }
-    ensures { QuestionReduced q.p (vector_before co cob) (matrix_before us usb uc ucb uv uvb) r (vector (before y)) (after multiples) (after work) result }
+    requires { QuestionReady q.p r (viewed_at us.now usb.now uc.now ucb.now uv.now uvb.now) (view_at co.now cob.now) y.now multiples.old work.old }
+    ensures { QuestionReduced q.p (vector_before co.now cob.now) (matrix_before us.now usb.now uc.now ucb.now uv.now uvb.now) r (vector y.now) multiples.new work.new result }
 {
     load(y, work);
     reduce(q, us, usb, uc, ucb, uv, uvb, co, cob, r, multiples, work);

@@ -1,6 +1,6 @@
 // w with w A = 0, from the slot that contradicts the pivot rows.
 ghost use Rattle.std.specs.Prelude.{length};
-ghost use Rattle.sparse.specs.Views.{before, after, view_at, viewed_at, vector_before, matrix_before};
+ghost use Rattle.sparse.specs.Views.{view_at, viewed_at, vector_before, matrix_before};
 ghost use Rattle.answer_slots.specs.Solving.{left_kernel_from, Contradicted};
 ghost use Rattle.answer_slots.specs.Needs.{ContradictReady};
 
@@ -25,8 +25,8 @@ pub fn contradict(
     w: &mut [u32],
     work: &mut [u64],
 )
-    requires { ContradictReady q.p i (viewed_at ls lsb lc lcb lv lvb) (view_at ro rob) w.old work.old }
-    ensures { Contradicted (left_kernel_from q.p (length (before w)) (length (before work)) (vector_before ro rob) (matrix_before ls lsb lc lcb lv lvb) i) (after w) (after work) }
+    requires { ContradictReady q.p i (viewed_at ls.now lsb.now lc.now lcb.now lv.now lvb.now) (view_at ro.now rob.now) w.old work.old }
+    ensures { Contradicted (left_kernel_from q.p (length w.old) (length work.old) (vector_before ro.now rob.now) (matrix_before ls.now lsb.now lc.now lcb.now lv.now lvb.now) i) w.new work.new }
 {
     subtract_row(q, ls, lsb, lc, lcb, lv, lvb, i, 1, work);
     solve_lower(q, ls, lsb, lc, lcb, lv, lvb, ro, rob, w, work);

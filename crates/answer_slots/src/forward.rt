@@ -4,7 +4,7 @@ ghost use Rattle.lists.specs.Tabulate.{tabulate};
 ghost use Rattle.algebra.specs.Matrix.{vector};
 ghost use Rattle.residue.specs.Arithmetic.{Residue};
 ghost use Rattle.residue.specs.Inverse.{inv_mod};
-ghost use Rattle.sparse.specs.Views.{before, after, view_at, viewed_at, vector_before, matrix_before};
+ghost use Rattle.sparse.specs.Views.{view_at, viewed_at, vector_before, matrix_before};
 ghost use Rattle.column_space.specs.Substitution.{lacking, forward};
 ghost use Rattle.column_space.specs.Slots.{in_order};
 ghost use Rattle.answer_slots.specs.Needs.{ForwardRowReady, ForwardReady};
@@ -29,8 +29,8 @@ fn forward_value(
     d: u32,
     t: &[u32],
 ) -> u32
-    requires { ForwardRowReady q.p k d (viewed_at ls lsb lc lcb lv lvb) t.now }
-    ensures { Residue q.p ((lacking q.p (length (before t)) (matrix_before ls lsb lc lcb lv lvb k) (vector (before t)) d * inv_mod q.p (matrix_before ls lsb lc lcb lv lvb k k)) % q.p) result }
+    requires { ForwardRowReady q.p k d (viewed_at ls.now lsb.now lc.now lcb.now lv.now lvb.now) t.now }
+    ensures { Residue q.p ((lacking q.p (length t.now) (matrix_before ls.now lsb.now lc.now lcb.now lv.now lvb.now k) (vector t.now) d * inv_mod q.p (matrix_before ls.now lsb.now lc.now lcb.now lv.now lvb.now k k)) % q.p) result }
 {
     let lacking = lacking_value(q, ls, lsb, lc, lcb, lv, lvb, k, t, d);
     q.multiply(lacking, inverse_diagonal(q, ls, lsb, lc, lcb, lv, lvb, k))
@@ -50,8 +50,8 @@ pub fn forward(
     h: &[u32],
     t: &mut [u32],
 )
-    requires { ForwardReady q.p (viewed_at ls lsb lc lcb lv lvb) (view_at ro rob) h.now t.old }
-    ensures { after t ≡ tabulate (length (before t)) (forward q.p (matrix_before ls lsb lc lcb lv lvb) (length (before t)) (in_order (vector_before ro rob) (vector (before h)))) }
+    requires { ForwardReady q.p (viewed_at ls.now lsb.now lc.now lcb.now lv.now lvb.now) (view_at ro.now rob.now) h.now t.old }
+    ensures { t.new ≡ tabulate (length t.old) (forward q.p (matrix_before ls.now lsb.now lc.now lcb.now lv.now lvb.now) (length t.old) (in_order (vector_before ro.now rob.now) (vector h.now))) }
 {
     let mut k = 0;
     while k < t.len() {

@@ -1,7 +1,7 @@
 // The lowest-numbered slot with a gap: its value differs from its row of L times the values t.
 ghost use Rattle.std.specs.Prelude.{◌≡◌, ◌+◌, length};
 ghost use Rattle.algebra.specs.Matrix.{vector};
-ghost use Rattle.sparse.specs.Views.{before, view_at, view_before, viewed_at, vector_before, matrix_before};
+ghost use Rattle.sparse.specs.Views.{view_at, view_before, viewed_at, vector_before, matrix_before};
 ghost use Rattle.answer_slots.specs.Solving.{SlotAt, gap_from, LowestBelow, lowest_position};
 ghost use Rattle.answer_slots.specs.Needs.{GapReady, BetterReady, GapsReady};
 
@@ -12,7 +12,7 @@ use sparse::words::{count, word};
 
 // The slot at position i; the number of slots where i is no position.
 fn slot_at(ro: &[u32], rob: &[u8], i: usize) -> usize
-    ensures { SlotAt (view_before ro rob) i result }
+    ensures { SlotAt (view_before ro.now rob.now) i result }
 {
     let n = count(ro, rob);
     if i < n {
@@ -36,8 +36,8 @@ fn gap(
     t: &[u32],
     i: usize,
 ) -> u32
-    requires { GapReady q.p i (viewed_at ls lsb lc lcb lv lvb) (view_at ro rob) h.now t.now }
-    ensures { result ≡ gap_from q.p (vector_before ro rob) (matrix_before ls lsb lc lcb lv lvb) (vector (before h)) (before t) i }
+    requires { GapReady q.p i (viewed_at ls.now lsb.now lc.now lcb.now lv.now lvb.now) (view_at ro.now rob.now) h.now t.now }
+    ensures { result ≡ gap_from q.p (vector_before ro.now rob.now) (matrix_before ls.now lsb.now lc.now lcb.now lv.now lvb.now) (vector h.now) t.now i }
 {
     let slot = index(word(ro, rob, i));
     lacking_value(q, ls, lsb, lc, lcb, lv, lvb, i, t, h[slot])
@@ -60,8 +60,8 @@ fn better(
     i: usize,
     best: usize,
 ) -> usize
-    requires { BetterReady q.p i best (viewed_at ls lsb lc lcb lv lvb) (view_at ro rob) h.now t.now }
-    ensures { LowestBelow (length (before h)) (vector_before ro rob) (gap_from q.p (vector_before ro rob) (matrix_before ls lsb lc lcb lv lvb) (vector (before h)) (before t)) (i + 1) result }
+    requires { BetterReady q.p i best (viewed_at ls.now lsb.now lc.now lcb.now lv.now lvb.now) (view_at ro.now rob.now) h.now t.now }
+    ensures { LowestBelow (length h.now) (vector_before ro.now rob.now) (gap_from q.p (vector_before ro.now rob.now) (matrix_before ls.now lsb.now lc.now lcb.now lv.now lvb.now) (vector h.now) t.now) (i + 1) result }
 {
     if slot_at(ro, rob, best) <= slot_at(ro, rob, i) {
         return best;
@@ -86,8 +86,8 @@ pub fn lowest_gap(
     h: &[u32],
     t: &[u32],
 ) -> usize
-    requires { GapsReady q.p (viewed_at ls lsb lc lcb lv lvb) (view_at ro rob) h.now t.now }
-    ensures { result ≡ lowest_position q.p (length (before h)) (vector_before ro rob) (matrix_before ls lsb lc lcb lv lvb) (vector (before h)) (before t) }
+    requires { GapsReady q.p (viewed_at ls.now lsb.now lc.now lcb.now lv.now lvb.now) (view_at ro.now rob.now) h.now t.now }
+    ensures { result ≡ lowest_position q.p (length h.now) (vector_before ro.now rob.now) (matrix_before ls.now lsb.now lc.now lcb.now lv.now lvb.now) (vector h.now) t.now }
 {
     let n = h.len();
     let mut best = n;

@@ -1,7 +1,7 @@
 // What a number has over a row times a list of values.
 ghost use Rattle.std.specs.Prelude.{◌≡◌, length};
 ghost use Rattle.algebra.specs.Matrix.{vector};
-ghost use Rattle.sparse.specs.Views.{before, viewed_at, matrix_before};
+ghost use Rattle.sparse.specs.Views.{viewed_at, matrix_before};
 ghost use Rattle.column_space.specs.Substitution.{lacking};
 ghost use Rattle.answer_slots.specs.Needs.{LackingReady};
 
@@ -21,8 +21,8 @@ pub fn lacking_value(
     z: &[u32],
     d: u32,
 ) -> u32
-    requires { LackingReady q.p k d (viewed_at starts sb cols cb vals vb) z.now }
-    ensures { result ≡ lacking q.p (length (before z)) (matrix_before starts sb cols cb vals vb k) (vector (before z)) d }
+    requires { LackingReady q.p k d (viewed_at starts.now sb.now cols.now cb.now vals.now vb.now) z.now }
+    ensures { result ≡ lacking q.p (length z.now) (matrix_before starts.now sb.now cols.now cb.now vals.now vb.now k) (vector z.now) d }
 {
     q.add(d, missing_value(q, starts, sb, cols, cb, vals, vb, k, z))
 }

@@ -2,7 +2,7 @@
 ghost use Rattle.std.specs.Prelude.{◌≡◌, length};
 ghost use Rattle.lists.specs.Tabulate.{tabulate};
 ghost use Rattle.algebra.specs.Matrix.{vector};
-ghost use Rattle.sparse.specs.Views.{before, after, view_at, viewed_at, vector_before, matrix_before};
+ghost use Rattle.sparse.specs.Views.{view_at, viewed_at, vector_before, matrix_before};
 ghost use Rattle.column_space.specs.Substitution.{settle};
 ghost use Rattle.answer_slots.specs.Needs.{UpperValuesReady};
 
@@ -25,8 +25,8 @@ pub fn settle(
     t: &[u32],
     s: &mut [u32],
 )
-    requires { UpperValuesReady q.p (viewed_at us usb uc ucb uv uvb) (view_at co cob) t.now s.old }
-    ensures { after s ≡ tabulate (length (before s)) (settle q.p (length (before s)) (vector_before co cob) (matrix_before us usb uc ucb uv uvb) (vector (before t)) (length (before t)) (vector (before s))) }
+    requires { UpperValuesReady q.p (viewed_at us.now usb.now uc.now ucb.now uv.now uvb.now) (view_at co.now cob.now) t.now s.old }
+    ensures { s.new ≡ tabulate (length s.old) (settle q.p (length s.old) (vector_before co.now cob.now) (matrix_before us.now usb.now uc.now ucb.now uv.now uvb.now) (vector t.now) (length t.now) (vector s.old)) }
 {
     let mut k = t.len();
     while 0 < k {

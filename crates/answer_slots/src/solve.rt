@@ -2,7 +2,7 @@
 ghost use Rattle.std.specs.Prelude.{length, take};
 ghost use Rattle.lists.specs.Tabulate.{tabulate};
 ghost use Rattle.algebra.specs.Matrix.{vector};
-ghost use Rattle.sparse.specs.Views.{before, after, view_at, viewed_at, viewed_set_at, viewed_set_before, vector_before, matrix_before};
+ghost use Rattle.sparse.specs.Views.{view_at, viewed_at, viewed_set_at, viewed_set_before, vector_before, matrix_before};
 ghost use Rattle.column_space.specs.Substitution.{settle};
 ghost use Rattle.column_space.specs.Slots.{solve_slots};
 ghost use Rattle.answer_slots.specs.Needs.{ValuesReady, SolvedReady, ContradictedReady, SlotsReady};
@@ -31,8 +31,8 @@ fn values_and_gap(
     h: &[u32],
     w: &mut [u32],
 ) -> usize
-    requires { ValuesReady q.p r (viewed_at ls lsb lc lcb lv lvb) (view_at ro rob) h.now w.old }
-    ensures { ValuesFound q.p r (vector_before ro rob) (matrix_before ls lsb lc lcb lv lvb) (vector (before h)) (after w) result }
+    requires { ValuesReady q.p r (viewed_at ls.now lsb.now lc.now lcb.now lv.now lvb.now) (view_at ro.now rob.now) h.now w.old }
+    ensures { ValuesFound q.p r (vector_before ro.now rob.now) (matrix_before ls.now lsb.now lc.now lcb.now lv.now lvb.now) (vector h.now) w.new result }
 {
     clear(w);
     forward(q, ls, lsb, lc, lcb, lv, lvb, ro, rob, h, &mut w[..r]);
@@ -54,8 +54,8 @@ fn solved_answer(
     s: &mut [u32],
     w: &mut [u32],
 )
-    requires { SolvedReady q.p r (viewed_at us usb uc ucb uv uvb) (view_at co cob) s.old w.old }
-    ensures { SolvedAs (tabulate (length (before s)) (settle q.p (length (before s)) (vector_before co cob) (matrix_before us usb uc ucb uv uvb) (vector (take r (before w))) r (λ j. 0))) (after s) (after w) }
+    requires { SolvedReady q.p r (viewed_at us.now usb.now uc.now ucb.now uv.now uvb.now) (view_at co.now cob.now) s.old w.old }
+    ensures { SolvedAs (tabulate (length s.old) (settle q.p (length s.old) (vector_before co.now cob.now) (matrix_before us.now usb.now uc.now ucb.now uv.now uvb.now) (vector (take r w.old)) r (λ j. 0))) s.new w.new }
 {
     clear(s);
     settle(q, us, usb, uc, ucb, uv, uvb, co, cob, &w[..r], s);
@@ -79,8 +79,8 @@ fn contradicted_answer(
     w: &mut [u32],
     work: &mut [u64],
 )
-    requires { ContradictedReady q.p r i (viewed_at ls lsb lc lcb lv lvb) (view_at ro rob) w.old work.old }
-    ensures { ContradictedAs (left_kernel_from q.p (length (before w)) r (vector_before ro rob) (matrix_before ls lsb lc lcb lv lvb) i) (after s) (after w) (after work) }
+    requires { ContradictedReady q.p r i (viewed_at ls.now lsb.now lc.now lcb.now lv.now lvb.now) (view_at ro.now rob.now) w.old work.old }
+    ensures { ContradictedAs (left_kernel_from q.p (length w.old) r (vector_before ro.now rob.now) (matrix_before ls.now lsb.now lc.now lcb.now lv.now lvb.now) i) s.new w.new work.new }
 {
     clear(s);
     clear(w);
@@ -112,8 +112,8 @@ pub fn solve(
     w: &mut [u32],
     work: &mut [u64],
 ) -> SlotVerdict
-    requires { SlotsReady q.p (viewed_set_at r ro rob co cob ls lsb lc lcb lv lvb us usb uc ucb uv uvb) h.now s.old w.old work.old }
-    ensures { SlotsAnswered (solve_slots q.p (length (before w)) (length (before s)) (viewed_set_before r ro rob co cob ls lsb lc lcb lv lvb us usb uc ucb uv uvb) (vector (before h))) result (after s) (after w) (after work) }
+    requires { SlotsReady q.p (viewed_set_at r ro.now rob.now co.now cob.now ls.now lsb.now lc.now lcb.now lv.now lvb.now us.now usb.now uc.now ucb.now uv.now uvb.now) h.now s.old w.old work.old }
+    ensures { SlotsAnswered (solve_slots q.p (length w.old) (length s.old) (viewed_set_before r ro.now rob.now co.now cob.now ls.now lsb.now lc.now lcb.now lv.now lvb.now us.now usb.now uc.now ucb.now uv.now uvb.now) (vector h.now)) result s.new w.new work.new }
 {
     let i = values_and_gap(q, ls, lsb, lc, lcb, lv, lvb, ro, rob, r, h, w);
     if i < h.len() {

@@ -16,7 +16,7 @@ fn print_lines(
     marks: &[u64],
     out: &mut [u8],
 )
-    requires { LinesReady g co.now (stored_at us uc uv) marks.now out.old }
+    requires { LinesReady g co.now (stored_at us.now uc.now uv.now) marks.now out.old }
 {
     let columns = g.columns as usize;
     let mut c = 0;

@@ -8,7 +8,7 @@ ghost use Rattle.ask_lib.specs.Asking.{AskLists, Asks};
 ghost use Rattle.print_text.specs.Printed.{Prints};
 ghost use Rattle.ask_lib.specs.Held.{answer_line_of, held_answer, AnswerHeld, stages_refusal, staged_line};
 ghost use Rattle.ask_lib.specs.Needs.{LineReady, Answerable, RowCountable, AskStagedReady};
-ghost use Rattle.sparse.specs.Views.{before, after, stored_at, stored_before, storage_at, storage_before};
+ghost use Rattle.sparse.specs.Views.{stored_at, stored_before, storage_at, storage_before};
 
 use call_answer::Answer;
 use call_answer::from_factors::answer_from_factors;
@@ -22,7 +22,7 @@ use stages::{Stages, factor_text};
 // Writes the line of an answer: of a refusal, whose index counts from 1 in print, or the verdict with the n values of x or the m of z.
 fn write_line(answer: Answer, n: u32, m: u32, xs: &[u32], zs: &[u32], out: &mut [u8]) -> usize
     requires { LineReady (answer_detail answer) n m xs.now zs.now out.old }
-    ensures { Fills (before out) (after out) result (answer_line_of answer (take n (before xs)) (take m (before zs))) }
+    ensures { Fills out.old out.new result (answer_line_of answer (take n xs.now) (take m zs.now)) }
 {
     let x = &xs[..n as usize];
     let z = &zs[..m as usize];
@@ -74,8 +74,8 @@ fn answer_held(
     z: &mut [u32],
     work: &mut [u64],
 ) -> Answer
-    requires { Answerable s (stored_at starts cols vals) (storage_at ro co ls lc lv us uc uv work) y.now x.old z.old }
-    ensures { AnswerHeld (held_answer s (stored_before starts cols vals) (storage_before ro co ls lc lv us uc uv work) (before y)) result s.reading.n s.reading.m (after x) (after z) (before work) (after work) }
+    requires { Answerable s (stored_at starts.now cols.now vals.now) (storage_at ro.now co.now ls.now lc.now lv.now us.now uc.now uv.now work.old) y.now x.old z.old }
+    ensures { AnswerHeld (held_answer s (stored_before starts.now cols.now vals.now) (storage_before ro.now co.now ls.now lc.now lv.now us.now uc.now uv.now work.old) y.now) result s.reading.n s.reading.m x.new z.new work.old work.new }
 {
     let n = s.reading.n as usize;
     let m = s.reading.m as usize;
@@ -124,8 +124,8 @@ fn ask_staged(
     out: &mut [u8],
     work: &mut [u64],
 ) -> usize
-    requires { AskStagedReady s (stored_at starts cols vals) (storage_at ro co ls lc lv us uc uv work) y.now out.old }
-    ensures { Prints (staged_line s (stored_before starts cols vals) (storage_before ro co ls lc lv us uc uv work) (before y)) result (before out) (after out) (before work) (after work) }
+    requires { AskStagedReady s (stored_at starts.now cols.now vals.now) (storage_at ro.now co.now ls.now lc.now lv.now us.now uc.now uv.now work.old) y.now out.old }
+    ensures { Prints (staged_line s (stored_before starts.now cols.now vals.now) (storage_before ro.now co.now ls.now lc.now lv.now us.now uc.now uv.now work.old) y.now) result out.old out.new work.old work.new }
 {
     let refused = refusal(s);
     if let Outcome::Refused(number, detail) = refused {
@@ -145,7 +145,7 @@ fn ask_staged(
 //   leaves   the buffer zero past the line, and the working row all zero
 pub fn ask(text: &[u8], y: &[u32], out: &mut [u8], work: &mut [u64]) -> usize
     requires { AskLists y.now out.old work.old }
-    ensures { Asks (before text) (before y) result (before out) (after out) (before work) (after work) }
+    ensures { Asks text.now y.now result out.old out.new work.old work.new }
 {
     let mut starts = [0u32; START_CELLS];
     let mut cols = [0u32; ENTRY_CELLS];

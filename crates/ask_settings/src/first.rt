@@ -1,5 +1,5 @@
 // The first line, and what the others are made from.
-ghost use Rattle.sparse.specs.Views.{before, after, stored_at, stored_after};
+ghost use Rattle.sparse.specs.Views.{stored_at, stored_after};
 ghost use Rattle.ask_settings.specs.Held.{BegunFrom, BeginsSettings};
 ghost use Rattle.ask_settings.specs.Needs.{BeginStagedReady, BeginLists};
 
@@ -15,7 +15,7 @@ use stages::{Stages, factor_text};
 // Writes the line of the refusal that the stages ended with, or how many columns are free, and marks the pivot columns in the working row.
 fn begin_staged(s: Stages, co: &[u32], out: &mut [u8], work: &mut [u64]) -> Begun
     requires { BeginStagedReady s co.now out.old work.old }
-    ensures { BegunFrom s result (before co) (before out) (after out) (after work) }
+    ensures { BegunFrom s result co.now out.old out.new work.new }
 {
     let refused = refusal(s);
     if let Outcome::Refused(number, detail) = refused {
@@ -56,8 +56,8 @@ pub fn begin(
     out: &mut [u8],
     work: &mut [u64],
 ) -> Begun
-    requires { BeginLists co.old (stored_at us uc uv) out.old work.old }
-    ensures { BeginsSettings (before text) result (after co) (stored_after us uc uv) (after work) (before out) (after out) }
+    requires { BeginLists co.old (stored_at us.old uc.old uv.old) out.old work.old }
+    ensures { BeginsSettings text.now result co.new (stored_after us.new uc.new uv.new) work.new out.old out.new }
 {
     let mut starts = [0u32; START_CELLS];
     let mut cols = [0u32; ENTRY_CELLS];

@@ -3,7 +3,7 @@ ghost use Rattle.std.specs.Prelude.{length, ◌≡◌};
 ghost use Rattle.algebra.specs.Sum.{δ};
 ghost use Rattle.algebra.specs.Matrix.{vector};
 ghost use Rattle.sparse.specs.Matrix.{matrix};
-ghost use Rattle.sparse.specs.Views.{before, after, stored_at, stored_before};
+ghost use Rattle.sparse.specs.Views.{stored_at, stored_before};
 ghost use Rattle.row_space.specs.Substitution.{through_u};
 ghost use Rattle.row_space.specs.Kernel.{setting};
 ghost use Rattle.answer_question.specs.Needs.{ClosedReady};
@@ -31,8 +31,8 @@ fn fill_setting(
     c: usize,
     z: &mut [u32],
 )
-    requires { ClosedReady q.p r c (stored_at us uc uv) co.now z.old }
-    ensures { after z ≡ through_u q.p (length (before z)) r (vector (before co)) (matrix (stored_before us uc uv)) (δ c) }
+    requires { ClosedReady q.p r c (stored_at us.now uc.now uv.now) co.now z.old }
+    ensures { z.new ≡ through_u q.p (length z.old) r (vector co.now) (matrix (stored_before us.now uc.now uv.now)) (δ c) }
 {
     let none: &[u8] = b"";
     kernel_vector(q, us, none, uc, none, uv, none, co, none, r, c, z);
@@ -48,8 +48,8 @@ fn free_line(
     c: usize,
     out: &mut [u8],
 ) -> usize
-    requires { FreeLineReady g co.now (stored_at us uc uv) c out.old }
-    ensures { Fills (before out) (after out) result (setting_line (setting g.p g.columns (held_upper g (before co) (stored_before us uc uv)) c)) }
+    requires { FreeLineReady g co.now (stored_at us.now uc.now uv.now) c out.old }
+    ensures { Fills out.old out.new result (setting_line (setting g.p g.columns (held_upper g co.now (stored_before us.now uc.now uv.now)) c)) }
 {
     let q = Modulus { p: g.p };
     let m = g.columns as usize;
@@ -83,8 +83,8 @@ pub fn setting_line(
     c: usize,
     out: &mut [u8],
 ) -> usize
-    requires { ColumnLineReady g co.now (stored_at us uc uv) marks.now c out.old }
-    ensures { Fills (before out) (after out) result (setting_line_at g.p g.columns (held_upper g (before co) (stored_before us uc uv)) c) }
+    requires { ColumnLineReady g co.now (stored_at us.now uc.now uv.now) marks.now c out.old }
+    ensures { Fills out.old out.new result (setting_line_at g.p g.columns (held_upper g co.now (stored_before us.now uc.now uv.now)) c) }
 {
     if marks[c] != 0 {
         clear_bytes(out);

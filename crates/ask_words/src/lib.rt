@@ -10,7 +10,7 @@ ghost use Rattle.ask_lib.specs.Needs.{LineReady};
 ghost use Rattle.ask_words.specs.Solving.{TellsWords};
 ghost use Rattle.ask_words.specs.Held.{solution_line_of, held_slots, SlotsHeld, staged_words};
 ghost use Rattle.ask_words.specs.Needs.{Solvable, WordsStagedReady};
-ghost use Rattle.sparse.specs.Views.{before, after, stored_at, stored_before, storage_at, storage_before};
+ghost use Rattle.sparse.specs.Views.{stored_at, stored_before, storage_at, storage_before};
 
 use ask_lib::refusal;
 use call_slots::Solution;
@@ -26,7 +26,7 @@ use stages::{Stages, factor_owned};
 // `contradiction` with the n values of the combination.
 fn write_line(answer: Solution, n: u32, m: u32, ss: &[u32], ws: &[u32], out: &mut [u8]) -> usize
     requires { LineReady (solution_detail answer) n m ws.now ss.now out.old }
-    ensures { Fills (before out) (after out) result (solution_line_of answer (take m (before ss)) (take n (before ws))) }
+    ensures { Fills out.old out.new result (solution_line_of answer (take m ss.now) (take n ws.now)) }
 {
     let s = &ss[..m as usize];
     let w = &ws[..n as usize];
@@ -60,8 +60,8 @@ fn solve_held(
     combination: &mut [u32],
     work: &mut [u64],
 ) -> Solution
-    requires { Solvable s (stored_at starts cols vals) owners.now (storage_at ro co ls lc lv us uc uv work) h.now setting.old combination.old }
-    ensures { SlotsHeld (held_slots s (stored_before starts cols vals) (storage_before ro co ls lc lv us uc uv work) (before h)) result s.reading.n s.reading.m (after setting) (after combination) (before work) (after work) }
+    requires { Solvable s (stored_at starts.now cols.now vals.now) owners.now (storage_at ro.now co.now ls.now lc.now lv.now us.now uc.now uv.now work.old) h.now setting.old combination.old }
+    ensures { SlotsHeld (held_slots s (stored_before starts.now cols.now vals.now) (storage_before ro.now co.now ls.now lc.now lv.now us.now uc.now uv.now work.old) h.now) result s.reading.n s.reading.m setting.new combination.new work.old work.new }
 {
     let n = s.reading.n as usize;
     let m = s.reading.m as usize;
@@ -112,8 +112,8 @@ fn words_staged(
     out: &mut [u8],
     work: &mut [u64],
 ) -> usize
-    requires { WordsStagedReady s (stored_at starts cols vals) owners.now (storage_at ro co ls lc lv us uc uv work) h.now out.old }
-    ensures { Prints (staged_words s (stored_before starts cols vals) (storage_before ro co ls lc lv us uc uv work) (before h)) result (before out) (after out) (before work) (after work) }
+    requires { WordsStagedReady s (stored_at starts.now cols.now vals.now) owners.now (storage_at ro.now co.now ls.now lc.now lv.now us.now uc.now uv.now work.old) h.now out.old }
+    ensures { Prints (staged_words s (stored_before starts.now cols.now vals.now) (storage_before ro.now co.now ls.now lc.now lv.now us.now uc.now uv.now work.old) h.now) result out.old out.new work.old work.new }
 {
     let refused = refusal(s);
     if let Outcome::Refused(number, detail) = refused {
@@ -156,7 +156,7 @@ fn words_staged(
 //   leaves   the buffer zero past the line, and the working row all zero
 pub fn words(text: &[u8], h: &[u32], out: &mut [u8], work: &mut [u64]) -> usize
     requires { AskLists h.now out.old work.old }
-    ensures { TellsWords (before text) (before h) result (before out) (after out) (before work) (after work) }
+    ensures { TellsWords text.now h.now result out.old out.new work.old work.new }
 {
     let mut starts = [0u32; START_CELLS];
     let mut cols = [0u32; ENTRY_CELLS];

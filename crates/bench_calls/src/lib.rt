@@ -5,7 +5,6 @@
 ghost use Rattle.std.specs.Prelude.{◌≡◌, length};
 ghost use Rattle.byte_buffer.specs.Fills.{Fills};
 ghost use Rattle.bench_calls.specs.Timed.{held_rank, timed_rank, timed_words};
-ghost use Rattle.sparse.specs.Views.{before, after};
 
 use ask_words::words;
 use limits::{ENTRY_CELLS, PRINT_ROOM, SIZE_CELLS, START_CELLS, WORK_CELLS};
@@ -36,7 +35,7 @@ fn rank_staged(s: Stages) -> u64
 //   leaves   nothing: the text is only read
 #[unsafe(no_mangle)]
 pub extern "C" fn plq_time_factoring(text: &[u8]) -> u64
-    ensures { result ≡ timed_rank (before text) }
+    ensures { result ≡ timed_rank text.now }
 {
     let mut starts = [0u32; START_CELLS];
     let mut cols = [0u32; ENTRY_CELLS];
@@ -74,7 +73,7 @@ pub extern "C" fn plq_time_factoring(text: &[u8]) -> u64
 //   leaves   the buffer zero past the line; the text and the values are only read
 #[unsafe(no_mangle)]
 pub extern "C" fn plq_time_words(text: &[u8], h: &[u32], out: &mut [u8]) -> u64
-    ensures { Fills (before out) (after out) result (timed_words (before text) (before h) (length (before out))) }
+    ensures { Fills out.old out.new result (timed_words text.now h.now (length out.old)) }
 {
     if out.len() < PRINT_ROOM {
         clear_bytes(out);

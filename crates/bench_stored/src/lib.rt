@@ -59,7 +59,7 @@ pub extern "C" fn plq_time_factor(
     uv: &mut [u32],
     work: &mut [u64],
 ) -> u64
-    ensures { FactorTimed (factor_call_of p n m (stored_before starts cols vals) (lent_of (storage_before ro co ls lc lv us uc uv work))) result (storage_after ro co ls lc lv us uc uv work) }
+    ensures { FactorTimed (factor_call_of p n m (stored_before starts.now cols.now vals.now) (lent_of (storage_before ro.old co.old ls.old lc.old lv.old us.old uc.old uv.old work.old))) result (storage_after ro.new co.new ls.new lc.new lv.new us.new uc.new uv.new work.new) }
 {
     let f = factor(
         p, n, m, starts, cols, vals, ro, co, ls, lc, lv, us, uc, uv, work,
@@ -89,7 +89,7 @@ pub extern "C" fn plq_time_check(
     uv: &[u32],
     work: &mut [u64],
 ) -> u64
-    ensures { CheckTimed (check_factors_of p n m (stored_before starts cols vals) (set_before r ro co ls lc lv us uc uv)) result work }
+    ensures { CheckTimed (check_factors_of p n m (stored_before starts.now cols.now vals.now) (set_before r ro.now co.now ls.now lc.now lv.now us.now uc.now uv.now)) result work }
 {
     let outcome = check_factors(
         p, n, m, starts, cols, vals, r, ro, co, ls, lc, lv, us, uc, uv, work,
@@ -120,7 +120,7 @@ pub extern "C" fn plq_time_open(
     marks: &mut [u32],
     work: &mut [u64],
 ) -> u64
-    ensures { OpenTimed (open_factors_of p n m (stored_before starts cols vals) (set_before r ro co ls lc lv us uc uv)) result marks work }
+    ensures { OpenTimed (open_factors_of p n m (stored_before starts.now cols.now vals.now) (set_before r ro.now co.now ls.now lc.now lv.now us.now uc.now uv.now)) result marks work }
 {
     let outcome = open_columns_from_factors(
         p, n, m, starts, cols, vals, r, ro, co, ls, lc, lv, us, uc, uv, marks, work,

@@ -7,7 +7,7 @@ ghost use Rattle.certificate.specs.Reading.{set_of_certificate};
 ghost use Rattle.call_check.specs.Calls.{check_certificate_of, Checks};
 ghost use Rattle.call_answer.specs.Calls.{question_after, answer_certificate_of, AnswersIn};
 ghost use Rattle.call_answer.specs.Needs.{AnswerPartsReady};
-ghost use Rattle.sparse.specs.Views.{before, after, stored_before};
+ghost use Rattle.sparse.specs.Views.{stored_before};
 
 use crate::question::question_lengths;
 use crate::{Answer, answer_of};
@@ -35,7 +35,7 @@ fn asked_of_certificate(
     zlen: usize,
     work: &mut [u64],
 ) -> Outcome
-    ensures { Checks (question_after (check_certificate_of q.p n m (stored_before starts cols vals) (before cert) (length (before work))) q.p n m (before y) xlen zlen) result (before work) (after work) }
+    ensures { Checks (question_after (check_certificate_of q.p n m (stored_before starts.now cols.now vals.now) cert.now (length work.old)) q.p n m y.now xlen zlen) result work.old work.new }
 {
     if !question_lengths(n, m, y, xlen, zlen) {
         clear_row(work);
@@ -60,7 +60,7 @@ fn answer_parts(
     work: &mut [u64],
 ) -> Verdict
     requires { AnswerPartsReady q.p n m cert.now y.now x.old z.old work.old }
-    ensures { Answered (solve q.p (length (before x)) (length (before z)) (set_of_certificate n m (before cert)) (vector (before y))) result (after x) (after z) (after work) }
+    ensures { Answered (solve q.p (length x.old) (length z.old) (set_of_certificate n m cert.now) (vector y.now)) result x.new z.new work.new }
 {
     let places = places_in(cert, n, m);
     let r = number(cert, 3);
@@ -118,7 +118,7 @@ pub fn answer_from_certificate(
     z: &mut [u32],
     work: &mut [u64],
 ) -> Answer
-    ensures { AnswersIn (answer_certificate_of p n m (stored_before starts cols vals) (before cert) (before y)) result x z work }
+    ensures { AnswersIn (answer_certificate_of p n m (stored_before starts.now cols.now vals.now) cert.now y.now) result x z work }
 {
     let q = Modulus { p };
     let asked = asked_of_certificate(q, n, m, starts, cols, vals, cert, y, x.len(), z.len(), work);

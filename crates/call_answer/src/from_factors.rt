@@ -6,7 +6,7 @@ ghost use Rattle.answer_question.specs.Needs.{AnswerReady};
 ghost use Rattle.answer_question.specs.Answering.{Answered};
 ghost use Rattle.call_check.specs.Calls.{check_factors_of, Checks};
 ghost use Rattle.call_answer.specs.Calls.{question_after, answer_factors_of, AnswersIn};
-ghost use Rattle.sparse.specs.Views.{before, after, stored_before, set_at, set_before};
+ghost use Rattle.sparse.specs.Views.{stored_before, set_at, set_before};
 
 use crate::question::question_lengths;
 use crate::{Answer, answer_of};
@@ -41,7 +41,7 @@ fn asked_of_factors(
     zlen: usize,
     work: &mut [u64],
 ) -> Outcome
-    ensures { Checks (question_after (check_factors_of q.p n m (stored_before starts cols vals) (set_before r ro co ls lc lv us uc uv) (length (before work))) q.p n m (before y) xlen zlen) result (before work) (after work) }
+    ensures { Checks (question_after (check_factors_of q.p n m (stored_before starts.now cols.now vals.now) (set_before r ro.now co.now ls.now lc.now lv.now us.now uc.now uv.now) (length work.old)) q.p n m y.now xlen zlen) result work.old work.new }
 {
     if !question_lengths(n, m, y, xlen, zlen) {
         clear_row(work);
@@ -73,8 +73,8 @@ fn answer_stored(
     z: &mut [u32],
     work: &mut [u64],
 ) -> Verdict
-    requires { AnswerReady q.p (set_at r ro co ls lc lv us uc uv) y.now x.old z.old work.old }
-    ensures { Answered (solve q.p (length (before x)) (length (before z)) (set_before r ro co ls lc lv us uc uv) (vector (before y))) result (after x) (after z) (after work) }
+    requires { AnswerReady q.p (set_at r ro.now co.now ls.now lc.now lv.now us.now uc.now uv.now) y.now x.old z.old work.old }
+    ensures { Answered (solve q.p (length x.old) (length z.old) (set_before r ro.now co.now ls.now lc.now lv.now us.now uc.now uv.now) (vector y.now)) result x.new z.new work.new }
 {
     let none: &[u8] = b"";
     answer(
@@ -110,7 +110,7 @@ pub fn answer_from_factors(
     z: &mut [u32],
     work: &mut [u64],
 ) -> Answer
-    ensures { AnswersIn (answer_factors_of p n m (stored_before starts cols vals) (set_before r ro co ls lc lv us uc uv) (before y)) result x z work }
+    ensures { AnswersIn (answer_factors_of p n m (stored_before starts.now cols.now vals.now) (set_before r ro.now co.now ls.now lc.now lv.now us.now uc.now uv.now) y.now) result x z work }
 {
     let q = Modulus { p };
     let asked = asked_of_factors(

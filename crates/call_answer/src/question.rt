@@ -1,11 +1,10 @@
 // The lengths of a question's lists.
 ghost use Rattle.std.specs.Prelude.{◌≡◌};
 ghost use Rattle.call_answer.specs.Calls.{question_lengths};
-ghost use Rattle.sparse.specs.Views.{before};
 
 // Whether y has m values, and x and z have n and m cells.
 pub fn question_lengths(n: u32, m: u32, y: &[u32], xlen: usize, zlen: usize) -> bool
-    ensures { result ≡ question_lengths n m (before y) xlen zlen }
+    ensures { result ≡ question_lengths n m y.now xlen zlen }
 {
     if y.len() != m as usize {
         return false;

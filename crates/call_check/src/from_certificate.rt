@@ -1,7 +1,7 @@
 // The call that checks a certificate against a stored plan. Any content of the working row is accepted.
 ghost use Rattle.std.specs.Prelude.{◌≡◌};
 ghost use Rattle.call_check.specs.Calls.{certificate_outcome, check_certificate_of, ChecksIn};
-ghost use Rattle.sparse.specs.Views.{before, stored_before};
+ghost use Rattle.sparse.specs.Views.{stored_before};
 
 use call_plan::{plan_lengths, plan_outcome};
 use certificate::header::header_ok;
@@ -24,7 +24,7 @@ fn certificate_outcome(
     cert: &[u8],
     width: usize,
 ) -> Outcome
-    ensures { result ≡ certificate_outcome p n m (stored_before starts cols vals) (before cert) width }
+    ensures { result ≡ certificate_outcome p n m (stored_before starts.now cols.now vals.now) cert.now width }
 {
     if !plan_lengths(n, starts, cols, vals) {
         return Outcome::Refused(WRONG_LENGTH, 0);
@@ -53,7 +53,7 @@ pub fn check_bytes(
     cert: &[u8],
     work: &mut [u64],
 ) -> Outcome
-    ensures { ChecksIn (check_certificate_of q.p n m (stored_before starts cols vals) (before cert)) result work }
+    ensures { ChecksIn (check_certificate_of q.p n m (stored_before starts.now cols.now vals.now) cert.now) result work }
 {
     clear_row(work);
     let tested = certificate_outcome(q.p, n, m, starts, cols, vals, cert, work.len());
@@ -115,7 +115,7 @@ pub fn check_certificate(
     cert: &[u8],
     work: &mut [u64],
 ) -> Outcome
-    ensures { ChecksIn (check_certificate_of p n m (stored_before starts cols vals) (before cert)) result work }
+    ensures { ChecksIn (check_certificate_of p n m (stored_before starts.now cols.now vals.now) cert.now) result work }
 {
     let q = Modulus { p };
     check_bytes(q, n, m, starts, cols, vals, cert, work)

@@ -30,7 +30,7 @@ fn factors_outcome(
     uv: &[u32],
     width: usize,
 ) -> Outcome
-    ensures { result ≡ factors_outcome p n m (stored_before starts cols vals) (set_before r ro co ls lc lv us uc uv) width }
+    ensures { result ≡ factors_outcome p n m (stored_before starts.now cols.now vals.now) (set_before r ro.now co.now ls.now lc.now lv.now us.now uc.now uv.now) width }
 {
     if !plan_lengths(n, starts, cols, vals) {
         return Outcome::Refused(WRONG_LENGTH, 0);
@@ -63,7 +63,7 @@ pub fn check_stored(
     uv: &[u32],
     work: &mut [u64],
 ) -> Outcome
-    ensures { ChecksIn (check_factors_of q.p n m (stored_before starts cols vals) (set_before r ro co ls lc lv us uc uv)) result work }
+    ensures { ChecksIn (check_factors_of q.p n m (stored_before starts.now cols.now vals.now) (set_before r ro.now co.now ls.now lc.now lv.now us.now uc.now uv.now)) result work }
 {
     clear_row(work);
     let tested = factors_outcome(
@@ -117,7 +117,7 @@ pub fn check_factors(
     uv: &[u32],
     work: &mut [u64],
 ) -> Outcome
-    ensures { ChecksIn (check_factors_of p n m (stored_before starts cols vals) (set_before r ro co ls lc lv us uc uv)) result work }
+    ensures { ChecksIn (check_factors_of p n m (stored_before starts.now cols.now vals.now) (set_before r ro.now co.now ls.now lc.now lv.now us.now uc.now uv.now)) result work }
 {
     let q = Modulus { p };
     check_stored(

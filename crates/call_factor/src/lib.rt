@@ -67,7 +67,7 @@ fn lent_outcome(
     vals: &[u32],
     lent: Lent,
 ) -> Outcome
-    ensures { result ≡ lent_outcome p n m (stored_before starts cols vals) lent }
+    ensures { result ≡ lent_outcome p n m (stored_before starts.now cols.now vals.now) lent }
 {
     if !plan_lengths(n, starts, cols, vals) {
         return Outcome::Refused(WRONG_LENGTH, 0);
@@ -96,8 +96,8 @@ pub fn factor_accepted(
     uv: &mut [u32],
     work: &mut [u64],
 ) -> Factored
-    requires { lent_outcome p n m (stored_at starts cols vals) (lent_of (storage_at ro co ls lc lv us uc uv work)) ≡ Passed }
-    ensures { Leaves (factor_call_of p n m (stored_before starts cols vals) (lent_of (storage_before ro co ls lc lv us uc uv work))) result (storage_after ro co ls lc lv us uc uv work) }
+    requires { lent_outcome p n m (stored_at starts.now cols.now vals.now) (lent_of (storage_at ro.old co.old ls.old lc.old lv.old us.old uc.old uv.old work.old)) ≡ Passed }
+    ensures { Leaves (factor_call_of p n m (stored_before starts.now cols.now vals.now) (lent_of (storage_before ro.old co.old ls.old lc.old lv.old us.old uc.old uv.old work.old))) result (storage_after ro.new co.new ls.new lc.new lv.new us.new uc.new uv.new work.new) }
 {
     clear_all(ro, co, ls, lc, lv, us, uc, uv, work);
     let q = Modulus { p };
@@ -129,7 +129,7 @@ pub fn factor(
     uv: &mut [u32],
     work: &mut [u64],
 ) -> Factored
-    ensures { Leaves (factor_call_of p n m (stored_before starts cols vals) (lent_of (storage_before ro co ls lc lv us uc uv work))) result (storage_after ro co ls lc lv us uc uv work) }
+    ensures { Leaves (factor_call_of p n m (stored_before starts.now cols.now vals.now) (lent_of (storage_before ro.old co.old ls.old lc.old lv.old us.old uc.old uv.old work.old))) result (storage_after ro.new co.new ls.new lc.new lv.new us.new uc.new uv.new work.new) }
 {
     let lent = Lent {
         rows: ro.len(),

@@ -8,7 +8,7 @@ ghost use Rattle.call_open.specs.Calls.{ListsIn};
 ghost use Rattle.call_owned.specs.Owned.{ListsOwned};
 ghost use Rattle.call_kernel.specs.Calls.{kernel_certificate_of};
 ghost use Rattle.call_kernel.specs.Needs.{SettingsPartsReady};
-ghost use Rattle.sparse.specs.Views.{before, after, stored_before};
+ghost use Rattle.sparse.specs.Views.{stored_before};
 
 use call_check::from_certificate::check_bytes;
 use call_owned::owners_fit;
@@ -21,7 +21,7 @@ use residue::Modulus;
 // The settings from a certificate that passed: its parts are read where they stand.
 fn settings_of_parts(q: Modulus, n: u32, m: u32, cert: &[u8], basis: &mut [u32], work: &mut [u64])
     requires { SettingsPartsReady q.p n m cert.now basis.old work.old }
-    ensures { BasisFilled (kernel_basis q.p m (set_of_certificate n m (before cert))) (after basis) (after work) }
+    ensures { BasisFilled (kernel_basis q.p m (set_of_certificate n m cert.now)) basis.new work.new }
 {
     let places = places_in(cert, n, m);
     let r = number(cert, 3);
@@ -70,7 +70,7 @@ fn settings_tested(
     basis: &mut [u32],
     work: &mut [u64],
 ) -> Outcome
-    ensures { ListsIn (kernel_certificate_of q.p n m (stored_before starts cols vals) (before cert)) result basis work }
+    ensures { ListsIn (kernel_certificate_of q.p n m (stored_before starts.now cols.now vals.now) cert.now) result basis work }
 {
     let checked = check_bytes(q, n, m, starts, cols, vals, cert, work);
     let Outcome::Passed = checked else {
@@ -104,7 +104,7 @@ pub fn kernel_basis_from_certificate(
     basis: &mut [u32],
     work: &mut [u64],
 ) -> Outcome
-    ensures { ListsOwned owners m (kernel_certificate_of p n m (stored_before starts cols vals) (before cert)) result basis work }
+    ensures { ListsOwned owners.now m (kernel_certificate_of p n m (stored_before starts.now cols.now vals.now) cert.now) result basis work }
 {
     if !owners_fit(m, owners) {
         clear(basis);

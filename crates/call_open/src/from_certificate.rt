@@ -5,7 +5,7 @@ ghost use Rattle.answer_open.specs.Opening.{ColumnsListed};
 ghost use Rattle.certificate.specs.Reading.{set_of_certificate};
 ghost use Rattle.call_open.specs.Calls.{open_certificate_of, ListsIn};
 ghost use Rattle.call_open.specs.Needs.{OpenPartsReady};
-ghost use Rattle.sparse.specs.Views.{before, after, stored_before};
+ghost use Rattle.sparse.specs.Views.{stored_before};
 
 use answer_open::pivots::open_columns;
 use call_check::from_certificate::check_bytes;
@@ -25,7 +25,7 @@ fn open_columns_of_parts(
     work: &mut [u64],
 )
     requires { OpenPartsReady q.p n m cert.now marks.old work.old }
-    ensures { ColumnsListed (open_columns q.p (length (before marks)) (set_of_certificate n m (before cert))) (after marks) (after work) }
+    ensures { ColumnsListed (open_columns q.p (length marks.old) (set_of_certificate n m cert.now)) marks.new work.new }
 {
     let places = places_in(cert, n, m);
     let r = number(cert, 3);
@@ -67,7 +67,7 @@ pub fn open_columns_from_certificate(
     marks: &mut [u32],
     work: &mut [u64],
 ) -> Outcome
-    ensures { ListsIn (open_certificate_of p n m (stored_before starts cols vals) (before cert)) result marks work }
+    ensures { ListsIn (open_certificate_of p n m (stored_before starts.now cols.now vals.now) cert.now) result marks work }
 {
     let q = Modulus { p };
     if marks.len() != m as usize {

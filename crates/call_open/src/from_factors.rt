@@ -34,7 +34,7 @@ pub fn open_columns_from_factors(
     marks: &mut [u32],
     work: &mut [u64],
 ) -> Outcome
-    ensures { ListsIn (open_factors_of p n m (stored_before starts cols vals) (set_before r ro co ls lc lv us uc uv)) result marks work }
+    ensures { ListsIn (open_factors_of p n m (stored_before starts.now cols.now vals.now) (set_before r ro.now co.now ls.now lc.now lv.now us.now uc.now uv.now)) result marks work }
 {
     let q = Modulus { p };
     if marks.len() != m as usize {

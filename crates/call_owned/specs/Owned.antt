@@ -14,7 +14,7 @@ use Rattle.refusals.specs.Refusals.{◌▷◌, unless}
 use Rattle.refusals.specs.declared.Outcome.{Outcome}
 use Rattle.refusals.specs.declared.Outcome.TheVariants.{Passed, Refused}
 use Rattle.sparse.specs.Set.{Storage}
-use Rattle.sparse.specs.Views.{LentList, before}
+use Rattle.sparse.specs.Views.{LentList}
 use Rattle.factor_all.specs.Factorization.{Factorization, Leaves}
 use Rattle.factor_all.specs.declared.factor.Factored.{Factored}
 use Rattle.call_check.specs.Calls.{ChecksIn}
@@ -50,17 +50,17 @@ owned_list k m g = listed_after (owners_outcome k m) g
 
 -- ---- the contracts
 
-abbrev pub ChecksOwned : LentList → ℕ → (ℕ → Outcome) → Outcome → (work : LentList) → Type 0
-ChecksOwned owners m g r work = ChecksIn (λ (w : ℕ). owned_outcome (length (before owners)) m (g w)) r work
+abbrev pub ChecksOwned : List ℕ → ℕ → (ℕ → Outcome) → Outcome → (work : LentList) → Type 0
+ChecksOwned owners m g r work = ChecksIn (λ (w : ℕ). owned_outcome (length owners) m (g w)) r work
 
-abbrev pub WritesOwned : LentList → ℕ → (ℕ → ℕ → Outcome) → List ℕ → Written → (buffer work : LentList) → Type 0
-WritesOwned owners m g cert r buffer work = WritesIn (λ (w room : ℕ). owned_outcome (length (before owners)) m (g w room)) cert r buffer work
+abbrev pub WritesOwned : List ℕ → ℕ → (ℕ → ℕ → Outcome) → List ℕ → Written → (buffer work : LentList) → Type 0
+WritesOwned owners m g cert r buffer work = WritesIn (λ (w room : ℕ). owned_outcome (length owners) m (g w room)) cert r buffer work
 
-abbrev pub LeavesOwned : LentList → ℕ → Factorization → Factored → Storage → Type 0
-LeavesOwned owners m g r h = Leaves (owned_factors (length (before owners)) m g) r h
+abbrev pub LeavesOwned : List ℕ → ℕ → Factorization → Factored → Storage → Type 0
+LeavesOwned owners m g r h = Leaves (owned_factors (length owners) m g) r h
 
-abbrev pub AnswersOwned : LentList → ℕ → (ℕ → ℕ → ℕ → Given) → Answer → (x z work : LentList) → Type 0
-AnswersOwned owners m g r x z work = AnswersIn (λ (a b w : ℕ). owned_answer (length (before owners)) m (g a b w)) r x z work
+abbrev pub AnswersOwned : List ℕ → ℕ → (ℕ → ℕ → ℕ → Given) → Answer → (x z work : LentList) → Type 0
+AnswersOwned owners m g r x z work = AnswersIn (λ (a b w : ℕ). owned_answer (length owners) m (g a b w)) r x z work
 
-abbrev pub ListsOwned : LentList → ℕ → (ℕ → ℕ → Listed) → Outcome → (list work : LentList) → Type 0
-ListsOwned owners m g r list work = ListsIn (λ (b w : ℕ). owned_list (length (before owners)) m (g b w)) r list work
+abbrev pub ListsOwned : List ℕ → ℕ → (ℕ → ℕ → Listed) → Outcome → (list work : LentList) → Type 0
+ListsOwned owners m g r list work = ListsIn (λ (b w : ℕ). owned_list (length owners) m (g b w)) r list work

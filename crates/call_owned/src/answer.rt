@@ -1,7 +1,7 @@
 // The public calls that answer a question about a stored plan with owners.
 ghost use Rattle.call_answer.specs.Calls.{answer_factors_of, answer_certificate_of};
 ghost use Rattle.call_owned.specs.Owned.{AnswersOwned};
-ghost use Rattle.sparse.specs.Views.{before, stored_before, set_before};
+ghost use Rattle.sparse.specs.Views.{stored_before, set_before};
 
 use crate::owners_fit;
 use call_answer::Answer;
@@ -36,7 +36,7 @@ pub fn answer_from_factors(
     z: &mut [u32],
     work: &mut [u64],
 ) -> Answer
-    ensures { AnswersOwned owners m (answer_factors_of p n m (stored_before starts cols vals) (set_before r ro co ls lc lv us uc uv) (before y)) result x z work }
+    ensures { AnswersOwned owners.now m (answer_factors_of p n m (stored_before starts.now cols.now vals.now) (set_before r ro.now co.now ls.now lc.now lv.now us.now uc.now uv.now) y.now) result x z work }
 {
     if !owners_fit(m, owners) {
         clear(x);
@@ -68,7 +68,7 @@ pub fn answer_from_certificate(
     z: &mut [u32],
     work: &mut [u64],
 ) -> Answer
-    ensures { AnswersOwned owners m (answer_certificate_of p n m (stored_before starts cols vals) (before cert) (before y)) result x z work }
+    ensures { AnswersOwned owners.now m (answer_certificate_of p n m (stored_before starts.now cols.now vals.now) cert.now y.now) result x z work }
 {
     if !owners_fit(m, owners) {
         clear(x);

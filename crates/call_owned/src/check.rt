@@ -1,7 +1,7 @@
 // The public calls that check a set of factors against a stored plan with owners.
 ghost use Rattle.call_check.specs.Calls.{check_factors_of, check_certificate_of};
 ghost use Rattle.call_owned.specs.Owned.{ChecksOwned};
-ghost use Rattle.sparse.specs.Views.{before, stored_before, set_before};
+ghost use Rattle.sparse.specs.Views.{stored_before, set_before};
 
 use crate::owners_fit;
 use lists::clear_row;
@@ -32,7 +32,7 @@ pub fn check_factors(
     uv: &[u32],
     work: &mut [u64],
 ) -> Outcome
-    ensures { ChecksOwned owners m (check_factors_of p n m (stored_before starts cols vals) (set_before r ro co ls lc lv us uc uv)) result work }
+    ensures { ChecksOwned owners.now m (check_factors_of p n m (stored_before starts.now cols.now vals.now) (set_before r ro.now co.now ls.now lc.now lv.now us.now uc.now uv.now)) result work }
 {
     if !owners_fit(m, owners) {
         clear_row(work);
@@ -59,7 +59,7 @@ pub fn check_certificate(
     cert: &[u8],
     work: &mut [u64],
 ) -> Outcome
-    ensures { ChecksOwned owners m (check_certificate_of p n m (stored_before starts cols vals) (before cert)) result work }
+    ensures { ChecksOwned owners.now m (check_certificate_of p n m (stored_before starts.now cols.now vals.now) cert.now) result work }
 {
     if !owners_fit(m, owners) {
         clear_row(work);

@@ -34,7 +34,7 @@ pub fn factor(
     uv: &mut [u32],
     work: &mut [u64],
 ) -> Factored
-    ensures { LeavesOwned owners m (factor_call_of p n m (stored_before starts cols vals) (lent_of (storage_before ro co ls lc lv us uc uv work))) result (storage_after ro co ls lc lv us uc uv work) }
+    ensures { LeavesOwned owners.now m (factor_call_of p n m (stored_before starts.now cols.now vals.now) (lent_of (storage_before ro.old co.old ls.old lc.old lv.old us.old uc.old uv.old work.old))) result (storage_after ro.new co.new ls.new lc.new lv.new us.new uc.new uv.new work.new) }
 {
     if !owners_fit(m, owners) {
         clear_all(ro, co, ls, lc, lv, us, uc, uv, work);

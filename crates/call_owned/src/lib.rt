@@ -3,7 +3,6 @@
 #![tactic(auto)]
 
 ghost use Rattle.std.specs.Prelude.{◌≡◌, eqb, length};
-ghost use Rattle.sparse.specs.Views.{before};
 
 pub mod answer;
 pub mod check;
@@ -13,7 +12,7 @@ pub mod write;
 
 // Whether there is an owner for each of the m words.
 pub fn owners_fit(m: u32, owners: &[u8]) -> bool
-    ensures { result ≡ eqb (length (before owners)) m }
+    ensures { result ≡ eqb (length owners.now) m }
 {
     owners.len() == lists::index(m)
 }

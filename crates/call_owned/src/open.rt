@@ -1,7 +1,7 @@
 // The public calls that list the open columns (document 01's open words) of a stored plan with owners.
 ghost use Rattle.call_open.specs.Calls.{open_factors_of, open_certificate_of};
 ghost use Rattle.call_owned.specs.Owned.{ListsOwned};
-ghost use Rattle.sparse.specs.Views.{before, stored_before, set_before};
+ghost use Rattle.sparse.specs.Views.{stored_before, set_before};
 
 use crate::owners_fit;
 use lists::{clear, clear_row};
@@ -34,7 +34,7 @@ pub fn open_columns_from_factors(
     marks: &mut [u32],
     work: &mut [u64],
 ) -> Outcome
-    ensures { ListsOwned owners m (open_factors_of p n m (stored_before starts cols vals) (set_before r ro co ls lc lv us uc uv)) result marks work }
+    ensures { ListsOwned owners.now m (open_factors_of p n m (stored_before starts.now cols.now vals.now) (set_before r ro.now co.now ls.now lc.now lv.now us.now uc.now uv.now)) result marks work }
 {
     if !owners_fit(m, owners) {
         clear(marks);
@@ -63,7 +63,7 @@ pub fn open_columns_from_certificate(
     marks: &mut [u32],
     work: &mut [u64],
 ) -> Outcome
-    ensures { ListsOwned owners m (open_certificate_of p n m (stored_before starts cols vals) (before cert)) result marks work }
+    ensures { ListsOwned owners.now m (open_certificate_of p n m (stored_before starts.now cols.now vals.now) cert.now) result marks work }
 {
     if !owners_fit(m, owners) {
         clear(marks);

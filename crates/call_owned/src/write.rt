@@ -35,7 +35,7 @@ pub fn write_certificate(
     buffer: &mut [u8],
     work: &mut [u64],
 ) -> Written
-    ensures { WritesOwned owners m (write_outcome p n m (stored_before starts cols vals) (set_before r ro co ls lc lv us uc uv)) (certificate_of p n m (set_before r ro co ls lc lv us uc uv)) result buffer work }
+    ensures { WritesOwned owners.now m (write_outcome p n m (stored_before starts.now cols.now vals.now) (set_before r ro.now co.now ls.now lc.now lv.now us.now uc.now uv.now)) (certificate_of p n m (set_before r ro.now co.now ls.now lc.now lv.now us.now uc.now uv.now)) result buffer work }
 {
     if !owners_fit(m, owners) {
         clear_bytes(buffer);

@@ -14,7 +14,7 @@ use sparse::form::form_ok;
 
 // Whether the lists of a matrix of n rows have their lengths.
 pub fn plan_lengths(n: u32, starts: &[u32], cols: &[u32], vals: &[u32]) -> bool
-    ensures { result ≡ plan_lengths n (stored_before starts cols vals) }
+    ensures { result ≡ plan_lengths n (stored_before starts.now cols.now vals.now) }
 {
     if starts.len() != index(n) + 1 {
         return false;
@@ -36,7 +36,7 @@ pub fn set_lengths(
     uc: &[u32],
     uv: &[u32],
 ) -> bool
-    ensures { result ≡ set_lengths n m (set_before r ro co ls lc lv us uc uv) }
+    ensures { result ≡ set_lengths n m (set_before r ro.now co.now ls.now lc.now lv.now us.now uc.now uv.now) }
 {
     if ro.len() != index(n) {
         return false;
@@ -52,7 +52,7 @@ pub fn set_lengths(
 
 // Whether the sizes and the entry count of a plan keep the limits.
 fn limits_ok(n: u32, m: u32, starts: &[u32], cols: &[u32], vals: &[u32]) -> bool
-    ensures { result ≡ limits_ok n m (stored_before starts cols vals) }
+    ensures { result ≡ limits_ok n m (stored_before starts.now cols.now vals.now) }
 {
     if LARGEST_SIZE < n {
         return false;
@@ -65,7 +65,7 @@ fn limits_ok(n: u32, m: u32, starts: &[u32], cols: &[u32], vals: &[u32]) -> bool
 
 // 1, 2 and 8.
 pub fn plan_outcome(p: u32, n: u32, m: u32, starts: &[u32], cols: &[u32], vals: &[u32]) -> Outcome
-    ensures { result ≡ plan_outcome p n m (stored_before starts cols vals) }
+    ensures { result ≡ plan_outcome p n m (stored_before starts.now cols.now vals.now) }
 {
     if !is_modulus(p) {
         return Outcome::Refused(BAD_MODULUS, 0);

@@ -7,7 +7,7 @@ ghost use Rattle.certificate.specs.Reading.{set_of_certificate};
 ghost use Rattle.call_check.specs.Calls.{check_certificate_of, Checks};
 ghost use Rattle.call_slots.specs.Calls.{slots_after, slots_certificate_of, SolvesIn};
 ghost use Rattle.call_slots.specs.Needs.{SlotsPartsReady};
-ghost use Rattle.sparse.specs.Views.{before, after, stored_before};
+ghost use Rattle.sparse.specs.Views.{stored_before};
 
 use crate::slots::slot_lengths;
 use crate::{Solution, solution_of};
@@ -36,7 +36,7 @@ fn heard_with_certificate(
     wlen: usize,
     work: &mut [u64],
 ) -> Outcome
-    ensures { Checks (slots_after (check_certificate_of q.p n m (stored_before starts cols vals) (before cert) (length (before work))) q.p n m k (before h) slen wlen) result (before work) (after work) }
+    ensures { Checks (slots_after (check_certificate_of q.p n m (stored_before starts.now cols.now vals.now) cert.now (length work.old)) q.p n m k h.now slen wlen) result work.old work.new }
 {
     if !slot_lengths(n, m, k, h, slen, wlen) {
         clear_row(work);
@@ -61,7 +61,7 @@ fn solve_parts(
     work: &mut [u64],
 ) -> SlotVerdict
     requires { SlotsPartsReady q.p n m cert.now h.now s.old w.old work.old }
-    ensures { SlotsAnswered (solve_slots q.p (length (before w)) (length (before s)) (set_of_certificate n m (before cert)) (vector (before h))) result (after s) (after w) (after work) }
+    ensures { SlotsAnswered (solve_slots q.p (length w.old) (length s.old) (set_of_certificate n m cert.now) (vector h.now)) result s.new w.new work.new }
 {
     let places = places_in(cert, n, m);
     let r = number(cert, 3);
@@ -120,7 +120,7 @@ pub fn solve_slots_from_certificate(
     w: &mut [u32],
     work: &mut [u64],
 ) -> Solution
-    ensures { SolvesIn (slots_certificate_of p n m (length (before owners)) (stored_before starts cols vals) (before cert) (before h)) result s w work }
+    ensures { SolvesIn (slots_certificate_of p n m (length owners.now) (stored_before starts.now cols.now vals.now) cert.now h.now) result s w work }
 {
     let q = Modulus { p };
     let heard = heard_with_certificate(

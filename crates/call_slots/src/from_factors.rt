@@ -6,7 +6,7 @@ ghost use Rattle.answer_slots.specs.Needs.{SlotsReady};
 ghost use Rattle.answer_slots.specs.Solving.{SlotsAnswered};
 ghost use Rattle.call_check.specs.Calls.{check_factors_of, Checks};
 ghost use Rattle.call_slots.specs.Calls.{slots_after, slots_factors_of, SolvesIn};
-ghost use Rattle.sparse.specs.Views.{before, after, stored_before, set_at, set_before};
+ghost use Rattle.sparse.specs.Views.{stored_before, set_at, set_before};
 
 use crate::slots::slot_lengths;
 use crate::{Solution, solution_of};
@@ -42,7 +42,7 @@ fn heard_with_factors(
     wlen: usize,
     work: &mut [u64],
 ) -> Outcome
-    ensures { Checks (slots_after (check_factors_of q.p n m (stored_before starts cols vals) (set_before r ro co ls lc lv us uc uv) (length (before work))) q.p n m k (before h) slen wlen) result (before work) (after work) }
+    ensures { Checks (slots_after (check_factors_of q.p n m (stored_before starts.now cols.now vals.now) (set_before r ro.now co.now ls.now lc.now lv.now us.now uc.now uv.now) (length work.old)) q.p n m k h.now slen wlen) result work.old work.new }
 {
     if !slot_lengths(n, m, k, h, slen, wlen) {
         clear_row(work);
@@ -74,8 +74,8 @@ fn solve_stored(
     w: &mut [u32],
     work: &mut [u64],
 ) -> SlotVerdict
-    requires { SlotsReady q.p (set_at r ro co ls lc lv us uc uv) h.now s.old w.old work.old }
-    ensures { SlotsAnswered (solve_slots q.p (length (before w)) (length (before s)) (set_before r ro co ls lc lv us uc uv) (vector (before h))) result (after s) (after w) (after work) }
+    requires { SlotsReady q.p (set_at r ro.now co.now ls.now lc.now lv.now us.now uc.now uv.now) h.now s.old w.old work.old }
+    ensures { SlotsAnswered (solve_slots q.p (length w.old) (length s.old) (set_before r ro.now co.now ls.now lc.now lv.now us.now uc.now uv.now) (vector h.now)) result s.new w.new work.new }
 {
     let none: &[u8] = b"";
     solve(
@@ -112,7 +112,7 @@ pub fn solve_slots_from_factors(
     w: &mut [u32],
     work: &mut [u64],
 ) -> Solution
-    ensures { SolvesIn (slots_factors_of p n m (length (before owners)) (stored_before starts cols vals) (set_before r ro co ls lc lv us uc uv) (before h)) result s w work }
+    ensures { SolvesIn (slots_factors_of p n m (length owners.now) (stored_before starts.now cols.now vals.now) (set_before r ro.now co.now ls.now lc.now lv.now us.now uc.now uv.now) h.now) result s w work }
 {
     let q = Modulus { p };
     let heard = heard_with_factors(

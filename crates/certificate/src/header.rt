@@ -1,13 +1,12 @@
 // The test of a certificate's header.
 ghost use Rattle.std.specs.Prelude.{◌≡◌, ◌≤◌, length};
 ghost use Rattle.certificate.specs.Reading.{begins, length_ok, sizes_ok, header_ok};
-ghost use Rattle.sparse.specs.Views.{before};
 
 use crate::parts::{number, places_of};
 
 // Whether s begins with the bytes of start.
 fn starts_with(s: &[u8], start: &[u8]) -> bool
-    ensures { result ≡ begins (before start) (before s) }
+    ensures { result ≡ begins start.now s.now }
 {
     let mut i = 0;
     while i < start.len() {
@@ -25,7 +24,7 @@ fn starts_with(s: &[u8], start: &[u8]) -> bool
 // Whether the length is the one that the header's own numbers give.
 fn length_ok(cert: &[u8]) -> bool
     requires { 29 ≤ length cert.now }
-    ensures { result ≡ length_ok (before cert) }
+    ensures { result ≡ length_ok cert.now }
 {
     let n = number(cert, 1);
     let m = number(cert, 2);
@@ -39,7 +38,7 @@ fn length_ok(cert: &[u8]) -> bool
 // Whether p, n and m are those of the matrix.
 fn sizes_ok(cert: &[u8], p: u32, n: u32, m: u32) -> bool
     requires { 29 ≤ length cert.now }
-    ensures { result ≡ sizes_ok p n m (before cert) }
+    ensures { result ≡ sizes_ok p n m cert.now }
 {
     if number(cert, 0) != p {
         return false;
@@ -52,7 +51,7 @@ fn sizes_ok(cert: &[u8], p: u32, n: u32, m: u32) -> bool
 
 // Whether mark, version, length and sizes are those of a certificate for an n by m matrix modulo p.
 pub fn header_ok(cert: &[u8], p: u32, n: u32, m: u32) -> bool
-    ensures { result ≡ header_ok p n m (before cert) }
+    ensures { result ≡ header_ok p n m cert.now }
 {
     if !starts_with(cert, b"PLQ") {
         return false;

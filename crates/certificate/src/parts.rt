@@ -1,7 +1,6 @@
 // The parts of a certificate: the numbers of its header, and where the lists of its set stand.
 ghost use Rattle.std.specs.Prelude.{◌≡◌, ◌≤◌, ◌<◌, length};
 ghost use Rattle.certificate.specs.Reading.{field, places_of, places_in, Located};
-ghost use Rattle.sparse.specs.Views.{before};
 
 use lists::index;
 use sparse::words::word;
@@ -54,7 +53,7 @@ pub fn places_of(n: u32, m: u32, r: u32, lcount: u32, ucount: u32) -> Places
 // The header's number k: p, n, m, r, the entry counts of L and U.
 pub fn number(cert: &[u8], k: usize) -> u32
     requires { (k < 6) × (29 ≤ length cert.now) }
-    ensures { result ≡ field (before cert) k }
+    ensures { result ≡ field cert.now k }
 {
     word(&[], &cert[5..], k)
 }
@@ -62,7 +61,7 @@ pub fn number(cert: &[u8], k: usize) -> u32
 // The places in a certificate that has the right length for an n by m matrix and the rank and entry counts of its header.
 pub fn places_in(cert: &[u8], n: u32, m: u32) -> Places
     requires { length cert.now ≡ (places_in n m cert.now).end }
-    ensures { Located n m (before cert) result }
+    ensures { Located n m cert.now result }
 {
     let r = number(cert, 3);
     let lcount = number(cert, 4);

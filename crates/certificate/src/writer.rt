@@ -4,7 +4,7 @@ ghost use Rattle.std.proofs.lemmas.List.Edits.{sets};
 ghost use Rattle.lists.specs.Stored.{Stored};
 ghost use Rattle.certificate.specs.Layout.{bytes, mark, version, header_numbers, factor_numbers, certificate_of};
 ghost use Rattle.certificate.specs.Writing.{Writes, Writable, CertificateRoom};
-ghost use Rattle.sparse.specs.Views.{before, after, stored_before, set_at, set_before};
+ghost use Rattle.sparse.specs.Views.{stored_before, set_at, set_before};
 
 use crate::parts::places_of;
 use byte_buffer::put_bytes;
@@ -13,7 +13,7 @@ use lists::clear_bytes;
 // Stores a number as four bytes, least significant first.
 fn put_word(x: u32, buffer: &mut [u8], at: usize)
     requires { at + 4 ≤ length buffer.old }
-    ensures { after buffer ≡ sets (before buffer) at (bytes (x ∷ [])) }
+    ensures { buffer.new ≡ sets buffer.old at (bytes (x ∷ [])) }
 {
     buffer[at] = (x % 256) as u8;
     buffer[at + 1] = (x / 256 % 256) as u8;
@@ -24,7 +24,7 @@ fn put_word(x: u32, buffer: &mut [u8], at: usize)
 // Stores the numbers of a list from a place on; the place after them.
 fn put_words(list: &[u32], buffer: &mut [u8], at: usize) -> usize
     requires { at + 4 * length list.now ≤ length buffer.old }
-    ensures { Stored (before buffer) (after buffer) at result (bytes (before list)) }
+    ensures { Stored buffer.old buffer.new at result (bytes list.now) }
 {
     let mut next = at;
     let mut i = 0;
@@ -39,7 +39,7 @@ fn put_words(list: &[u32], buffer: &mut [u8], at: usize) -> usize
 // Stores mark, version and the header's numbers at the front; the place after them.
 fn put_header(p: u32, n: u32, m: u32, r: u32, lcount: u32, ucount: u32, buffer: &mut [u8]) -> usize
     requires { 29 ≤ length buffer.old }
-    ensures { Stored (before buffer) (after buffer) 0 result (mark ++ (version ++ bytes (header_numbers p n m r lcount ucount))) }
+    ensures { Stored buffer.old buffer.new 0 result (mark ++ (version ++ bytes (header_numbers p n m r lcount ucount))) }
 {
     let numbers = [p, n, m, r, lcount, ucount];
     let after_mark = put_bytes(b"PLQ", buffer, 0);
@@ -50,7 +50,7 @@ fn put_header(p: u32, n: u32, m: u32, r: u32, lcount: u32, ucount: u32, buffer: 
 // Stores the three lists of a factor from a place on; the place after them.
 fn put_factor(starts: &[u32], cols: &[u32], vals: &[u32], buffer: &mut [u8], at: usize) -> usize
     requires { at + 4 * (length starts.now + (length cols.now + length vals.now)) ≤ length buffer.old }
-    ensures { Stored (before buffer) (after buffer) at result (bytes (factor_numbers (stored_before starts cols vals))) }
+    ensures { Stored buffer.old buffer.new at result (bytes (factor_numbers (stored_before starts.now cols.now vals.now))) }
 {
     let after_starts = put_words(starts, buffer, at);
     let after_cols = put_words(cols, buffer, after_starts);
@@ -73,8 +73,8 @@ fn put_certificate(
     uv: &[u32],
     buffer: &mut [u8],
 ) -> usize
-    requires { CertificateRoom p n m (set_at r ro co ls lc lv us uc uv) buffer.old }
-    ensures { Stored (before buffer) (after buffer) 0 result (certificate_of p n m (set_before r ro co ls lc lv us uc uv)) }
+    requires { CertificateRoom p n m (set_at r ro.now co.now ls.now lc.now lv.now us.now uc.now uv.now) buffer.old }
+    ensures { Stored buffer.old buffer.new 0 result (certificate_of p n m (set_before r ro.now co.now ls.now lc.now lv.now us.now uc.now uv.now)) }
 {
     let after_header = put_header(p, n, m, r, lc.len() as u32, uc.len() as u32, buffer);
     let after_rows = put_words(ro, buffer, after_header);
@@ -100,8 +100,8 @@ pub fn write(
     uv: &[u32],
     buffer: &mut [u8],
 ) -> usize
-    requires { Writable n m (set_at r ro co ls lc lv us uc uv) }
-    ensures { Writes (certificate_of p n m (set_before r ro co ls lc lv us uc uv)) (before buffer) (after buffer) result }
+    requires { Writable n m (set_at r ro.now co.now ls.now lc.now lv.now us.now uc.now uv.now) }
+    ensures { Writes (certificate_of p n m (set_before r ro.now co.now ls.now lc.now lv.now us.now uc.now uv.now)) buffer.old buffer.new result }
 {
     clear_bytes(buffer);
     let places = places_of(n, m, r, lc.len() as u32, uc.len() as u32);

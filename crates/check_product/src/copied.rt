@@ -1,7 +1,7 @@
 // Rows of A that are multiples of one row of U, seen in the lists: no working row is filled or cleared for them.
 ghost use Rattle.std.specs.Prelude.{◌≡◌, true, ℕ};
 ghost use Rattle.sparse.specs.Matrix.{matrix};
-ghost use Rattle.sparse.specs.Views.{before, stored_at, stored_before, view_at, view_before, viewed_at, vector_before, matrix_before};
+ghost use Rattle.sparse.specs.Views.{stored_at, stored_before, view_at, view_before, viewed_at, vector_before, matrix_before};
 ghost use Rattle.pluq.specs.Judge.{agrees};
 ghost use Rattle.check_product.specs.Combination.{MultipleOf};
 ghost use Rattle.check_product.specs.Needs.{ComparesMultiple, NamesRows};
@@ -23,8 +23,8 @@ fn is_multiple(
     uvb: &[u8],
     c: u32,
 ) -> bool
-    requires { ComparesMultiple q.p c cols.now vals.now (view_at uc ucb) (view_at uv uvb) }
-    ensures { result ≡ true → MultipleOf q.p c (before cols) (before vals) (view_before uc ucb) (view_before uv uvb) }
+    requires { ComparesMultiple q.p c cols.now vals.now (view_at uc.now ucb.now) (view_at uv.now uvb.now) }
+    ensures { result ≡ true → MultipleOf q.p c cols.now vals.now (view_before uc.now ucb.now) (view_before uv.now uvb.now) }
 {
     if count(uc, ucb) != cols.len() {
         return false;
@@ -66,8 +66,8 @@ pub fn is_copied(
     r: usize,
     i: usize,
 ) -> bool
-    requires { NamesRows q.p r i (stored_at starts cols vals) (view_at ro rob) (viewed_at ls lsb lc lcb lv lvb) (viewed_at us usb uc ucb uv uvb) }
-    ensures { result ≡ true → (m : ℕ) → agrees q.p m r (matrix (stored_before starts cols vals)) (vector_before ro rob) (matrix_before ls lsb lc lcb lv lvb) (matrix_before us usb uc ucb uv uvb) i ≡ true }
+    requires { NamesRows q.p r i (stored_at starts.now cols.now vals.now) (view_at ro.now rob.now) (viewed_at ls.now lsb.now lc.now lcb.now lv.now lvb.now) (viewed_at us.now usb.now uc.now ucb.now uv.now uvb.now) }
+    ensures { result ≡ true → (m : ℕ) → agrees q.p m r (matrix (stored_before starts.now cols.now vals.now)) (vector_before ro.now rob.now) (matrix_before ls.now lsb.now lc.now lcb.now lv.now lvb.now) (matrix_before us.now usb.now uc.now ucb.now uv.now uvb.now) i ≡ true }
 {
     if row_length(ls, lsb, i) != 1 {
         return false;

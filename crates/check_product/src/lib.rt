@@ -8,7 +8,7 @@ ghost use Rattle.lists.specs.Tests.{first};
 ghost use Rattle.sparse.specs.Row.{weigh};
 ghost use Rattle.sparse.specs.Matrix.{matrix};
 ghost use Rattle.sparse.specs.WorkingRow.{SubtractedTo, growth};
-ghost use Rattle.sparse.specs.Views.{before, after, stored_at, stored_before, view_at, view_before, viewed_at, vector_before, matrix_before};
+ghost use Rattle.sparse.specs.Views.{stored_at, stored_before, view_at, view_before, viewed_at, vector_before, matrix_before};
 ghost use Rattle.pluq.specs.Judge.{agrees};
 ghost use Rattle.check_product.specs.Combination.{is_combination};
 ghost use Rattle.check_product.specs.Needs.{CombinesRows, ComparesRow, Comparable};
@@ -26,8 +26,8 @@ use sparse::words::{bytes_part, count, list_part, word};
 
 // The number at place t of a list, as an index.
 fn index_at(list: &[u32], bytes: &[u8], t: usize) -> usize
-    requires { t < length (view_at list bytes) }
-    ensures { result ≡ get_or (view_before list bytes) t 0 }
+    requires { t < length (view_at list.now bytes.now) }
+    ensures { result ≡ get_or (view_before list.now bytes.now) t 0 }
 {
     index(word(list, bytes, t))
 }
@@ -48,8 +48,8 @@ fn subtract_rows(
     r: usize,
     work: &mut [u64],
 )
-    requires { CombinesRows q.p r (view_at ks kb) (view_at vs vb) (viewed_at us usb uc ucb uv uvb) work.old }
-    ensures { SubtractedTo q.p (q.p * q.p + length (view_before ks kb) * growth q.p) (λ j. weigh (view_before ks kb) (view_before vs vb) (λ k. matrix_before us usb uc ucb uv uvb k j)) (before work) (after work) }
+    requires { CombinesRows q.p r (view_at ks.now kb.now) (view_at vs.now vb.now) (viewed_at us.now usb.now uc.now ucb.now uv.now uvb.now) work.old }
+    ensures { SubtractedTo q.p (q.p * q.p + length (view_before ks.now kb.now) * growth q.p) (λ j. weigh (view_before ks.now kb.now) (view_before vs.now vb.now) (λ k. matrix_before us.now usb.now uc.now ucb.now uv.now uvb.now k j)) work.old work.new }
 {
     let n = count(ks, kb);
     let mut t = 0;
@@ -79,8 +79,8 @@ fn is_combination(
     r: usize,
     work: &mut [u64],
 ) -> bool
-    requires { ComparesRow q.p r cols.now (view_at ks kb) (view_at vs vb) (viewed_at us usb uc ucb uv uvb) work.old }
-    ensures { (result ≡ is_combination q.p (before work) (view_before ks kb) (view_before vs vb) (matrix_before us usb uc ucb uv uvb)) × (after work ≡ zeros (length (before work))) }
+    requires { ComparesRow q.p r cols.now (view_at ks.now kb.now) (view_at vs.now vb.now) (viewed_at us.now usb.now uc.now ucb.now uv.now uvb.now) work.old }
+    ensures { (result ≡ is_combination q.p work.old (view_before ks.now kb.now) (view_before vs.now vb.now) (matrix_before us.now usb.now uc.now ucb.now uv.now uvb.now)) × (work.new ≡ zeros (length work.old)) }
 {
     subtract_rows(q, ks, kb, vs, vb, us, usb, uc, ucb, uv, uvb, r, work);
     clear_touched(q, cols, ks, kb, us, usb, uc, ucb, work)
@@ -112,8 +112,8 @@ fn row_combines(
     i: usize,
     work: &mut [u64],
 ) -> bool
-    requires { (i < n) × Comparable q.p n r (stored_at starts cols vals) (view_at ro rob) (viewed_at ls lsb lc lcb lv lvb) (viewed_at us usb uc ucb uv uvb) work.old }
-    ensures { (result ≡ agrees q.p (length (before work)) r (matrix (stored_before starts cols vals)) (vector_before ro rob) (matrix_before ls lsb lc lcb lv lvb) (matrix_before us usb uc ucb uv uvb) i) × (after work ≡ before work) }
+    requires { (i < n) × Comparable q.p n r (stored_at starts.now cols.now vals.now) (view_at ro.now rob.now) (viewed_at ls.now lsb.now lc.now lcb.now lv.now lvb.now) (viewed_at us.now usb.now uc.now ucb.now uv.now uvb.now) work.old }
+    ensures { (result ≡ agrees q.p (length work.old) r (matrix (stored_before starts.now cols.now vals.now)) (vector_before ro.now rob.now) (matrix_before ls.now lsb.now lc.now lcb.now lv.now lvb.now) (matrix_before us.now usb.now uc.now ucb.now uv.now uvb.now) i) × (work.new ≡ work.old) }
 {
     let k = index_at(ro, rob, i);
     subtract_list_row(q, starts, cols, vals, k, q.p - 1, work);
@@ -165,8 +165,8 @@ fn row_agrees(
     i: usize,
     work: &mut [u64],
 ) -> bool
-    requires { (i < n) × Comparable q.p n r (stored_at starts cols vals) (view_at ro rob) (viewed_at ls lsb lc lcb lv lvb) (viewed_at us usb uc ucb uv uvb) work.old }
-    ensures { (result ≡ agrees q.p (length (before work)) r (matrix (stored_before starts cols vals)) (vector_before ro rob) (matrix_before ls lsb lc lcb lv lvb) (matrix_before us usb uc ucb uv uvb) i) × (after work ≡ before work) }
+    requires { (i < n) × Comparable q.p n r (stored_at starts.now cols.now vals.now) (view_at ro.now rob.now) (viewed_at ls.now lsb.now lc.now lcb.now lv.now lvb.now) (viewed_at us.now usb.now uc.now ucb.now uv.now uvb.now) work.old }
+    ensures { (result ≡ agrees q.p (length work.old) r (matrix (stored_before starts.now cols.now vals.now)) (vector_before ro.now rob.now) (matrix_before ls.now lsb.now lc.now lcb.now lv.now lvb.now) (matrix_before us.now usb.now uc.now ucb.now uv.now uvb.now) i) × (work.new ≡ work.old) }
 {
     if is_copied(
         q, starts, cols, vals, ro, rob, ls, lsb, lc, lcb, lv, lvb, us, usb, uc, ucb, uv, uvb, r, i,
@@ -203,8 +203,8 @@ pub fn first_differing(
     n: usize,
     work: &mut [u64],
 ) -> usize
-    requires { Comparable q.p n r (stored_at starts cols vals) (view_at ro rob) (viewed_at ls lsb lc lcb lv lvb) (viewed_at us usb uc ucb uv uvb) work.old }
-    ensures { (result ≡ first n (agrees q.p (length (before work)) r (matrix (stored_before starts cols vals)) (vector_before ro rob) (matrix_before ls lsb lc lcb lv lvb) (matrix_before us usb uc ucb uv uvb))) × (after work ≡ before work) }
+    requires { Comparable q.p n r (stored_at starts.now cols.now vals.now) (view_at ro.now rob.now) (viewed_at ls.now lsb.now lc.now lcb.now lv.now lvb.now) (viewed_at us.now usb.now uc.now ucb.now uv.now uvb.now) work.old }
+    ensures { (result ≡ first n (agrees q.p (length work.old) r (matrix (stored_before starts.now cols.now vals.now)) (vector_before ro.now rob.now) (matrix_before ls.now lsb.now lc.now lcb.now lv.now lvb.now) (matrix_before us.now usb.now uc.now ucb.now uv.now uvb.now))) × (work.new ≡ work.old) }
 {
     let mut i = 0;
     while i < n {

@@ -2,7 +2,7 @@
 ghost use Rattle.std.specs.Prelude.{◌≡◌, ◌&&◌, true, ◌+◌, ◌-◌, ◌%◌, ◌<◌, eqb, length, get_or};
 ghost use Rattle.check_product.specs.Sweep.{Among, AmongRows, Swept, TestedAndCleared};
 ghost use Rattle.check_product.specs.Needs.{StartsRise, CountsRows, SweepsRow, SweepsRows, ClearsTouched};
-ghost use Rattle.sparse.specs.Views.{before, after, view_at, view_before};
+ghost use Rattle.sparse.specs.Views.{view_at, view_before};
 
 use crate::index_at;
 use residue::Modulus;
@@ -22,7 +22,7 @@ fn still_zero(q: Modulus, zero: bool, x: u64) -> bool
 // Whether every cell stands for 0; all cells are set to 0.
 fn zero_and_clear(q: Modulus, work: &mut [u64]) -> bool
     requires { 0 < q.p }
-    ensures { TestedAndCleared q.p (before work) (after work) result }
+    ensures { TestedAndCleared q.p work.old work.new result }
 {
     let mut zero = true;
     let mut j = 0;
@@ -36,8 +36,8 @@ fn zero_and_clear(q: Modulus, work: &mut [u64]) -> bool
 
 // Whether all cells so far stood for 0, and those at the columns of a row do; these are set to 0.
 fn sweep_row(q: Modulus, cols: &[u32], cb: &[u8], zero: bool, work: &mut [u64]) -> bool
-    requires { SweepsRow q.p (view_at cols cb) work.old }
-    ensures { Swept q.p (Among (view_before cols cb)) zero (before work) (after work) result }
+    requires { SweepsRow q.p (view_at cols.now cb.now) work.old }
+    ensures { Swept q.p (Among (view_before cols.now cb.now)) zero work.old work.new result }
 {
     let n = count(cols, cb);
     let mut so_far = zero;
@@ -63,8 +63,8 @@ fn sweep_rows(
     ucb: &[u8],
     work: &mut [u64],
 ) -> bool
-    requires { SweepsRows q.p (view_at ks kb) (view_at us usb) (view_at uc ucb) work.old }
-    ensures { Swept q.p (AmongRows (view_before ks kb) (view_before us usb) (view_before uc ucb)) true (before work) (after work) result }
+    requires { SweepsRows q.p (view_at ks.now kb.now) (view_at us.now usb.now) (view_at uc.now ucb.now) work.old }
+    ensures { Swept q.p (AmongRows (view_before ks.now kb.now) (view_before us.now usb.now) (view_before uc.now ucb.now)) true work.old work.new result }
 {
     let n = count(ks, kb);
     let mut zero = true;
@@ -87,8 +87,8 @@ fn sweep_rows(
 
 // How many entries row k has.
 pub fn row_length(starts: &[u32], sb: &[u8], k: usize) -> usize
-    requires { (k + 1 < length (view_at starts sb)) × StartsRise (view_at starts sb) }
-    ensures { result ≡ get_or (view_before starts sb) (k + 1) 0 - get_or (view_before starts sb) k 0 }
+    requires { (k + 1 < length (view_at starts.now sb.now)) × StartsRise (view_at starts.now sb.now) }
+    ensures { result ≡ get_or (view_before starts.now sb.now) (k + 1) 0 - get_or (view_before starts.now sb.now) k 0 }
 {
     index_at(starts, sb, k + 1) - index_at(starts, sb, k)
 }
@@ -97,7 +97,7 @@ pub fn row_length(starts: &[u32], sb: &[u8], k: usize) -> usize
 // It counts down, and ends where nothing is left. The answer only chooses the shorter of two ways to one result: the
 // contract says nothing of it.
 fn touches_few(ks: &[u32], kb: &[u8], us: &[u32], usb: &[u8], own: usize, limit: usize) -> bool
-    requires { CountsRows (view_at ks kb) (view_at us usb) }
+    requires { CountsRows (view_at ks.now kb.now) (view_at us.now usb.now) }
 {
     let n = count(ks, kb);
     let mut left = limit;
@@ -128,8 +128,8 @@ pub fn clear_touched(
     ucb: &[u8],
     work: &mut [u64],
 ) -> bool
-    requires { ClearsTouched q.p cols.now (view_at ks kb) (view_at us usb) (view_at uc ucb) work.old }
-    ensures { TestedAndCleared q.p (before work) (after work) result }
+    requires { ClearsTouched q.p cols.now (view_at ks.now kb.now) (view_at us.now usb.now) (view_at uc.now ucb.now) work.old }
+    ensures { TestedAndCleared q.p work.old work.new result }
 {
     let own = cols.len();
     if !touches_few(ks, kb, us, usb, own, work.len() / 4) {

@@ -6,7 +6,7 @@
 ghost use Rattle.std.specs.Prelude.{◌≡◌};
 ghost use Rattle.pluq.specs.Judge.{judge_factors, judge};
 ghost use Rattle.check_set.specs.Needs.{Judgeable, Checkable};
-ghost use Rattle.sparse.specs.Views.{before, after, stored_at, stored_before, viewed_set_at, viewed_set_before};
+ghost use Rattle.sparse.specs.Views.{stored_at, stored_before, viewed_set_at, viewed_set_before};
 
 use check_product::first_differing;
 use check_shape::lower::lower_ok;
@@ -44,8 +44,8 @@ pub fn judge_factors(
     r: u32,
     work: &mut [u64],
 ) -> Outcome
-    requires { Judgeable q.p n m (stored_at starts cols vals) (viewed_set_at r ro rob co cob ls lsb lc lcb lv lvb us usb uc ucb uv uvb) work.old }
-    ensures { (result ≡ judge_factors q.p n m (stored_before starts cols vals) (viewed_set_before r ro rob co cob ls lsb lc lcb lv lvb us usb uc ucb uv uvb)) × (after work ≡ before work) }
+    requires { Judgeable q.p n m (stored_at starts.now cols.now vals.now) (viewed_set_at r ro.now rob.now co.now cob.now ls.now lsb.now lc.now lcb.now lv.now lvb.now us.now usb.now uc.now ucb.now uv.now uvb.now) work.old }
+    ensures { (result ≡ judge_factors q.p n m (stored_before starts.now cols.now vals.now) (viewed_set_before r ro.now rob.now co.now cob.now ls.now lsb.now lc.now lcb.now lv.now lvb.now us.now usb.now uc.now ucb.now uv.now uvb.now)) × (work.new ≡ work.old) }
 {
     if !form_ok(ls, lsb, lc, lcb, lv, lvb, r, q.p) {
         return Outcome::Refused(BAD_FACTORS, 0);
@@ -96,8 +96,8 @@ pub fn check(
     r: u32,
     work: &mut [u64],
 ) -> Outcome
-    requires { Checkable q.p n m (stored_at starts cols vals) (viewed_set_at r ro rob co cob ls lsb lc lcb lv lvb us usb uc ucb uv uvb) work.old }
-    ensures { (result ≡ judge q.p n m (stored_before starts cols vals) (viewed_set_before r ro rob co cob ls lsb lc lcb lv lvb us usb uc ucb uv uvb)) × (after work ≡ before work) }
+    requires { Checkable q.p n m (stored_at starts.now cols.now vals.now) (viewed_set_at r ro.now rob.now co.now cob.now ls.now lsb.now lc.now lcb.now lv.now lvb.now us.now usb.now uc.now ucb.now uv.now uvb.now) work.old }
+    ensures { (result ≡ judge q.p n m (stored_before starts.now cols.now vals.now) (viewed_set_before r ro.now rob.now co.now cob.now ls.now lsb.now lc.now lcb.now lv.now lvb.now us.now usb.now uc.now ucb.now uv.now uvb.now)) × (work.new ≡ work.old) }
 {
     if !is_permutation(ro, rob, work) {
         return Outcome::Refused(NO_PERMUTATION, 0);

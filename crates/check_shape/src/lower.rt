@@ -20,8 +20,8 @@ fn lower_row(
     r: usize,
     k: usize,
 ) -> bool
-    requires { (k < r) × Rows p r r (viewed_at starts sb cols cb vals vb) }
-    ensures { result ≡ lower_row r (matrix (viewed_before starts sb cols cb vals vb) k) k }
+    requires { (k < r) × Rows p r r (viewed_at starts.now sb.now cols.now cb.now vals.now vb.now) }
+    ensures { result ≡ lower_row r (matrix (viewed_before starts.now sb.now cols.now cb.now vals.now vb.now) k) k }
 {
     let a = index(word(starts, sb, k));
     let e = index(word(starts, sb, k + 1));
@@ -42,8 +42,8 @@ pub fn lower_ok(
     p: u32,
     r: usize,
 ) -> bool
-    requires { Rows p r r (viewed_at starts sb cols cb vals vb) }
-    ensures { result ≡ lower r (matrix (viewed_before starts sb cols cb vals vb)) }
+    requires { Rows p r r (viewed_at starts.now sb.now cols.now cb.now vals.now vb.now) }
+    ensures { result ≡ lower r (matrix (viewed_before starts.now sb.now cols.now cb.now vals.now vb.now)) }
 {
     let mut k = 0;
     while k < r {

@@ -2,15 +2,15 @@
 ghost use Rattle.std.specs.Prelude.{◌≡◌, ◌≤◌, length};
 ghost use Rattle.lists.specs.Filled.{zeros};
 ghost use Rattle.pluq.specs.Order.{permutation};
-ghost use Rattle.sparse.specs.Views.{before, after, view_at, view_before};
+ghost use Rattle.sparse.specs.Views.{view_at, view_before};
 
 use lists::clear_row;
 use sparse::words::{count, word};
 
 // Marks the cell of each number, up to the first that is not below n or is marked already.
 fn mark_all(list: &[u32], bytes: &[u8], n: usize, mark: &mut [u64]) -> bool
-    requires { (n ≡ length (view_at list bytes)) × (n ≤ length mark.old) × (mark.old ≡ zeros (length mark.old)) }
-    ensures { result ≡ permutation (view_before list bytes) }
+    requires { (n ≡ length (view_at list.now bytes.now)) × (n ≤ length mark.old) × (mark.old ≡ zeros (length mark.old)) }
+    ensures { result ≡ permutation (view_before list.now bytes.now) }
 {
     let mut i = 0;
     while i < n {
@@ -29,8 +29,8 @@ fn mark_all(list: &[u32], bytes: &[u8], n: usize, mark: &mut [u64]) -> bool
 
 // Whether the numbers are a permutation; the mark row is all zero before and after.
 pub fn is_permutation(list: &[u32], bytes: &[u8], mark: &mut [u64]) -> bool
-    requires { (length (view_at list bytes) ≤ length mark.old) × (mark.old ≡ zeros (length mark.old)) }
-    ensures { (result ≡ permutation (view_before list bytes)) × (after mark ≡ before mark) }
+    requires { (length (view_at list.now bytes.now) ≤ length mark.old) × (mark.old ≡ zeros (length mark.old)) }
+    ensures { (result ≡ permutation (view_before list.now bytes.now)) × (mark.new ≡ mark.old) }
 {
     let n = count(list, bytes);
     let ok = mark_all(list, bytes, n, mark);

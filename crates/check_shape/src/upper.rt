@@ -4,7 +4,7 @@ ghost use Rattle.std.proofs.Math.Seq.{slice};
 ghost use Rattle.algebra.specs.Matrix.{vector};
 ghost use Rattle.sparse.specs.Row.{entry, Row};
 ghost use Rattle.sparse.specs.Matrix.{matrix, row_of};
-ghost use Rattle.sparse.specs.Views.{before, after, view_at, view_before, viewed_at, viewed_before};
+ghost use Rattle.sparse.specs.Views.{view_at, view_before, viewed_at, viewed_before};
 ghost use Rattle.pluq.specs.Shape.{upper};
 ghost use Rattle.check_shape.specs.Needs.{clean, AtRow, ColumnsTestable};
 
@@ -13,8 +13,8 @@ use sparse::words::word;
 
 // Whether the cells of the columns from place a up to place e are all 0.
 fn unmarked(cols: &[u32], cb: &[u8], a: usize, e: usize, work: &mut [u64]) -> bool
-    requires { (a ≤ e) × (e ≤ length (view_at cols cb)) × ((t : ℕ) → a ≤ t → t < e → get_or (view_at cols cb) t 0 < length work.old) }
-    ensures { (result ≡ clean (before work) (slice a e (view_before cols cb))) × (after work ≡ before work) }
+    requires { (a ≤ e) × (e ≤ length (view_at cols.now cb.now)) × ((t : ℕ) → a ≤ t → t < e → get_or (view_at cols.now cb.now) t 0 < length work.old) }
+    ensures { (result ≡ clean work.old (slice a e (view_before cols.now cb.now))) × (work.new ≡ work.old) }
 {
     let mut i = a;
     while i < e {
@@ -39,8 +39,8 @@ fn value_at(
     e: usize,
     j: u32,
 ) -> u32
-    requires { (a ≤ e) × (e ≤ length (view_at cols cb)) × (e ≤ length (view_at vals vb)) × Row p width (slice a e (view_at cols cb)) (slice a e (view_at vals vb)) }
-    ensures { result ≡ entry (slice a e (view_before cols cb)) (slice a e (view_before vals vb)) j }
+    requires { (a ≤ e) × (e ≤ length (view_at cols.now cb.now)) × (e ≤ length (view_at vals.now vb.now)) × Row p width (slice a e (view_at cols.now cb.now)) (slice a e (view_at vals.now vb.now)) }
+    ensures { result ≡ entry (slice a e (view_before cols.now cb.now)) (slice a e (view_before vals.now vb.now)) j }
 {
     let mut i = a;
     while i < e {
@@ -65,8 +65,8 @@ fn unit_row(
     j: u32,
     work: &mut [u64],
 ) -> bool
-    requires { AtRow p k (viewed_at starts sb cols cb vals vb) work.old }
-    ensures { (result ≡ (clean (before work) (row_of (view_before starts sb) k (view_before cols cb)) && eqb (matrix (viewed_before starts sb cols cb vals vb) k j) 1)) × (after work ≡ before work) }
+    requires { AtRow p k (viewed_at starts.now sb.now cols.now cb.now vals.now vb.now) work.old }
+    ensures { (result ≡ (clean work.old (row_of (view_before starts.now sb.now) k (view_before cols.now cb.now)) && eqb (matrix (viewed_before starts.now sb.now cols.now cb.now vals.now vb.now) k j) 1)) × (work.new ≡ work.old) }
 {
     let a = index(word(starts, sb, k));
     let e = index(word(starts, sb, k + 1));
@@ -91,8 +91,8 @@ fn upper_rows(
     r: usize,
     work: &mut [u64],
 ) -> bool
-    requires { ColumnsTestable p r (viewed_at starts sb cols cb vals vb) (view_at co cob) work.old }
-    ensures { (result ≡ upper r (vector (view_before co cob)) (matrix (viewed_before starts sb cols cb vals vb))) × (length (after work) ≡ length (before work)) }
+    requires { ColumnsTestable p r (viewed_at starts.now sb.now cols.now cb.now vals.now vb.now) (view_at co.now cob.now) work.old }
+    ensures { (result ≡ upper r (vector (view_before co.now cob.now)) (matrix (viewed_before starts.now sb.now cols.now cb.now vals.now vb.now))) × (length work.new ≡ length work.old) }
 {
     let mut k = 0;
     while k < r {
@@ -121,8 +121,8 @@ pub fn upper_ok(
     r: usize,
     work: &mut [u64],
 ) -> bool
-    requires { ColumnsTestable p r (viewed_at starts sb cols cb vals vb) (view_at co cob) work.old }
-    ensures { (result ≡ upper r (vector (view_before co cob)) (matrix (viewed_before starts sb cols cb vals vb))) × (after work ≡ before work) }
+    requires { ColumnsTestable p r (viewed_at starts.now sb.now cols.now cb.now vals.now vb.now) (view_at co.now cob.now) work.old }
+    ensures { (result ≡ upper r (vector (view_before co.now cob.now)) (matrix (viewed_before starts.now sb.now cols.now cb.now vals.now vb.now))) × (work.new ≡ work.old) }
 {
     let ok = upper_rows(starts, sb, cols, cb, vals, vb, co, cob, p, r, work);
     clear_row(work);

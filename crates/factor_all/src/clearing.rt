@@ -7,7 +7,7 @@ use lists::{clear, clear_row};
 
 // Clears the starts, columns and values of a factor.
 fn clear_factor(starts: &mut [u32], cols: &mut [u32], vals: &mut [u32])
-    ensures { Cleared (stored_after starts cols vals) }
+    ensures { Cleared (stored_after starts.new cols.new vals.new) }
 {
     clear(starts);
     clear(cols);
@@ -26,7 +26,7 @@ pub fn clear_all(
     uv: &mut [u32],
     work: &mut [u64],
 )
-    ensures { AllClear (storage_after ro co ls lc lv us uc uv work) }
+    ensures { AllClear (storage_after ro.new co.new ls.new lc.new lv.new us.new uc.new uv.new work.new) }
 {
     clear(ro);
     clear(co);

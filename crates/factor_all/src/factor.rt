@@ -1,7 +1,7 @@
 // Factoring of a stored matrix into lent lists. The names of the lists: `ro` and `co` are the orders R and C, `ls`, `lc`, `lv` the
 // starts, columns and values of L, `us`, `uc`, `uv` those of U.
 ghost use Rattle.std.specs.Prelude.{length};
-ghost use Rattle.sparse.specs.Views.{before, stored_at, stored_before, storage_at, storage_before, storage_after};
+ghost use Rattle.sparse.specs.Views.{stored_at, stored_before, storage_at, storage_before, storage_after};
 ghost use Rattle.factor_all.specs.Factorization.{factoring, Leaves};
 ghost use Rattle.factor_passes.specs.Needs.{FromReady};
 ghost use Rattle.factor_all.specs.Needs.{factoring_in, FactorReady};
@@ -38,8 +38,8 @@ pub fn factor_from(
     uv: &mut [u32],
     work: &mut [u64],
 ) -> Factored
-    requires { FromReady q.p s (stored_at starts cols vals) (storage_at ro co ls lc lv us uc uv work) }
-    ensures { Leaves (factoring_in q.p s (stored_before starts cols vals) (storage_before ro co ls lc lv us uc uv work)) result (storage_after ro co ls lc lv us uc uv work) }
+    requires { FromReady q.p s (stored_at starts.now cols.now vals.now) (storage_at ro.old co.old ls.old lc.old lv.old us.old uc.old uv.old work.old) }
+    ensures { Leaves (factoring_in q.p s (stored_before starts.now cols.now vals.now) (storage_before ro.old co.old ls.old lc.old lv.old us.old uc.old uv.old work.old)) result (storage_after ro.new co.new ls.new lc.new lv.new us.new uc.new uv.new work.new) }
 {
     let pass = pass_one(
         q, starts, cols, vals, s, ro, co, ls, lc, lv, us, uc, uv, work,
@@ -91,8 +91,8 @@ pub fn factor(
     uv: &mut [u32],
     work: &mut [u64],
 ) -> Factored
-    requires { FactorReady q.p n m (stored_at starts cols vals) (storage_at ro co ls lc lv us uc uv work) }
-    ensures { Leaves (factoring q.p n m (stored_before starts cols vals) (length (before lc)) (length (before uc))) result (storage_after ro co ls lc lv us uc uv work) }
+    requires { FactorReady q.p n m (stored_at starts.now cols.now vals.now) (storage_at ro.old co.old ls.old lc.old lv.old us.old uc.old uv.old work.old) }
+    ensures { Leaves (factoring q.p n m (stored_before starts.now cols.now vals.now) (length lc.old) (length uc.old)) result (storage_after ro.new co.new ls.new lc.new lv.new us.new uc.new uv.new work.new) }
 {
     let s = structural_pairs(
         starts,

@@ -2,7 +2,7 @@
 ghost use Rattle.std.specs.Prelude.{◌≡◌, ◌+◌, length};
 ghost use Rattle.factor_arrange.specs.Waiting.{waiting_to, waiting, DegreesCounted, Ready};
 ghost use Rattle.factor_arrange.specs.Needs.{DegreesReady, DegreeRowReady, MarkReady};
-ghost use Rattle.sparse.specs.Views.{before, after, stored_at, stored_before};
+ghost use Rattle.sparse.specs.Views.{stored_at, stored_before};
 
 use factor_names::columns_of;
 use lists::index;
@@ -10,7 +10,7 @@ use lists::index;
 // Copies a list into another of its length.
 pub fn copy(from: &[u32], to: &mut [u32])
     requires { length to.old ≡ length from.now }
-    ensures { after to ≡ before from }
+    ensures { to.new ≡ from.now }
 {
     let mut i = 0;
     while i < from.len() {
@@ -31,8 +31,8 @@ fn count_row(
     chosen: &[u32],
     degrees: &mut [u32],
 )
-    requires { DegreeRowReady p n k (stored_at starts cols vals) work.now chosen.now degrees.old }
-    ensures { DegreesCounted (stored_before starts cols vals) (before work) (waiting_to (before chosen) (k + 1)) (after degrees) }
+    requires { DegreeRowReady p n k (stored_at starts.now cols.now vals.now) work.now chosen.now degrees.old }
+    ensures { DegreesCounted (stored_before starts.now cols.now vals.now) work.now (waiting_to chosen.now (k + 1)) degrees.new }
 {
     let row = columns_of(starts, cols, k);
     let own = k as u64 + 1;
@@ -60,8 +60,8 @@ pub fn count(
     chosen: &[u32],
     degrees: &mut [u32],
 )
-    requires { DegreesReady p n (stored_at starts cols vals) work.now chosen.now degrees.old }
-    ensures { DegreesCounted (stored_before starts cols vals) (before work) (waiting (before chosen)) (after degrees) }
+    requires { DegreesReady p n (stored_at starts.now cols.now vals.now) work.now chosen.now degrees.old }
+    ensures { DegreesCounted (stored_before starts.now cols.now vals.now) work.now (waiting chosen.now) degrees.new }
 {
     let mut k = 0;
     while k < n {
@@ -75,7 +75,7 @@ pub fn count(
 // Marks the rows that are chosen and to which none leads.
 pub fn mark_ready(chosen: &[u32], degrees: &[u32], ready: &mut [u64])
     requires { MarkReady chosen.now degrees.now ready.old }
-    ensures { Ready (before chosen) (before degrees) (after ready) }
+    ensures { Ready chosen.now degrees.now ready.new }
 {
     let mut i = 0;
     while i < chosen.len() {

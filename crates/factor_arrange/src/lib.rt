@@ -4,7 +4,7 @@
 
 ghost use Rattle.std.specs.Prelude.{length};
 ghost use Rattle.factor_arrange.specs.Needs.{ArrangeReady, Arranged, ListReady, OrderReady};
-ghost use Rattle.sparse.specs.Views.{before, after, stored_at, stored_before};
+ghost use Rattle.sparse.specs.Views.{stored_at, stored_before};
 
 use limits::SIZE_CELLS;
 
@@ -25,8 +25,8 @@ fn list_pairs(
     ro: &mut [u32],
     co: &mut [u32],
 ) -> usize
-    requires { ListReady p (length ready.old) (stored_at starts cols vals) work.now chosen.now waits.old degrees.old ready.old ro.old co.old }
-    ensures { Arranged (length (before ready)) (length (before work)) (stored_before starts cols vals) result (after ro) (after co) }
+    requires { ListReady p (length ready.old) (stored_at starts.now cols.now vals.now) work.now chosen.now waits.old degrees.old ready.old ro.old co.old }
+    ensures { Arranged (length ready.old) (length work.now) (stored_before starts.now cols.now vals.now) result ro.new co.new }
 {
     let mut at = 0;
     let mut k = sparse::scan::next_nonzero(ready, 0);
@@ -57,8 +57,8 @@ fn order_pairs(
     ro: &mut [u32],
     co: &mut [u32],
 ) -> usize
-    requires { OrderReady p n (stored_at starts cols vals) work.now chosen.now waits.old counts.old ready.old ro.old co.old }
-    ensures { Arranged n (length (before work)) (stored_before starts cols vals) result (after ro) (after co) }
+    requires { OrderReady p n (stored_at starts.now cols.now vals.now) work.now chosen.now waits.old counts.old ready.old ro.old co.old }
+    ensures { Arranged n (length work.now) (stored_before starts.now cols.now vals.now) result ro.new co.new }
 {
     degrees::copy(chosen, waits);
     degrees::count(starts, cols, vals, p, n, work, chosen, counts);
@@ -80,8 +80,8 @@ pub fn arrange(
     ro: &mut [u32],
     co: &mut [u32],
 ) -> usize
-    requires { ArrangeReady p n (stored_at starts cols vals) work.now chosen.now ro.old co.old }
-    ensures { Arranged n (length (before work)) (stored_before starts cols vals) result (after ro) (after co) }
+    requires { ArrangeReady p n (stored_at starts.now cols.now vals.now) work.now chosen.now ro.old co.old }
+    ensures { Arranged n (length work.now) (stored_before starts.now cols.now vals.now) result ro.new co.new }
 {
     let mut waits = [0u32; SIZE_CELLS];
     let mut counts = [0u32; SIZE_CELLS];

@@ -1,7 +1,7 @@
 // A row that waits no more.
 ghost use Rattle.std.specs.Prelude.{◌≡◌, length, set};
 ghost use Rattle.factor_arrange.specs.Needs.{DegreeFallsReady, Lowered, ReleaseReady, Released};
-ghost use Rattle.sparse.specs.Views.{before, after, stored_at, stored_before};
+ghost use Rattle.sparse.specs.Views.{stored_at, stored_before};
 
 use factor_names::columns_of;
 use lists::index;
@@ -9,7 +9,7 @@ use lists::index;
 // Row q has one row less that leads to it; where none leads to it any more it becomes ready. Gives the lower of `low` and the row that became ready.
 fn lower(q: usize, low: usize, degrees: &mut [u32], ready: &mut [u64]) -> usize
     requires { DegreeFallsReady q degrees.old ready.old }
-    ensures { Lowered q low (before degrees) (before ready) (after degrees) (after ready) result }
+    ensures { Lowered q low degrees.old ready.old degrees.new ready.new result }
 {
     let left = degrees[q] - 1;
     degrees[q] = left;
@@ -37,8 +37,8 @@ pub fn release(
     degrees: &mut [u32],
     ready: &mut [u64],
 ) -> usize
-    requires { ReleaseReady p (length ready.old) k (stored_at starts cols vals) work.now chosen.now waits.old degrees.old ready.old }
-    ensures { (after waits ≡ set (before waits) k 0) × Released p (length (before ready)) k (stored_before starts cols vals) (before work) (before chosen) (before waits) (before ready) (after degrees) (after ready) result }
+    requires { ReleaseReady p (length ready.old) k (stored_at starts.now cols.now vals.now) work.now chosen.now waits.old degrees.old ready.old }
+    ensures { (waits.new ≡ set waits.old k 0) × Released p (length ready.old) k (stored_before starts.now cols.now vals.now) work.now chosen.now waits.old ready.old degrees.new ready.new result }
 {
     waits[k] = 0;
     ready[k] = 0;

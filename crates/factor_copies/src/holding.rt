@@ -1,6 +1,6 @@
 // Rows are copied.
 ghost use Rattle.std.specs.Prelude.{◌≡◌, true};
-ghost use Rattle.sparse.specs.Views.{before, after, stored_at, stored_before};
+ghost use Rattle.sparse.specs.Views.{stored_at, stored_before};
 ghost use Rattle.factor_copies.specs.Copies.{HoldReady, RowHeld};
 ghost use Rattle.factor_copies.specs.Spreading.{SpreadReady, Spread, Worth, CopyRowReady, RowCopied};
 
@@ -9,7 +9,7 @@ use lists::{index, part};
 // Puts the values of a row into the cells of its copy, which begins at place `at` with column `low` and is all zero.
 fn spread(cols: &[u32], vals: &[u32], low: usize, at: usize, copies: &mut [u32])
     requires { SpreadReady low at cols.now vals.now copies.old }
-    ensures { Spread low at (before cols) (before vals) (before copies) (after copies) }
+    ensures { Spread low at cols.now vals.now copies.old copies.new }
 {
     let mut t = 0;
     while t < cols.len() {
@@ -22,7 +22,7 @@ fn spread(cols: &[u32], vals: &[u32], low: usize, at: usize, copies: &mut [u32])
 // Whether a row of m cells is long, at least half of it from its first column on are entries, and its copy fits into `room`
 // places. Above 2 ^ 16 cells are not added in runs.
 fn is_worth(p: u32, cols: &[u32], m: usize, room: usize) -> bool
-    ensures { result ≡ true → Worth p (before cols) m room }
+    ensures { result ≡ true → Worth p cols.now m room }
 {
     if 65535 < p {
         return false;
@@ -52,7 +52,7 @@ fn copy_row(
     copies: &mut [u32],
 ) -> usize
     requires { CopyRowReady r m fill cols.now vals.now copies.old }
-    ensures { RowCopied r m fill (before cols) (before vals) (before copies) (after copies) result }
+    ensures { RowCopied r m fill cols.now vals.now copies.old copies.new result }
 {
     let low = index(cols[0]);
     copies[r] = fill as u32;
@@ -74,8 +74,8 @@ pub fn hold_row(
     vals: &[u32],
     copies: &mut [u32],
 ) -> usize
-    requires { HoldReady p r found m fill (stored_at starts cols vals) copies.old }
-    ensures { RowHeld p r found m fill (stored_before starts cols vals) (before copies) (after copies) result }
+    requires { HoldReady p r found m fill (stored_at starts.now cols.now vals.now) copies.old }
+    ensures { RowHeld p r found m fill (stored_before starts.now cols.now vals.now) copies.old copies.new result }
 {
     if found <= r {
         return fill;

@@ -2,7 +2,7 @@
 ghost use Rattle.std.specs.Prelude.{◌*◌};
 ghost use Rattle.sparse.specs.Matrix.{matrix};
 ghost use Rattle.sparse.specs.WorkingRow.{GrownBy, growth};
-ghost use Rattle.sparse.specs.Views.{before, after, stored_at, stored_before};
+ghost use Rattle.sparse.specs.Views.{stored_at, stored_before};
 ghost use Rattle.factor_copies.specs.Copies.{CopyReady};
 
 use lists::{index, part};
@@ -21,8 +21,8 @@ pub fn take_copied(
     c: u32,
     work: &mut [u64],
 )
-    requires { CopyReady q.p k c (stored_at starts cols vals) copies.now work.old }
-    ensures { GrownBy q.p (growth q.p) (λ j. c * matrix (stored_before starts cols vals) k j) (before work) (after work) }
+    requires { CopyReady q.p k c (stored_at starts.now cols.now vals.now) copies.now work.old }
+    ensures { GrownBy q.p (growth q.p) (λ j. c * matrix (stored_before starts.now cols.now vals.now) k j) work.old work.new }
 {
     let at = index(copies[k]);
     if at == 0 {

@@ -1,7 +1,6 @@
 // A row of 32 cells less multiples of the rows of a block.
 ghost use Rattle.std.specs.Prelude.{◌*◌};
 ghost use Rattle.sparse.specs.WorkingRow.{Subtracted};
-ghost use Rattle.sparse.specs.Views.{before};
 ghost use Rattle.factor_dense.specs.Block.{cells_of};
 ghost use Rattle.factor_dense.specs.Taking.{LeftCells, BlockReduced};
 ghost use Rattle.factor_dense.specs.Needs.{CellsReady, TakeReady, BlockReduceReady};
@@ -13,7 +12,7 @@ use sparse::kernel::minus;
 // The cells of the working row at the columns that are no structural pivots.
 pub fn left_cells(js: [u32; 32], width: usize, work: &[u64]) -> [u64; 32]
     requires { CellsReady width js work.now }
-    ensures { LeftCells width js (before work) result }
+    ensures { LeftCells width js work.now result }
 {
     let mut out = [0u64; 32];
     let mut l = 0;
@@ -34,7 +33,7 @@ pub fn take_block_row(
     row: [u64; 32],
 ) -> [u64; 32]
     requires { TakeReady q.p t c block.now row }
-    ensures { Subtracted q.p (λ l. c * cells_of (before block) t l) row result }
+    ensures { Subtracted q.p (λ l. c * cells_of block.now t l) row result }
 {
     let mut out = row;
     let mut l = 0;
@@ -61,7 +60,7 @@ pub fn reduce_in_block(
     row: [u64; 32],
 ) -> InBlock
     requires { BlockReduceReady q.p b ks.now block.now row }
-    ensures { BlockReduced q.p b (before ks) (before block) row result.row result.multiples }
+    ensures { BlockReduced q.p b ks.now block.now row result.row result.multiples }
 {
     let mut rest = row;
     let mut xs = [0u32; 32];

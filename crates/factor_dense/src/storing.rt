@@ -3,7 +3,6 @@ ghost use Rattle.std.specs.Prelude.{◌≡◌, ◌%◌, ◌<◌, eqb, get_or, ta
 ghost use Rattle.lists.specs.Tests.{first};
 ghost use Rattle.factor_dense.specs.Storing.{EntryStored, MultiplesStored, LeftStored, RowScaled};
 ghost use Rattle.factor_dense.specs.Needs.{PlaceReady, StoreMultiplesReady, LeftReady};
-ghost use Rattle.sparse.specs.Views.{before, after};
 
 use factor_reduce::gather::Gathered;
 use lists::index;
@@ -20,7 +19,7 @@ pub fn store_entry(
     lv: &mut [u32],
 ) -> Gathered
     requires { PlaceReady k at limit lc.old lv.old }
-    ensures { EntryStored k x at limit (before lc) (before lv) (after lc) (after lv) result.over result.next }
+    ensures { EntryStored k x at limit lc.old lv.old lc.new lv.new result.over result.next }
 {
     if x == 0 {
         return Gathered {
@@ -53,7 +52,7 @@ pub fn store_multiples(
     lv: &mut [u32],
 ) -> Gathered
     requires { StoreMultiplesReady s b l limit lc.old lv.old }
-    ensures { MultiplesStored s l limit (take b xs) (before lc) (before lv) (after lc) (after lv) result.over result.next }
+    ensures { MultiplesStored s l limit (take b xs) lc.old lv.old lc.new lv.new result.over result.next }
 {
     let mut next = l;
     let mut t = 0;
@@ -86,7 +85,7 @@ pub fn store_left(
     uv: &mut [u32],
 ) -> Gathered
     requires { LeftReady width l limit js uc.old uv.old }
-    ensures { LeftStored l limit (take width js) (take width row) (before uc) (before uv) (after uc) (after uv) result.over result.next }
+    ensures { LeftStored l limit (take width js) (take width row) uc.old uv.old uc.new uv.new result.over result.next }
 {
     let mut next = l;
     let mut t = 0;

@@ -1,7 +1,7 @@
 // One row that has no structural pivot, taken in the block: what is done in the working row is its reduction by the rows of U
 // that the block does not hold.
 ghost use Rattle.std.specs.Prelude.{◌≡◌, length};
-ghost use Rattle.sparse.specs.Views.{before, after, stored_at};
+ghost use Rattle.sparse.specs.Views.{stored_at};
 ghost use Rattle.factor_row.specs.Gathering.{reduction_by};
 ghost use Rattle.factor_row.specs.Entries.{entries_at, entries_before, entries_after, row_before, front_before, cut_before};
 ghost use Rattle.factor_dense.specs.Turn.{dense_step_of, LeftRowFound, LowerFound, UpperFound, DenseTaken};
@@ -52,8 +52,8 @@ fn reduce_left(
     lv: &mut [u32],
     work: &mut [u64],
 ) -> LeftRow
-    requires { LeftRowReady q.p i s first l total (stored_at starts cols vals) co.now us.now uc.now uv.now js width work.old lc.old lv.old }
-    ensures { LeftRowFound q.p l total (reduction_by q.p (length (before work)) s (front_before s co) (cut_before s first us uc uv) (row_before starts cols vals i)) width js (before lc) (before lv) (after lc) (after lv) (after work) result }
+    requires { LeftRowReady q.p i s first l total (stored_at starts.now cols.now vals.now) co.now us.now uc.now uv.now js width work.old lc.old lv.old }
+    ensures { LeftRowFound q.p l total (reduction_by q.p (length work.old) s (front_before s co.now) (cut_before s first us.now uc.now uv.now) (row_before starts.now cols.now vals.now i)) width js lc.old lv.old lc.new lv.new work.new result }
 {
     let g = gather_row(
         q, starts, cols, vals, i, s, first, co, us, uc, uv, l, total, lc, lv, work,
@@ -81,7 +81,7 @@ fn lower_left(
     lv: &mut [u32],
 ) -> LeftRow
     requires { DenseLowerReady q.p s b next limit ks.now block.now row lc.old lv.old }
-    ensures { LowerFound q.p s b next limit (before ks) (before block) row (before lc) (before lv) (after lc) (after lv) result }
+    ensures { LowerFound q.p s b next limit ks.now block.now row lc.old lv.old lc.new lv.new result }
 {
     let done = reduce_in_block(q, block, ks, b, row);
     let xs = done.multiples;
@@ -137,8 +137,8 @@ fn upper_left(
     uc: &mut [u32],
     uv: &mut [u32],
 ) -> DenseStep
-    requires { DenseUpperReady q.p r k at next limit sum width js row (entries_at lc lv uc uv) }
-    ensures { UpperFound q.p r k at next limit sum width js row (entries_before lc lv uc uv) (entries_after lc lv uc uv) result }
+    requires { DenseUpperReady q.p r k at next limit sum width js row (entries_at lc.old lv.old uc.old uv.old) }
+    ensures { UpperFound q.p r k at next limit sum width js row (entries_before lc.old lv.old uc.old uv.old) (entries_after lc.new lv.new uc.new uv.new) result }
 {
     let v = q.reduce_cell(row[k]);
     let new = scale_row(q, q.invert(v), row);
@@ -180,8 +180,8 @@ pub fn take_dense(
     uv: &mut [u32],
     work: &mut [u64],
 ) -> DenseStep
-    requires { DenseReady q.p i s first r at l total (stored_at starts cols vals) co.now us.now js width ks.now block.now work.old (entries_at lc lv uc uv) }
-    ensures { DenseTaken q.p at l total (reduction_by q.p (length (before work)) r (front_before r co) (cut_before r at us uc uv) (row_before starts cols vals i)) width js (entries_before lc lv uc uv) (entries_after lc lv uc uv) (after work) result }
+    requires { DenseReady q.p i s first r at l total (stored_at starts.now cols.now vals.now) co.now us.now js width ks.now block.now work.old (entries_at lc.old lv.old uc.old uv.old) }
+    ensures { DenseTaken q.p at l total (reduction_by q.p (length work.old) r (front_before r co.now) (cut_before r at us.now uc.old uv.old) (row_before starts.now cols.now vals.now i)) width js (entries_before lc.old lv.old uc.old uv.old) (entries_after lc.new lv.new uc.new uv.new) work.new result }
 {
     let left = reduce_left(
         q, starts, cols, vals, i, s, first, co, us, uc, uv, js, width, l, total, lc, lv, work,

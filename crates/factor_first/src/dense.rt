@@ -1,6 +1,6 @@
 // The rows that have no structural pivot, in the block.
 ghost use Rattle.std.specs.Prelude.{◌≤◌, ◌+◌, length};
-ghost use Rattle.sparse.specs.Views.{before, stored_at, stored_before, storage_at, storage_before, storage_after};
+ghost use Rattle.sparse.specs.Views.{stored_at, stored_before, storage_at, storage_before, storage_after};
 ghost use Rattle.factor_turn.specs.Others.{RowsTaken};
 ghost use Rattle.factor_first.specs.Dense.{TailCopied, DenseTurned};
 ghost use Rattle.factor_first.specs.Needs.{DenseTurnReady, RowsReady};
@@ -20,7 +20,7 @@ pub struct DenseTurn {
 // The numbers of the list from place s on, at most 32.
 fn tail(s: usize, list: &[u32]) -> [u32; 32]
     requires { (s ≤ length list.now) × (length list.now ≤ s + 32) }
-    ensures { TailCopied s (before list) result }
+    ensures { TailCopied s list.now result }
 {
     let mut out = [0u32; 32];
     let mut k = s;
@@ -55,8 +55,8 @@ fn take_dense_row(
     uv: &mut [u32],
     work: &mut [u64],
 ) -> DenseTurn
-    requires { DenseTurnReady q.p i s first width js ks.now block.now (stored_at starts cols vals) (storage_at ro co ls lc lv us uc uv work) from }
-    ensures { DenseTurned q.p i s first width js (before ks) (before block) (stored_before starts cols vals) (storage_before ro co ls lc lv us uc uv work) (storage_after ro co ls lc lv us uc uv work) from result }
+    requires { DenseTurnReady q.p i s first width js ks.now block.now (stored_at starts.now cols.now vals.now) (storage_at ro.old co.old ls.old lc.old lv.old us.old uc.old uv.old work.old) from }
+    ensures { DenseTurned q.p i s first width js ks.now block.now (stored_before starts.now cols.now vals.now) (storage_before ro.old co.old ls.old lc.old lv.old us.old uc.old uv.old work.old) (storage_after ro.new co.new ls.new lc.new lv.new us.new uc.new uv.new work.new) from result }
 {
     let r = from.r;
     let d = take_dense(
@@ -93,8 +93,8 @@ pub fn find_dense(
     uv: &mut [u32],
     work: &mut [u64],
 ) -> Pass
-    requires { RowsReady q.p s (stored_at starts cols vals) (storage_at ro co ls lc lv us uc uv work) from }
-    ensures { RowsTaken q.p s (stored_before starts cols vals) (storage_before ro co ls lc lv us uc uv work) (storage_after ro co ls lc lv us uc uv work) from result }
+    requires { RowsReady q.p s (stored_at starts.now cols.now vals.now) (storage_at ro.old co.old ls.old lc.old lv.old us.old uc.old uv.old work.old) from }
+    ensures { RowsTaken q.p s (stored_before starts.now cols.now vals.now) (storage_before ro.old co.old ls.old lc.old lv.old us.old uc.old uv.old work.old) (storage_after ro.new co.new ls.new lc.new lv.new us.new uc.new uv.new work.new) from result }
 {
     let js = tail(s, co);
     let width = co.len() - s;

@@ -5,7 +5,7 @@ ghost use Rattle.factor_turn.specs.Needs.{PassReady};
 ghost use Rattle.factor_turn.specs.Others.{RowsTaken};
 ghost use Rattle.factor_first.specs.Dense.{fits_block};
 ghost use Rattle.factor_first.specs.Needs.{RemainingReady};
-ghost use Rattle.sparse.specs.Views.{before, stored_at, stored_before, storage_at, storage_before, storage_after};
+ghost use Rattle.sparse.specs.Views.{stored_at, stored_before, storage_at, storage_before, storage_after};
 
 use crate::dense::find_dense;
 use factor_others::rows::find_others;
@@ -41,8 +41,8 @@ fn find_rest(
     uv: &mut [u32],
     work: &mut [u64],
 ) -> Pass
-    requires { RemainingReady q.p s (stored_at starts cols vals) (storage_at ro co ls lc lv us uc uv work) from }
-    ensures { RowsTaken q.p s (stored_before starts cols vals) (storage_before ro co ls lc lv us uc uv work) (storage_after ro co ls lc lv us uc uv work) from result }
+    requires { RemainingReady q.p s (stored_at starts.now cols.now vals.now) (storage_at ro.old co.old ls.old lc.old lv.old us.old uc.old uv.old work.old) from }
+    ensures { RowsTaken q.p s (stored_before starts.now cols.now vals.now) (storage_before ro.old co.old ls.old lc.old lv.old us.old uc.old uv.old work.old) (storage_after ro.new co.new ls.new lc.new lv.new us.new uc.new uv.new work.new) from result }
 {
     if fits_block(ro.len(), work.len(), s) {
         return find_dense(
@@ -72,8 +72,8 @@ pub fn find_pivots(
     uv: &mut [u32],
     work: &mut [u64],
 ) -> Pass
-    requires { PassReady q.p s (stored_at starts cols vals) (storage_at ro co ls lc lv us uc uv work) }
-    ensures { PassLeaves q.p s (length (before work)) (stored_before starts cols vals) (storage_before ro co ls lc lv us uc uv work) (storage_after ro co ls lc lv us uc uv work) result }
+    requires { PassReady q.p s (stored_at starts.now cols.now vals.now) (storage_at ro.old co.old ls.old lc.old lv.old us.old uc.old uv.old work.old) }
+    ensures { PassLeaves q.p s (length work.old) (stored_before starts.now cols.now vals.now) (storage_before ro.old co.old ls.old lc.old lv.old us.old uc.old uv.old work.old) (storage_after ro.new co.new ls.new lc.new lv.new us.new uc.new uv.new work.new) result }
 {
     let mut progress = Progress {
         over: false,

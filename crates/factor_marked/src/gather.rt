@@ -1,7 +1,7 @@
 // A row less multiples of the rows of U, row after row, as `factor_reduce` has it. Pivots at whose columns the row is 0 are passed
 // over, and rows that have a copy are taken away by it.
 ghost use Rattle.sparse.specs.Matrix.{matrix};
-ghost use Rattle.sparse.specs.Views.{before, after, stored_at, stored_before};
+ghost use Rattle.sparse.specs.Views.{stored_at, stored_before};
 ghost use Rattle.factor_marked.specs.Marking.{MultipleMarked, PivotMarked, MultiplesMarked};
 ghost use Rattle.factor_marked.specs.Needs.{MultipleReady, PivotStepReady, MarkedGatherReady};
 
@@ -43,8 +43,8 @@ fn take_multiple(
     work: &mut [u64],
     copies: &[u32],
 ) -> Multiple
-    requires { MultipleReady q.p k c (stored_at us uc uv) place.now touched.old pending.old work.old copies.now full }
-    ensures { MultipleMarked q.p k c (matrix (stored_before us uc uv) k) (before place) (before work) (after touched) (after pending) (after work) result.x result.full }
+    requires { MultipleReady q.p k c (stored_at us.now uc.now uv.now) place.now touched.old pending.old work.old copies.now full }
+    ensures { MultipleMarked q.p k c (matrix (stored_before us.now uc.now uv.now) k) place.now work.old touched.new pending.new work.new result.x result.full }
 {
     let x = q.reduce_cell(work[c]);
     let mut all = full;
@@ -75,8 +75,8 @@ fn gather_pivot(
     lv: &mut [u32],
     copies: &[u32],
 ) -> Progress
-    requires { PivotStepReady q.p k c (stored_at us uc uv) at limit place.now touched.old pending.old work.old lc.old lv.old copies.now full }
-    ensures { PivotMarked q.p k c (matrix (stored_before us uc uv) k) at limit (before place) (before work) (before lc) (before lv) (after touched) (after pending) (after work) (after lc) (after lv) result.over result.next result.full }
+    requires { PivotStepReady q.p k c (stored_at us.now uc.now uv.now) at limit place.now touched.old pending.old work.old lc.old lv.old copies.now full }
+    ensures { PivotMarked q.p k c (matrix (stored_before us.now uc.now uv.now) k) at limit place.now work.old lc.old lv.old touched.new pending.new work.new lc.new lv.new result.over result.next result.full }
 {
     let t = take_multiple(
         q, us, uc, uv, k, c, full, place, touched, pending, work, copies,
@@ -126,8 +126,8 @@ pub fn gather_marked(
     lv: &mut [u32],
     copies: &[u32],
 ) -> Gathered
-    requires { MarkedGatherReady q.p co.now (stored_at us uc uv) l limit place.now touched.old pending.old work.old lc.old lv.old copies.now noted }
-    ensures { MultiplesMarked q.p (before co) (stored_before us uc uv) l limit (before work) (before lc) (before lv) (after touched) (after work) (after lc) (after lv) result }
+    requires { MarkedGatherReady q.p co.now (stored_at us.now uc.now uv.now) l limit place.now touched.old pending.old work.old lc.old lv.old copies.now noted }
+    ensures { MultiplesMarked q.p co.now (stored_before us.now uc.now uv.now) l limit work.old lc.old lv.old touched.new work.new lc.new lv.new result }
 {
     let mut full = noted;
     let mut next = l;

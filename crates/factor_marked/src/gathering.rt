@@ -1,6 +1,6 @@
 // The row of L of a row of the matrix, with the blocks marked that it touches.
 ghost use Rattle.std.specs.Prelude.{length};
-ghost use Rattle.sparse.specs.Views.{before, after, stored_at, stored_before};
+ghost use Rattle.sparse.specs.Views.{stored_at, stored_before};
 ghost use Rattle.factor_row.specs.Gathering.{reduction_by};
 ghost use Rattle.factor_row.specs.Entries.{row_before, front_before, cut_before};
 ghost use Rattle.factor_marked.specs.Marking.{RowMarked};
@@ -34,8 +34,8 @@ fn gather_cut(
     work: &mut [u64],
     copies: &[u32],
 ) -> Gathered
-    requires { MarkedRowReady q.p i l total (stored_at starts cols vals) co.now (stored_at us uc uv) place.now touched.old work.old lc.old lv.old copies.now }
-    ensures { RowMarked q.p l total (reduction_by q.p (length (before work)) (length (before co)) (before co) (stored_before us uc uv) (row_before starts cols vals i)) (before lc) (before lv) (after touched) (after lc) (after lv) (after work) result }
+    requires { MarkedRowReady q.p i l total (stored_at starts.now cols.now vals.now) co.now (stored_at us.now uc.now uv.now) place.now touched.old work.old lc.old lv.old copies.now }
+    ensures { RowMarked q.p l total (reduction_by q.p (length work.old) (length co.now) co.now (stored_before us.now uc.now uv.now) (row_before starts.now cols.now vals.now i)) lc.old lv.old touched.new lc.new lv.new work.new result }
 {
     let mut pending = [0u8; 129];
     load_row(starts, cols, vals, i, q.p, work);
@@ -83,8 +83,8 @@ pub fn gather_row(
     work: &mut [u64],
     copies: &[u32],
 ) -> Gathered
-    requires { MarkedRowFrom q.p i r at l total (stored_at starts cols vals) co.now us.now uc.now uv.now place.now touched.old work.old lc.old lv.old copies.now }
-    ensures { RowMarked q.p l total (reduction_by q.p (length (before work)) r (front_before r co) (cut_before r at us uc uv) (row_before starts cols vals i)) (before lc) (before lv) (after touched) (after lc) (after lv) (after work) result }
+    requires { MarkedRowFrom q.p i r at l total (stored_at starts.now cols.now vals.now) co.now us.now uc.now uv.now place.now touched.old work.old lc.old lv.old copies.now }
+    ensures { RowMarked q.p l total (reduction_by q.p (length work.old) r (front_before r co.now) (cut_before r at us.now uc.now uv.now) (row_before starts.now cols.now vals.now i)) lc.old lv.old touched.new lc.new lv.new work.new result }
 {
     gather_cut(
         q,

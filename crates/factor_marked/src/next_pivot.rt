@@ -1,7 +1,6 @@
 // The search for the next pivot at whose column the working row is not 0. A block of sixteen pivots without a mark has a 0 at each
 // of its columns, and is passed over.
 ghost use Rattle.std.specs.Prelude.{◌<◌, length};
-ghost use Rattle.sparse.specs.Views.{before};
 ghost use Rattle.factor_touch.specs.Searching.{ZeroSpan, FirstNonzero};
 ghost use Rattle.factor_marked.specs.Pivots.{pivot_cell, PivotCellsReady, PivotPassable, PivotSearchReady};
 
@@ -11,7 +10,7 @@ use lists::index;
 // The first pivot from `from` on, and before `end`, at whose column the row is not 0, or `end`.
 fn next_in_pivots(co: &[u32], work: &[u64], from: usize, end: usize) -> usize
     requires { PivotCellsReady co.now work.now from end }
-    ensures { FirstNonzero (pivot_cell (before co) (before work)) end from result }
+    ensures { FirstNonzero (pivot_cell co.now work.now) end from result }
 {
     let mut k = from;
     while k < end {
@@ -26,7 +25,7 @@ fn next_in_pivots(co: &[u32], work: &[u64], from: usize, end: usize) -> usize
 // A place after k, at whose column the row is 0, up to which it is 0 at all pivot columns.
 fn pass_pivots(pending: &[u8], co: &[u32], work: &[u64], k: usize) -> usize
     requires { PivotPassable pending.now co.now work.now k }
-    ensures { (k < result) × ZeroSpan (pivot_cell (before co) (before work)) (length (before co)) k result }
+    ensures { (k < result) × ZeroSpan (pivot_cell co.now work.now) (length co.now) k result }
 {
     if pending[k / 16] == 0 {
         return next_marked(pending, k, co.len());
@@ -38,7 +37,7 @@ fn pass_pivots(pending: &[u8], co: &[u32], work: &[u64], k: usize) -> usize
 // The first pivot from `from` on at whose column the row is not 0, or the number of pivots.
 pub fn next_pivot(pending: &[u8], co: &[u32], work: &[u64], from: usize) -> usize
     requires { PivotSearchReady pending.now co.now work.now from }
-    ensures { FirstNonzero (pivot_cell (before co) (before work)) (length (before co)) from result }
+    ensures { FirstNonzero (pivot_cell co.now work.now) (length co.now) from result }
 {
     let mut k = from;
     while k < co.len() {

@@ -1,6 +1,5 @@
 // The columns of a stored row are marked.
 ghost use Rattle.sparse.specs.Matrix.{row_of};
-ghost use Rattle.sparse.specs.Views.{before, after};
 ghost use Rattle.factor_touch.specs.Touched.{Noted};
 ghost use Rattle.factor_marked.specs.Needs.{NoteRowReady};
 
@@ -18,7 +17,7 @@ pub fn note_stored_row(
     pending: &mut [u8],
 ) -> bool
     requires { NoteRowReady full k starts.now cols.now place.now touched.old pending.old }
-    ensures { Noted (row_of (before starts) k (before cols)) (before place) (before touched) (before pending) (after touched) (after pending) result }
+    ensures { Noted (row_of starts.now k cols.now) place.now touched.old pending.old touched.new pending.new result }
 {
     let a = index(starts[k]);
     let e = index(starts[k + 1]);

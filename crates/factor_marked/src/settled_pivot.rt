@@ -1,6 +1,5 @@
 // A settled row that is not zero becomes a pivot row.
 ghost use Rattle.std.specs.Prelude.{◌≡◌};
-ghost use Rattle.sparse.specs.Views.{before, after};
 ghost use Rattle.factor_row.specs.Entries.{entries_at, entries_before, entries_after};
 ghost use Rattle.factor_row.specs.PivotRow.{PivotOutcome};
 ghost use Rattle.factor_marked.specs.Needs.{SettledPivotReady};
@@ -26,8 +25,8 @@ pub fn store_settled_pivot(
     uv: &mut [u32],
     work: &mut [u64],
 ) -> Step
-    requires { SettledPivotReady q.p c n r at l total touched.now work.old (entries_at lc lv uc uv) }
-    ensures { (result.column ≡ c) × PivotOutcome q.p c r at l total (before work) (entries_before lc lv uc uv) (after work) (entries_after lc lv uc uv) result }
+    requires { SettledPivotReady q.p c n r at l total touched.now work.old (entries_at lc.old lv.old uc.old uv.old) }
+    ensures { (result.column ≡ c) × PivotOutcome q.p c r at l total work.old (entries_before lc.old lv.old uc.old uv.old) work.new (entries_after lc.new lv.new uc.new uv.new) result }
 {
     if !fits(lc.len(), total, uc.len(), at, n) {
         return Step {

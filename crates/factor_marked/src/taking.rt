@@ -1,6 +1,6 @@
 // One row of the matrix is taken.
 ghost use Rattle.std.specs.Prelude.{length};
-ghost use Rattle.sparse.specs.Views.{before, after, stored_at};
+ghost use Rattle.sparse.specs.Views.{stored_at};
 ghost use Rattle.factor_row.specs.Gathering.{reduction_by};
 ghost use Rattle.factor_row.specs.Entries.{entries_at, entries_before, entries_after, row_before, front_before, cut_before};
 ghost use Rattle.factor_row.specs.Taking.{RowFound};
@@ -29,8 +29,8 @@ fn take_remainder(
     uv: &mut [u32],
     work: &mut [u64],
 ) -> Step
-    requires { RemainderReady q.p r at next total touched.now work.old (entries_at lc lv uc uv) }
-    ensures { RemainderTaken q.p r at l next total (before work) (entries_before lc lv uc uv) (after work) (entries_after lc lv uc uv) result }
+    requires { RemainderReady q.p r at next total touched.now work.old (entries_at lc.old lv.old uc.old uv.old) }
+    ensures { RemainderTaken q.p r at l next total work.old (entries_before lc.old lv.old uc.old uv.old) work.new (entries_after lc.new lv.new uc.new uv.new) result }
 {
     let s = settle(q, touched, work);
     let c = s.low;
@@ -69,8 +69,8 @@ pub fn take_marked(
     work: &mut [u64],
     copies: &[u32],
 ) -> Step
-    requires { MarkedReady q.p i r at l total (stored_at starts cols vals) co.now us.now place.now work.old copies.now (entries_at lc lv uc uv) }
-    ensures { RowFound q.p at l total (reduction_by q.p (length (before work)) r (front_before r co) (cut_before r at us uc uv) (row_before starts cols vals i)) (entries_before lc lv uc uv) (entries_after lc lv uc uv) (after work) result }
+    requires { MarkedReady q.p i r at l total (stored_at starts.now cols.now vals.now) co.now us.now place.now work.old copies.now (entries_at lc.old lv.old uc.old uv.old) }
+    ensures { RowFound q.p at l total (reduction_by q.p (length work.old) r (front_before r co.now) (cut_before r at us.now uc.old uv.old) (row_before starts.now cols.now vals.now i)) (entries_before lc.old lv.old uc.old uv.old) (entries_after lc.new lv.new uc.new uv.new) work.new result }
 {
     let mut touched = [0u8; 129];
     let g = gather_row(

@@ -3,7 +3,6 @@
 
 ghost use Rattle.std.specs.Prelude.{◌≡◌};
 ghost use Rattle.sparse.specs.Matrix.{row_of};
-ghost use Rattle.sparse.specs.Views.{before};
 ghost use Rattle.factor_names.specs.Sized.{RowWithin};
 
 use lists::index;
@@ -11,7 +10,7 @@ use lists::index;
 // The columns of row i.
 pub fn columns_of<'a>(starts: &[u32], cols: &'a [u32], i: usize) -> &'a [u32]
     requires { RowWithin starts.now cols.now i }
-    ensures { result.now ≡ row_of (before starts) i (before cols) }
+    ensures { result.now ≡ row_of starts.now i cols.now }
 {
     let start = index(starts[i]);
     let end = index(starts[i + 1]);

@@ -4,7 +4,7 @@
 ghost use Rattle.std.specs.Prelude.{◌≡◌, ◌+◌, ◌-◌, length, get_or};
 ghost use Rattle.factor_order.specs.Needs.{Searchable, Findable};
 ghost use Rattle.factor_order.specs.Search.{RowStarts, PreferReady, Preferred, Chosen, ChooseReady, ConsiderReady, PairsFound};
-ghost use Rattle.sparse.specs.Views.{before, after, stored_at, stored_before};
+ghost use Rattle.sparse.specs.Views.{stored_at, stored_before};
 
 use limits::SIZE_CELLS;
 use lists::index;
@@ -12,7 +12,7 @@ use lists::index;
 // How many entries row i has.
 fn entries(starts: &[u32], i: usize) -> u32
     requires { RowStarts starts.now i }
-    ensures { result ≡ get_or (before starts) (i + 1) 0 - get_or (before starts) i 0 }
+    ensures { result ≡ get_or starts.now (i + 1) 0 - get_or starts.now i 0 }
 {
     starts[i + 1] - starts[i]
 }
@@ -20,7 +20,7 @@ fn entries(starts: &[u32], i: usize) -> u32
 // The cell of the column at which row i leads, where `cell` was it before.
 fn preferred(starts: &[u32], i: usize, cell: u64) -> u64
     requires { PreferReady starts.now i cell }
-    ensures { Preferred (before starts) i cell result }
+    ensures { Preferred starts.now i cell result }
 {
     if cell == 0 {
         return i as u64 + 1;
@@ -33,8 +33,8 @@ fn preferred(starts: &[u32], i: usize, cell: u64) -> u64
 
 // Considers row i for its leftmost column.
 fn consider(starts: &[u32], cols: &[u32], vals: &[u32], p: u32, i: usize, work: &mut [u64])
-    requires { ConsiderReady p i (stored_at starts cols vals) work.old }
-    ensures { Chosen (stored_before starts cols vals) (i + 1) (after work) }
+    requires { ConsiderReady p i (stored_at starts.now cols.now vals.now) work.old }
+    ensures { Chosen (stored_before starts.now cols.now vals.now) (i + 1) work.new }
 {
     if entries(starts, i) == 0 {
         return;
@@ -46,8 +46,8 @@ fn consider(starts: &[u32], cols: &[u32], vals: &[u32], p: u32, i: usize, work: 
 
 // Chooses among the n rows: the cell of each column names its row.
 fn choose(starts: &[u32], cols: &[u32], vals: &[u32], p: u32, n: usize, work: &mut [u64])
-    requires { ChooseReady p n (stored_at starts cols vals) work.old }
-    ensures { Chosen (stored_before starts cols vals) n (after work) }
+    requires { ChooseReady p n (stored_at starts.now cols.now vals.now) work.old }
+    ensures { Chosen (stored_before starts.now cols.now vals.now) n work.new }
 {
     let mut i = 0;
     while i < n {
@@ -68,8 +68,8 @@ fn find_pairs(
     co: &mut [u32],
     work: &mut [u64],
 ) -> usize
-    requires { Findable p n (length co.old) (stored_at starts cols vals) named.old ro.old co.old work.old }
-    ensures { PairsFound n (length (before co)) (stored_before starts cols vals) result (after ro) (after co) (after work) }
+    requires { Findable p n (length co.old) (stored_at starts.now cols.now vals.now) named.old ro.old co.old work.old }
+    ensures { PairsFound n (length co.old) (stored_before starts.now cols.now vals.now) result ro.new co.new work.new }
 {
     choose(starts, cols, vals, p, n, work);
     factor_select::select(starts, cols, vals, p, n, work, named);
@@ -89,8 +89,8 @@ pub fn structural_pairs(
     co: &mut [u32],
     work: &mut [u64],
 ) -> usize
-    requires { Searchable p n (length co.old) (stored_at starts cols vals) ro.old co.old work.old }
-    ensures { PairsFound n (length (before co)) (stored_before starts cols vals) result (after ro) (after co) (after work) }
+    requires { Searchable p n (length co.old) (stored_at starts.now cols.now vals.now) ro.old co.old work.old }
+    ensures { PairsFound n (length co.old) (stored_before starts.now cols.now vals.now) result ro.new co.new work.new }
 {
     let mut named = [0u32; SIZE_CELLS];
     find_pairs(starts, cols, vals, p, n, &mut named[..n], ro, co, work)

@@ -1,6 +1,6 @@
 // The rows that have no structural pivot. `place` gives each column the number of its pivot, and 2048 where it is none.
 ghost use Rattle.std.specs.Prelude.{false};
-ghost use Rattle.sparse.specs.Views.{before, after, stored_at, stored_before, storage_at, storage_before, storage_after};
+ghost use Rattle.sparse.specs.Views.{stored_at, stored_before, storage_at, storage_before, storage_after};
 ghost use Rattle.factor_turn.specs.Turning.{TurnLeaves};
 ghost use Rattle.factor_turn.specs.Others.{RowsTaken};
 ghost use Rattle.factor_others.specs.Needs.{PlaceReady, PlacesFilled, PlaceEntered, EnterReady, MarkedTurnReady, OthersReady};
@@ -13,7 +13,7 @@ use residue::Modulus;
 // Gives the first s columns of `co` their places.
 fn fill_places(s: usize, co: &[u32], place: &mut [u32])
     requires { PlaceReady s co.now place.old }
-    ensures { PlacesFilled s (before co) (before place) (after place) }
+    ensures { PlacesFilled s co.now place.old place.new }
 {
     let mut k = 0;
     while k < s {
@@ -25,7 +25,7 @@ fn fill_places(s: usize, co: &[u32], place: &mut [u32])
 // Gives column r of `co` its place where a turn found its pivot, the last of `found`.
 fn enter_place(r: usize, found: usize, co: &[u32], place: &mut [u32])
     requires { EnterReady r found co.now place.old }
-    ensures { PlaceEntered r found (before co) (before place) (after place) }
+    ensures { PlaceEntered r found co.now place.old place.new }
 {
     if r < found {
         place[index(co[r])] = r as u32;
@@ -51,8 +51,8 @@ fn take_marked_row(
     uv: &mut [u32],
     work: &mut [u64],
 ) -> Progress
-    requires { MarkedTurnReady q.p i place.now (stored_at starts cols vals) (storage_at ro co ls lc lv us uc uv work) from }
-    ensures { TurnLeaves q.p i false (stored_before starts cols vals) (storage_before ro co ls lc lv us uc uv work) (storage_after ro co ls lc lv us uc uv work) from result }
+    requires { MarkedTurnReady q.p i place.now (stored_at starts.now cols.now vals.now) (storage_at ro.old co.old ls.old lc.old lv.old us.old uc.old uv.old work.old) from }
+    ensures { TurnLeaves q.p i false (stored_before starts.now cols.now vals.now) (storage_before ro.old co.old ls.old lc.old lv.old us.old uc.old uv.old work.old) (storage_after ro.new co.new ls.new lc.new lv.new us.new uc.new uv.new work.new) from result }
 {
     let r = from.r;
     let step = take_marked(
@@ -81,8 +81,8 @@ pub fn find_others(
     uv: &mut [u32],
     work: &mut [u64],
 ) -> Pass
-    requires { OthersReady q.p s (stored_at starts cols vals) (storage_at ro co ls lc lv us uc uv work) from }
-    ensures { RowsTaken q.p s (stored_before starts cols vals) (storage_before ro co ls lc lv us uc uv work) (storage_after ro co ls lc lv us uc uv work) from result }
+    requires { OthersReady q.p s (stored_at starts.now cols.now vals.now) (storage_at ro.old co.old ls.old lc.old lv.old us.old uc.old uv.old work.old) from }
+    ensures { RowsTaken q.p s (stored_before starts.now cols.now vals.now) (storage_before ro.old co.old ls.old lc.old lv.old us.old uc.old uv.old work.old) (storage_after ro.new co.new ls.new lc.new lv.new us.new uc.new uv.new work.new) from result }
 {
     let mut place = [2048u32; 2048];
     fill_places(s, co, &mut place);

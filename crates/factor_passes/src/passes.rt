@@ -6,7 +6,7 @@ ghost use Rattle.factor_turn.specs.Passing.{PassLeaves};
 ghost use Rattle.factor_order.specs.Needs.{Completable};
 ghost use Rattle.factor_passes.specs.Completing.{ColumnsCompleted, Completes};
 ghost use Rattle.factor_passes.specs.Needs.{FromReady, CompleteReady};
-ghost use Rattle.sparse.specs.Views.{before, after, stored_at, stored_before, stored_after, storage_at, storage_before, storage_after};
+ghost use Rattle.sparse.specs.Views.{stored_at, stored_before, stored_after, storage_at, storage_before, storage_after};
 
 use factor_first::pass::find_pivots;
 use factor_order::complete::complete;
@@ -17,7 +17,7 @@ use residue::Modulus;
 // Completes C where what is left of n rows after the first s fits the block: its columns are then those after the first s.
 fn complete_columns(n: usize, s: usize, co: &mut [u32], marks: &mut [u64])
     requires { (s ≤ n) × Completable s co.old marks.old }
-    ensures { ColumnsCompleted n s (before co) (after co) (after marks) }
+    ensures { ColumnsCompleted n s co.old co.new marks.new }
 {
     if 32 < n - s {
         return;
@@ -45,8 +45,8 @@ pub fn pass_one(
     uv: &mut [u32],
     work: &mut [u64],
 ) -> Pass
-    requires { FromReady q.p s (stored_at starts cols vals) (storage_at ro co ls lc lv us uc uv work) }
-    ensures { PassLeaves q.p s (length (before co)) (stored_before starts cols vals) (storage_before ro co ls lc lv us uc uv work) (storage_after ro co ls lc lv us uc uv work) result }
+    requires { FromReady q.p s (stored_at starts.now cols.now vals.now) (storage_at ro.old co.old ls.old lc.old lv.old us.old uc.old uv.old work.old) }
+    ensures { PassLeaves q.p s (length co.old) (stored_before starts.now cols.now vals.now) (storage_before ro.old co.old ls.old lc.old lv.old us.old uc.old uv.old work.old) (storage_after ro.new co.new ls.new lc.new lv.new us.new uc.new uv.new work.new) result }
 {
     let n = ro.len();
     let m = co.len();
@@ -83,8 +83,8 @@ pub fn pass_two(
     lv: &mut [u32],
     work: &mut [u64],
 )
-    requires { CompleteReady ro.old co.old (stored_at ls lc lv) work.old r l total }
-    ensures { Completes (before ro) (before co) (stored_before ls lc lv) (before work) (after ro) (after co) (stored_after ls lc lv) (after work) r l total }
+    requires { CompleteReady ro.old co.old (stored_at ls.old lc.old lv.old) work.old r l total }
+    ensures { Completes ro.old co.old (stored_before ls.old lc.old lv.old) work.old ro.new co.new (stored_after ls.new lc.new lv.new) work.new r l total }
 {
     let n = ro.len();
     let m = co.len();

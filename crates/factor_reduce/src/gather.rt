@@ -2,7 +2,7 @@
 // stored as they are found, so that the pivot columns are gone through once.
 ghost use Rattle.std.specs.Prelude.{◌%◌, length, get_or};
 ghost use Rattle.sparse.specs.Matrix.{matrix};
-ghost use Rattle.sparse.specs.Views.{before, after, stored_at, stored_before};
+ghost use Rattle.sparse.specs.Views.{stored_at, stored_before};
 ghost use Rattle.factor_reduce.specs.InPlace.{MultipleTaken};
 ghost use Rattle.factor_reduce.specs.Needs.{StepReady, EntryReady, GatherReady};
 ghost use Rattle.factor_reduce.specs.Gathering.{EntryGathered, MultiplesGathered};
@@ -29,8 +29,8 @@ fn take_multiple(
     c: usize,
     work: &mut [u64],
 ) -> u32
-    requires { StepReady q.p k c (stored_at us uc uv) work.old }
-    ensures { MultipleTaken q.p c (matrix (stored_before us uc uv) k) (before work) (after work) result }
+    requires { StepReady q.p k c (stored_at us.now uc.now uv.now) work.old }
+    ensures { MultipleTaken q.p c (matrix (stored_before us.now uc.now uv.now) k) work.old work.new result }
 {
     let x = q.reduce(work[c]);
     if x != 0 {
@@ -54,8 +54,8 @@ fn gather_step(
     lc: &mut [u32],
     lv: &mut [u32],
 ) -> Gathered
-    requires { EntryReady q.p k c (stored_at us uc uv) at limit work.old lc.old lv.old }
-    ensures { EntryGathered q.p k c (matrix (stored_before us uc uv) k) (get_or (before work) c 0 % q.p) at limit (before work) (before lc) (before lv) (after work) (after lc) (after lv) result.over result.next }
+    requires { EntryReady q.p k c (stored_at us.now uc.now uv.now) at limit work.old lc.old lv.old }
+    ensures { EntryGathered q.p k c (matrix (stored_before us.now uc.now uv.now) k) (get_or work.old c 0 % q.p) at limit work.old lc.old lv.old work.new lc.new lv.new result.over result.next }
 {
     let x = take_multiple(q, us, uc, uv, k, c, work);
     if x == 0 {
@@ -92,8 +92,8 @@ pub fn gather_multiples(
     lc: &mut [u32],
     lv: &mut [u32],
 ) -> Gathered
-    requires { GatherReady q.p co.now (stored_at us uc uv) l limit work.old lc.old lv.old }
-    ensures { MultiplesGathered q.p (length (before work)) (before co) (stored_before us uc uv) (λ j. get_or (before work) j 0 % q.p) l limit (before lc) (before lv) (after lc) (after lv) (after work) result.over result.next }
+    requires { GatherReady q.p co.now (stored_at us.now uc.now uv.now) l limit work.old lc.old lv.old }
+    ensures { MultiplesGathered q.p (length work.old) co.now (stored_before us.now uc.now uv.now) (λ j. get_or work.old j 0 % q.p) l limit lc.old lv.old lc.new lv.new work.new result.over result.next }
 {
     let mut next = l;
     let mut k = 0;

@@ -7,7 +7,7 @@
 use Rattle.std.specs.Prelude.{ℕ, List, take}
 use Rattle.algebra.specs.Matrix.{Vector}
 use Rattle.sparse.specs.Matrix.{Compressed, matrix}
-use Rattle.sparse.specs.Views.{ListRef, LentList, before, after, stored_before}
+use Rattle.sparse.specs.Views.{stored_before}
 use Rattle.factor_row.specs.Gathering.{cut}
 
 pub record EntryLists : Type 0 where
@@ -19,20 +19,20 @@ pub record EntryLists : Type 0 where
 abbrev pub entry_lists_of : (lc lv uc uv : List ℕ) → EntryLists
 entry_lists_of lc lv uc uv = record { lc = lc; lv = lv; uc = uc; uv = uv }
 
-abbrev pub entries_at : (lc lv uc uv : ListRef) → EntryLists
-entries_at lc lv uc uv = entry_lists_of lc.now lv.now uc.now uv.now
+abbrev pub entries_at : (lc lv uc uv : List ℕ) → EntryLists
+entries_at lc lv uc uv = entry_lists_of lc lv uc uv
 
-abbrev pub entries_before : (lc lv uc uv : LentList) → EntryLists
-entries_before lc lv uc uv = entry_lists_of (before lc) (before lv) (before uc) (before uv)
+abbrev pub entries_before : (lc lv uc uv : List ℕ) → EntryLists
+entries_before lc lv uc uv = entry_lists_of lc lv uc uv
 
-abbrev pub entries_after : (lc lv uc uv : LentList) → EntryLists
-entries_after lc lv uc uv = entry_lists_of (after lc) (after lv) (after uc) (after uv)
+abbrev pub entries_after : (lc lv uc uv : List ℕ) → EntryLists
+entries_after lc lv uc uv = entry_lists_of lc lv uc uv
 
-abbrev pub row_before : (starts cols vals : LentList) → ℕ → Vector
+abbrev pub row_before : (starts cols vals : List ℕ) → ℕ → Vector
 row_before starts cols vals i = matrix (stored_before starts cols vals) i
 
-abbrev pub front_before : ℕ → LentList → List ℕ
-front_before r co = take r (before co)
+abbrev pub front_before : ℕ → List ℕ → List ℕ
+front_before r co = take r co
 
-abbrev pub cut_before : (r at : ℕ) → (us uc uv : LentList) → Compressed
-cut_before r at us uc uv = cut r at (before us) (before uc) (before uv)
+abbrev pub cut_before : (r at : ℕ) → (us uc uv : List ℕ) → Compressed
+cut_before r at us uc uv = cut r at us uc uv

@@ -1,6 +1,6 @@
 // The row of L of a row of the matrix.
 ghost use Rattle.std.specs.Prelude.{length};
-ghost use Rattle.sparse.specs.Views.{before, after, stored_at, stored_before};
+ghost use Rattle.sparse.specs.Views.{stored_at, stored_before};
 ghost use Rattle.factor_row.specs.Gathering.{reduction_by, RowGathered};
 ghost use Rattle.factor_row.specs.Entries.{row_before, front_before, cut_before};
 ghost use Rattle.factor_row.specs.Needs.{GatherRowReady, GatherReadyFrom};
@@ -28,8 +28,8 @@ fn gather_cut(
     lv: &mut [u32],
     work: &mut [u64],
 ) -> Gathered
-    requires { GatherRowReady q.p i l total (stored_at starts cols vals) co.now (stored_at us uc uv) work.old lc.old lv.old }
-    ensures { RowGathered q.p l total (reduction_by q.p (length (before work)) (length (before co)) (before co) (stored_before us uc uv) (row_before starts cols vals i)) (before lc) (before lv) (after lc) (after lv) (after work) result }
+    requires { GatherRowReady q.p i l total (stored_at starts.now cols.now vals.now) co.now (stored_at us.now uc.now uv.now) work.old lc.old lv.old }
+    ensures { RowGathered q.p l total (reduction_by q.p (length work.old) (length co.now) co.now (stored_before us.now uc.now uv.now) (row_before starts.now cols.now vals.now i)) lc.old lv.old lc.new lv.new work.new result }
 {
     load_row(starts, cols, vals, i, q.p, work);
     // `total` counts the entries of dependent rows too, which are at the end of the lists: this is where they begin.
@@ -56,8 +56,8 @@ pub fn gather_row(
     lv: &mut [u32],
     work: &mut [u64],
 ) -> Gathered
-    requires { GatherReadyFrom q.p i r at l total (stored_at starts cols vals) co.now us.now uc.now uv.now work.old lc.old lv.old }
-    ensures { RowGathered q.p l total (reduction_by q.p (length (before work)) r (front_before r co) (cut_before r at us uc uv) (row_before starts cols vals i)) (before lc) (before lv) (after lc) (after lv) (after work) result }
+    requires { GatherReadyFrom q.p i r at l total (stored_at starts.now cols.now vals.now) co.now us.now uc.now uv.now work.old lc.old lv.old }
+    ensures { RowGathered q.p l total (reduction_by q.p (length work.old) r (front_before r co.now) (cut_before r at us.now uc.now uv.now) (row_before starts.now cols.now vals.now i)) lc.old lv.old lc.new lv.new work.new result }
 {
     gather_cut(
         q,

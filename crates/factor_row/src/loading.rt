@@ -1,7 +1,7 @@
 // Rows of the stored matrix in the working row.
 ghost use Rattle.std.specs.Prelude.{◌≡◌, length};
 ghost use Rattle.lists.specs.Tabulate.{tabulate};
-ghost use Rattle.sparse.specs.Views.{before, after, stored_at};
+ghost use Rattle.sparse.specs.Views.{stored_at};
 ghost use Rattle.factor_row.specs.Entries.{row_before};
 ghost use Rattle.factor_row.specs.Needs.{RowLoadable};
 
@@ -10,8 +10,8 @@ use sparse::dense::load;
 
 // Puts row i of the matrix into the working row, which is all zero.
 pub fn load_row(starts: &[u32], cols: &[u32], vals: &[u32], i: usize, p: u32, work: &mut [u64])
-    requires { RowLoadable p i (stored_at starts cols vals) work.old }
-    ensures { after work ≡ tabulate (length (before work)) (row_before starts cols vals i) }
+    requires { RowLoadable p i (stored_at starts.now cols.now vals.now) work.old }
+    ensures { work.new ≡ tabulate (length work.old) (row_before starts.now cols.now vals.now i) }
 {
     let a = index(starts[i]);
     let e = index(starts[i + 1]);

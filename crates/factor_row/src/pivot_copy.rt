@@ -1,7 +1,6 @@
 // A stored row becomes a pivot row as it stands: it is copied entry by entry, and no working row is gone through.
 ghost use Rattle.std.specs.Prelude.{◌≡◌};
 ghost use Rattle.sparse.specs.Row.{entry};
-ghost use Rattle.sparse.specs.Views.{before};
 ghost use Rattle.factor_row.specs.Gathering.{as_it_stands};
 ghost use Rattle.factor_row.specs.Entries.{entries_at, entries_before, entries_after};
 ghost use Rattle.factor_row.specs.Taking.{PivotFound};
@@ -29,8 +28,8 @@ pub fn copy_pivot(
     uc: &mut [u32],
     uv: &mut [u32],
 ) -> Step
-    requires { PivotCopyReady q.p m c r at l total cols.now vals.now (entries_at lc lv uc uv) }
-    ensures { (result.column ≡ c) × PivotFound q.p at l total (as_it_stands m r c (entry (before cols) (before vals))) (entries_before lc lv uc uv) (entries_after lc lv uc uv) result }
+    requires { PivotCopyReady q.p m c r at l total cols.now vals.now (entries_at lc.old lv.old uc.old uv.old) }
+    ensures { (result.column ≡ c) × PivotFound q.p at l total (as_it_stands m r c (entry cols.now vals.now)) (entries_before lc.old lv.old uc.old uv.old) (entries_after lc.new lv.new uc.new uv.new) result }
 {
     if !fits(lc.len(), total, uc.len(), at, cols.len()) {
         return Step {

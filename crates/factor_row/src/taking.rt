@@ -1,6 +1,6 @@
 // One row of the matrix is taken as it stands.
 ghost use Rattle.std.specs.Prelude.{length};
-ghost use Rattle.sparse.specs.Views.{before, after, stored_at};
+ghost use Rattle.sparse.specs.Views.{stored_at};
 ghost use Rattle.factor_row.specs.Gathering.{as_it_stands};
 ghost use Rattle.factor_row.specs.Entries.{entries_at, entries_before, entries_after, row_before};
 ghost use Rattle.factor_row.specs.Taking.{RowFound};
@@ -29,8 +29,8 @@ pub fn take_pair(
     uv: &mut [u32],
     work: &mut [u64],
 ) -> Step
-    requires { PairReady q.p i c r at l total (stored_at starts cols vals) work.old (entries_at lc lv uc uv) }
-    ensures { RowFound q.p at l total (as_it_stands (length (before work)) r c (row_before starts cols vals i)) (entries_before lc lv uc uv) (entries_after lc lv uc uv) (after work) result }
+    requires { PairReady q.p i c r at l total (stored_at starts.now cols.now vals.now) work.old (entries_at lc.old lv.old uc.old uv.old) }
+    ensures { RowFound q.p at l total (as_it_stands (length work.old) r c (row_before starts.now cols.now vals.now i)) (entries_before lc.old lv.old uc.old uv.old) (entries_after lc.new lv.new uc.new uv.new) work.new result }
 {
     let a = index(starts[i]);
     let e = index(starts[i + 1]);

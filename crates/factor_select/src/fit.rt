@@ -2,7 +2,6 @@
 ghost use Rattle.std.specs.Prelude.{◌≡◌, ◌&&◌, not, eqb};
 ghost use Rattle.factor_select.specs.Search.{NextFit};
 ghost use Rattle.factor_select.specs.Needs.{FitReady};
-ghost use Rattle.sparse.specs.Views.{before};
 
 use lists::index;
 
@@ -19,7 +18,7 @@ fn is_fit(cell: u64, stamp: u32, mark: u32) -> bool
 // The first place of a row, from a place on, whose column is neither used nor stamped; past the row's end where there is none.
 pub fn next_fit(row: &[u32], work: &[u64], mark: u32, stamps: &[u32], from: usize) -> usize
     requires { FitReady row.now work.now stamps.now }
-    ensures { NextFit (before row) (before work) (before stamps) mark from result }
+    ensures { NextFit row.now work.now stamps.now mark from result }
 {
     let mut t = from;
     while t < row.len() {

@@ -7,7 +7,7 @@ ghost use Rattle.std.specs.Prelude.{◌≡◌, ◌+◌, length};
 ghost use Rattle.elimination.specs.Structural.{leading};
 ghost use Rattle.factor_names.specs.Named.{ByRow, Named};
 ghost use Rattle.factor_select.specs.Needs.{NameReady, Extended, ExtendReady, SelectReady};
-ghost use Rattle.sparse.specs.Views.{before, after, stored_at, stored_before};
+ghost use Rattle.sparse.specs.Views.{stored_at, stored_before};
 
 use limits::SIZE_CELLS;
 
@@ -24,8 +24,8 @@ fn name_rows(
     work: &[u64],
     chosen: &mut [u32],
 )
-    requires { NameReady p n (stored_at starts cols vals) work.now chosen.old }
-    ensures { ByRow (after chosen) (leading (stored_before starts cols vals) n (length (before work))) }
+    requires { NameReady p n (stored_at starts.now cols.now vals.now) work.now chosen.old }
+    ensures { ByRow chosen.new (leading (stored_before starts.now cols.now vals.now) n (length work.now)) }
 {
     let mut c = 0;
     while c < work.len() {
@@ -49,8 +49,8 @@ fn extend_row(
     stamps: &mut [u32],
     queue: &mut [u32],
 )
-    requires { ExtendReady p n i (stored_at starts cols vals) work.old chosen.old stamps.old queue.old }
-    ensures { Extended (stored_before starts cols vals) n (length (before work)) (i + 1) (after work) (after chosen) (after stamps) (after queue) }
+    requires { ExtendReady p n i (stored_at starts.now cols.now vals.now) work.old chosen.old stamps.old queue.old }
+    ensures { Extended (stored_before starts.now cols.now vals.now) n (length work.old) (i + 1) work.new chosen.new stamps.new queue.new }
 {
     if chosen[i] != 0 {
         return;
@@ -77,8 +77,8 @@ fn extend_all(
     stamps: &mut [u32],
     queue: &mut [u32],
 )
-    requires { SelectReady p n (stored_at starts cols vals) work.old chosen.old stamps.old queue.old }
-    ensures { Extended (stored_before starts cols vals) n (length (before work)) n (after work) (after chosen) (after stamps) (after queue) }
+    requires { SelectReady p n (stored_at starts.now cols.now vals.now) work.old chosen.old stamps.old queue.old }
+    ensures { Extended (stored_before starts.now cols.now vals.now) n (length work.old) n work.new chosen.new stamps.new queue.new }
 {
     let mut i = 0;
     while i < n {
@@ -97,8 +97,8 @@ pub fn select(
     work: &mut [u64],
     chosen: &mut [u32],
 )
-    requires { NameReady p n (stored_at starts cols vals) work.old chosen.old }
-    ensures { Named (stored_before starts cols vals) n (length (before work)) n (after work) (after chosen) }
+    requires { NameReady p n (stored_at starts.now cols.now vals.now) work.old chosen.old }
+    ensures { Named (stored_before starts.now cols.now vals.now) n (length work.old) n work.new chosen.new }
 {
     let m = work.len();
     let mut stamps = [0u32; SIZE_CELLS];

@@ -2,7 +2,7 @@
 ghost use Rattle.std.specs.Prelude.{true, false, length, List, [], ◌∷◌, ℕ};
 ghost use Rattle.factor_select.specs.Search.{TouchReady, VisitReady, Visited, Survivor};
 ghost use Rattle.factor_select.specs.Needs.{SearchReady};
-ghost use Rattle.sparse.specs.Views.{before, after, stored_at, stored_before};
+ghost use Rattle.sparse.specs.Views.{stored_at, stored_before};
 
 use crate::fit::next_fit;
 use lists::index;
@@ -20,7 +20,7 @@ fn touch(
     tail: usize,
 ) -> usize
     requires { TouchReady work.now stamps.old queue.old mark tail j cell }
-    ensures { Visited own (j ∷ []) (before work) (before stamps) (before queue) mark tail (after stamps) (after queue) result }
+    ensures { Visited own (j ∷ []) work.now stamps.old queue.old mark tail stamps.new queue.new result }
 {
     let at = index(j);
     if cell == 0 {
@@ -48,7 +48,7 @@ fn visit(
     from: usize,
 ) -> usize
     requires { VisitReady row.now work.now stamps.old queue.old mark from }
-    ensures { Visited own (before row) (before work) (before stamps) (before queue) mark from (after stamps) (after queue) result }
+    ensures { Visited own row.now work.now stamps.old queue.old mark from stamps.new queue.new result }
 {
     let mut tail = from;
     let mut t = 0;
@@ -75,8 +75,8 @@ pub fn search(
     stamps: &mut [u32],
     queue: &mut [u32],
 ) -> usize
-    requires { SearchReady p n i (stored_at starts cols vals) work.now chosen.now stamps.old queue.old mark }
-    ensures { Survivor (stored_before starts cols vals) n (length (before work)) i mark (before stamps) (after stamps) result }
+    requires { SearchReady p n i (stored_at starts.now cols.now vals.now) work.now chosen.now stamps.old queue.old mark }
+    ensures { Survivor (stored_before starts.now cols.now vals.now) n (length work.now) i mark stamps.old stamps.new result }
 {
     let own = factor_names::columns_of(starts, cols, i);
     let mut tail = visit(true, own, work, mark, stamps, queue, 0);

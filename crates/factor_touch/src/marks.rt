@@ -2,7 +2,6 @@
 ghost use Rattle.std.specs.Prelude.{false};
 ghost use Rattle.factor_touch.specs.Touched.{free_block, pivot_block, ColumnsMarked, NoteReady, Noted};
 ghost use Rattle.factor_touch.specs.Marking.{EachMarked};
-ghost use Rattle.sparse.specs.Views.{before, after};
 
 use lists::index;
 
@@ -10,7 +9,7 @@ use lists::index;
 // these cells share one block.
 fn mark_row(cols: &[u32], place: &[u32], touched: &mut [u8], pending: &mut [u8])
     requires { NoteReady false cols.now place.now touched.old pending.old }
-    ensures { ColumnsMarked (free_block (before place)) (before cols) (before touched) (after touched) × ColumnsMarked (pivot_block (before place)) (before cols) (before pending) (after pending) }
+    ensures { ColumnsMarked (free_block place.now) cols.now touched.old touched.new × ColumnsMarked (pivot_block place.now) cols.now pending.old pending.new }
 {
     let mut t = 0;
     while t < cols.len() {
@@ -25,7 +24,7 @@ fn mark_row(cols: &[u32], place: &[u32], touched: &mut [u8], pending: &mut [u8])
 
 // Marks every block.
 fn mark_all(marks: &mut [u8])
-    ensures { EachMarked (before marks) (after marks) }
+    ensures { EachMarked marks.old marks.new }
 {
     let mut b = 0;
     while b < marks.len() {
@@ -44,7 +43,7 @@ pub fn note_row(
     pending: &mut [u8],
 ) -> bool
     requires { NoteReady full cols.now place.now touched.old pending.old }
-    ensures { Noted (before cols) (before place) (before touched) (before pending) (after touched) (after pending) result }
+    ensures { Noted cols.now place.now touched.old pending.old touched.new pending.new result }
 {
     if full {
         return true;

@@ -2,7 +2,6 @@
 ghost use Rattle.std.specs.Prelude.{◌+◌, ◌≤◌, ◌<◌, ◌^◌, ◌≡◌, true, length};
 ghost use Rattle.algebra.specs.Matrix.{vector};
 ghost use Rattle.sparse.specs.Scan.{NextNonzero};
-ghost use Rattle.sparse.specs.Views.{before};
 ghost use Rattle.factor_touch.specs.Searching.{ZeroSpan, marks_of, BlockEnd, BlockPassable, CellPassable, SearchReady};
 
 use sparse::scan::next_nonzero;
@@ -19,7 +18,7 @@ pub fn block_end(j: usize, n: usize) -> usize
 // One mark, as a number that can be added to others.
 fn mark(marks: &[u8], b: usize) -> u64
     requires { b < length marks.now }
-    ensures { (result ≡ vector (before marks) b) × (result < 256) }
+    ensures { (result ≡ vector marks.now b) × (result < 256) }
 {
     marks[b] as u64
 }
@@ -27,7 +26,7 @@ fn mark(marks: &[u8], b: usize) -> u64
 // Whether none of the eight blocks from b on is marked.
 fn clear_eight(marks: &[u8], b: usize) -> bool
     requires { b + 8 ≤ length marks.now }
-    ensures { result ≡ true → ZeroSpan (vector (before marks)) (length (before marks)) b (b + 8) }
+    ensures { result ≡ true → ZeroSpan (vector marks.now) (length marks.now) b (b + 8) }
 {
     let low = mark(marks, b) + mark(marks, b + 1) + mark(marks, b + 2) + mark(marks, b + 3);
     let high = mark(marks, b + 4) + mark(marks, b + 5) + mark(marks, b + 6) + mark(marks, b + 7);
@@ -37,7 +36,7 @@ fn clear_eight(marks: &[u8], b: usize) -> bool
 // Passes over blocks that are not marked, eight at a time.
 fn skip_eights(marks: &[u8], from: usize) -> usize
     requires { from ≤ length marks.now }
-    ensures { ZeroSpan (vector (before marks)) (length (before marks)) from result }
+    ensures { ZeroSpan (vector marks.now) (length marks.now) from result }
 {
     let mut b = from;
     while 8 <= marks.len() - b {
@@ -52,7 +51,7 @@ fn skip_eights(marks: &[u8], from: usize) -> usize
 // The first marked block from `from` on, or the number of blocks.
 fn next_mark(marks: &[u8], from: usize) -> usize
     requires { from ≤ length marks.now }
-    ensures { NextNonzero (before marks) from result }
+    ensures { NextNonzero marks.now from result }
 {
     let mut b = skip_eights(marks, from);
     while b < marks.len() {
@@ -67,7 +66,7 @@ fn next_mark(marks: &[u8], from: usize) -> usize
 // Where the block of place j is not marked, the first place after it whose block is, or n.
 pub fn next_marked(marks: &[u8], j: usize, n: usize) -> usize
     requires { BlockPassable marks.now j n }
-    ensures { (j < result) × ZeroSpan (marks_of (before marks)) n j result }
+    ensures { (j < result) × ZeroSpan (marks_of marks.now) n j result }
 {
     let b = next_mark(marks, j / 16 + 1);
     if b <= n / 16 { b * 16 } else { n }
@@ -76,7 +75,7 @@ pub fn next_marked(marks: &[u8], j: usize, n: usize) -> usize
 // A place after j, whose cell is 0, up to which all cells are 0: the next marked block, or the next cell of j's block that is not 0.
 fn pass_over(touched: &[u8], row: &[u64], j: usize) -> usize
     requires { CellPassable touched.now row.now j }
-    ensures { (j < result) × ZeroSpan (vector (before row)) (length (before row)) j result }
+    ensures { (j < result) × ZeroSpan (vector row.now) (length row.now) j result }
 {
     if touched[j / 16] == 0 {
         return next_marked(touched, j, row.len());
@@ -88,7 +87,7 @@ fn pass_over(touched: &[u8], row: &[u64], j: usize) -> usize
 // The first cell from `from` on that is not 0, or the length.
 pub fn next_touched(touched: &[u8], row: &[u64], from: usize) -> usize
     requires { SearchReady touched.now row.now from }
-    ensures { NextNonzero (before row) from result }
+    ensures { NextNonzero row.now from result }
 {
     let mut j = from;
     while j < row.len() {

@@ -1,7 +1,6 @@
 // The working row at the end of a reduction, whose cells are 0 outside the marked blocks: these blocks are passed over.
 ghost use Rattle.std.specs.Prelude.{◌<◌, ◌^◌};
 ghost use Rattle.sparse.specs.Storing.{RowStored};
-ghost use Rattle.sparse.specs.Views.{before, after};
 ghost use Rattle.factor_touch.specs.Settling.{SettleReady, RowSettled, StoreSettledReady};
 ghost use Rattle.factor_touch.specs.Searching.{CellCounted};
 
@@ -35,7 +34,7 @@ fn count_cell(found: SettledCells, v: u32, j: usize) -> SettledCells
 // Replaces each cell of the working row by the residue that it stands for, and counts those that are not 0.
 pub fn settle(q: Modulus, touched: &[u8], work: &mut [u64]) -> SettledCells
     requires { SettleReady q.p touched.now work.old }
-    ensures { RowSettled q.p (before work) (after work) result.count result.low }
+    ensures { RowSettled q.p work.old work.new result.count result.low }
 {
     let mut found = SettledCells {
         count: 0,
@@ -62,7 +61,7 @@ pub fn store_settled(
     vals: &mut [u32],
 ) -> usize
     requires { StoreSettledReady q.p c start touched.now work.old cols.old vals.old }
-    ensures { RowStored q.p c start (before work) (before cols) (before vals) (after work) (after cols) (after vals) result }
+    ensures { RowStored q.p c start work.old cols.old vals.old work.new cols.new vals.new result }
 {
     let mut at = start;
     let mut j = 0;

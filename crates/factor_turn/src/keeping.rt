@@ -1,13 +1,13 @@
 // The rows of L of dependent rows: kept at the end of L's lists, reversed, and turned round after the last turn.
 ghost use Rattle.std.specs.Prelude.{◌≡◌, reverse, ◌<◌, length};
 ghost use Rattle.elimination.specs.Pivots.{Found};
-ghost use Rattle.sparse.specs.Views.{before, after, stored_at, stored_before, stored_after};
+ghost use Rattle.sparse.specs.Views.{stored_at, stored_before, stored_after};
 ghost use Rattle.factor_turn.specs.Keeping.{exchanged, turned_part, Mirrored, PartReady, KeepReady, Kept, MoveReady, moved_from, FillReady, FillFrom, FillDone};
 
 // Exchanges two numbers of a list.
 fn exchange(list: &mut [u32], i: usize, j: usize)
     requires { (i < length list.old) × (j < length list.old) }
-    ensures { after list ≡ exchanged (before list) i j }
+    ensures { list.new ≡ exchanged list.old i j }
 {
     let x = list[i];
     list[i] = list[j];
@@ -17,7 +17,7 @@ fn exchange(list: &mut [u32], i: usize, j: usize)
 // Turns a list round that is zero but for its first and its last k numbers.
 fn turn_round(list: &mut [u32], k: usize)
     requires { Mirrored k list.old }
-    ensures { after list ≡ reverse (before list) }
+    ensures { list.new ≡ reverse list.old }
 {
     let mut t = 0;
     while t < k {
@@ -33,7 +33,7 @@ fn turn_round(list: &mut [u32], k: usize)
 // The same of the part from place a up to place e.
 fn turn_part(list: &mut [u32], a: usize, e: usize, k: usize)
     requires { PartReady a e k list.old }
-    ensures { after list ≡ turned_part a e (before list) }
+    ensures { list.new ≡ turned_part a e list.old }
 {
     let part = &mut list[a..e];
     turn_round(part, k);
@@ -50,7 +50,7 @@ pub fn keep(
     lv: &mut [u32],
 )
     requires { KeepReady l held total d ls.old lc.old lv.old }
-    ensures { Kept l held total d (before ls) (before lc) (before lv) (after ls) (after lc) (after lv) }
+    ensures { Kept l held total d ls.old lc.old lv.old ls.new lc.new lv.new }
 {
     let back = lc.len() - (held - l);
     let more = total - held;
@@ -63,7 +63,7 @@ pub fn keep(
 // Adds l to every number from place a on.
 fn add_from(list: &mut [u32], a: usize, l: u32)
     requires { MoveReady a l list.old }
-    ensures { after list ≡ moved_from a l (before list) }
+    ensures { list.new ≡ moved_from a l list.old }
 {
     let mut k = a;
     while k < list.len() {
@@ -74,8 +74,8 @@ fn add_from(list: &mut [u32], a: usize, l: u32)
 
 // Turns the rows of L that are at the end of its lists round, where they follow those of the r pivot rows, which have l entries; `total` are all.
 pub fn turn_lower(r: usize, l: usize, total: usize, ls: &mut [u32], lc: &mut [u32], lv: &mut [u32])
-    requires { FillReady (stored_at ls lc lv) r l total }
-    ensures { (f : Found) → FillFrom f (stored_before ls lc lv) r l total → FillDone f (stored_after ls lc lv) }
+    requires { FillReady (stored_at ls.old lc.old lv.old) r l total }
+    ensures { (f : Found) → FillFrom f (stored_before ls.old lc.old lv.old) r l total → FillDone f (stored_after ls.new lc.new lv.new) }
 {
     let n = lc.len();
     turn_part(lc, l, n, total - l);

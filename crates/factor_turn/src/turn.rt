@@ -1,6 +1,6 @@
 // One turn of the factoring: a row is taken, and entered in the orders where it is a pivot row; the row of L of a dependent row is kept.
 ghost use Rattle.std.specs.Prelude.{◌≡◌, true, ◌+◌, ◌<◌, length, set};
-ghost use Rattle.sparse.specs.Views.{before, after, stored_at, stored_before, stored_after, storage_at, storage_before, storage_after};
+ghost use Rattle.sparse.specs.Views.{stored_at, stored_before, stored_after, storage_at, storage_before, storage_after};
 ghost use Rattle.factor_turn.specs.Turning.{Settled, TurnLeaves};
 ghost use Rattle.factor_turn.specs.Needs.{SettleReady, TurnReady};
 
@@ -42,7 +42,7 @@ fn enter(
     us: &mut [u32],
 )
     requires { (r < length ro.old) × (r < length co.old) × (r + 1 < length ls.old) × (r + 1 < length us.old) }
-    ensures { (after ro ≡ set (before ro) r i) × (after co ≡ set (before co) r c) × (after ls ≡ set (before ls) (r + 1) l) × (after us ≡ set (before us) (r + 1) at) }
+    ensures { (ro.new ≡ set ro.old r i) × (co.new ≡ set co.old r c) × (ls.new ≡ set ls.old (r + 1) l) × (us.new ≡ set us.old (r + 1) at) }
 {
     ro[r] = i;
     co[r] = c;
@@ -64,8 +64,8 @@ pub fn settle(
     lv: &mut [u32],
     us: &mut [u32],
 ) -> Progress
-    requires { SettleReady step from m ro.old co.old (stored_at ls lc lv) us.old }
-    ensures { Settled step i from m (before ro) (before co) (stored_before ls lc lv) (before us) (after ro) (after co) (stored_after ls lc lv) (after us) result }
+    requires { SettleReady step from m ro.old co.old (stored_at ls.old lc.old lv.old) us.old }
+    ensures { Settled step i from m ro.old co.old (stored_before ls.old lc.old lv.old) us.old ro.new co.new (stored_after ls.new lc.new lv.new) us.new result }
 {
     let over = step.over;
     let c = step.column;
@@ -124,8 +124,8 @@ pub fn take_pair_row(
     uv: &mut [u32],
     work: &mut [u64],
 ) -> Progress
-    requires { TurnReady q.p i true (stored_at starts cols vals) (storage_at ro co ls lc lv us uc uv work) from }
-    ensures { TurnLeaves q.p i true (stored_before starts cols vals) (storage_before ro co ls lc lv us uc uv work) (storage_after ro co ls lc lv us uc uv work) from result }
+    requires { TurnReady q.p i true (stored_at starts.now cols.now vals.now) (storage_at ro.old co.old ls.old lc.old lv.old us.old uc.old uv.old work.old) from }
+    ensures { TurnLeaves q.p i true (stored_before starts.now cols.now vals.now) (storage_before ro.old co.old ls.old lc.old lv.old us.old uc.old uv.old work.old) (storage_after ro.new co.new ls.new lc.new lv.new us.new uc.new uv.new work.new) from result }
 {
     let r = from.r;
     let c = index(co[r]);

@@ -4,7 +4,6 @@
 
 ghost use Rattle.std.specs.Prelude.{◌≡◌};
 ghost use Rattle.text_calls.specs.Calls.{check_text_of, packed, Makes, ReportsText, AnswersText};
-ghost use Rattle.sparse.specs.Views.{before, after};
 
 pub use call_kernel::from_certificate::kernel_basis_from_certificate;
 pub use call_owned::answer::{answer_from_certificate, answer_from_factors};
@@ -30,7 +29,7 @@ pub use text_owners::read as read_plan;
 //   leaves   after a refusal the buffer all zero; the text is only read
 #[unsafe(no_mangle)]
 pub extern "C" fn plq_make_certificate(text: &[u8], buffer: &mut [u8]) -> u64
-    ensures { Makes (before text) result (before buffer) (after buffer) }
+    ensures { Makes text.now result buffer.old buffer.new }
 {
     let mut starts = [0u32; START_CELLS];
     let mut cols = [0u32; ENTRY_CELLS];
@@ -71,7 +70,7 @@ pub extern "C" fn plq_make_certificate(text: &[u8], buffer: &mut [u8]) -> u64
 //   leaves   nothing: both are only read
 #[unsafe(no_mangle)]
 pub extern "C" fn plq_check_certificate(text: &[u8], certificate: &[u8]) -> u64
-    ensures { result ≡ packed (check_text_of (before text) (before certificate)) }
+    ensures { result ≡ packed (check_text_of text.now certificate.now) }
 {
     let mut starts = [0u32; START_CELLS];
     let mut cols = [0u32; ENTRY_CELLS];
@@ -94,7 +93,7 @@ pub extern "C" fn plq_check_certificate(text: &[u8], certificate: &[u8]) -> u64
 //   leaves   after a refusal the buffer all zero; the text is only read
 #[unsafe(no_mangle)]
 pub extern "C" fn plq_report(text: &[u8], buffer: &mut [u8]) -> u64
-    ensures { ReportsText (before text) result (before buffer) (after buffer) }
+    ensures { ReportsText text.now result buffer.old buffer.new }
 {
     report_text(text, buffer)
 }
@@ -114,7 +113,7 @@ pub extern "C" fn plq_answer(
     z: &mut [u32],
     verdict: &mut u8,
 ) -> u64
-    ensures { AnswersText (before text) (before certificate) (before y) result (before x) (after x) (before z) (after z) verdict.new }
+    ensures { AnswersText text.now certificate.now y.now result x.old x.new z.old z.new verdict.new }
 {
     answer_from_text(text, certificate, y, x, z, verdict)
 }

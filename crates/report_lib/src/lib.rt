@@ -8,7 +8,7 @@ ghost use Rattle.print_text.specs.Printed.{Prints};
 ghost use Rattle.report_lib.specs.Held.{held_summary, held_list, held_text, staged_text};
 ghost use Rattle.report_lib.specs.Needs.{HeldReady, ReportStagedReady};
 ghost use Rattle.report_lib.specs.Reporting.{ReportLists, Reports, ReportsAll};
-ghost use Rattle.sparse.specs.Views.{before, after, stored_at, stored_before, storage_at, storage_before};
+ghost use Rattle.sparse.specs.Views.{stored_at, stored_before, storage_at, storage_before};
 
 use call_open::from_factors::open_columns_from_factors;
 use limits::{ENTRY_CELLS, SIZE_CELLS, START_CELLS};
@@ -60,8 +60,8 @@ fn list_held(
     marks: &mut [u32],
     work: &mut [u64],
 ) -> Outcome
-    requires { Fits s (stored_at starts cols vals) (storage_at ro co ls lc lv us uc uv work) }
-    ensures { ListsIn (held_list s (stored_before starts cols vals) (storage_before ro co ls lc lv us uc uv work)) result marks work }
+    requires { Fits s (stored_at starts.now cols.now vals.now) (storage_at ro.now co.now ls.now lc.now lv.now us.now uc.now uv.now work.old) }
+    ensures { ListsIn (held_list s (stored_before starts.now cols.now vals.now) (storage_before ro.now co.now ls.now lc.now lv.now us.now uc.now uv.now work.old)) result marks work }
 {
     let r = s.reading;
     let f = s.factored;
@@ -111,8 +111,8 @@ fn report_held(
     out: &mut [u8],
     work: &mut [u64],
 ) -> usize
-    requires { HeldReady s (stored_at starts cols vals) owners.now (storage_at ro co ls lc lv us uc uv work) marks.old out.old }
-    ensures { Prints (held_text s (stored_before starts cols vals) (before owners) (storage_before ro co ls lc lv us uc uv work)) result (before out) (after out) (before work) (after work) }
+    requires { HeldReady s (stored_at starts.now cols.now vals.now) owners.now (storage_at ro.now co.now ls.now lc.now lv.now us.now uc.now uv.now work.old) marks.old out.old }
+    ensures { Prints (held_text s (stored_before starts.now cols.now vals.now) owners.now (storage_before ro.now co.now ls.now lc.now lv.now us.now uc.now uv.now work.old)) result out.old out.new work.old work.new }
 {
     let listed = list_held(
         s, starts, cols, vals, ro, co, ls, lc, lv, us, uc, uv, marks, work,
@@ -142,8 +142,8 @@ fn report_staged(
     out: &mut [u8],
     work: &mut [u64],
 ) -> usize
-    requires { ReportStagedReady s (stored_at starts cols vals) owners.now (storage_at ro co ls lc lv us uc uv work) marks.old out.old }
-    ensures { Prints (staged_text s (stored_before starts cols vals) (before owners) (storage_before ro co ls lc lv us uc uv work)) result (before out) (after out) (before work) (after work) }
+    requires { ReportStagedReady s (stored_at starts.now cols.now vals.now) owners.now (storage_at ro.now co.now ls.now lc.now lv.now us.now uc.now uv.now work.old) marks.old out.old }
+    ensures { Prints (staged_text s (stored_before starts.now cols.now vals.now) owners.now (storage_before ro.now co.now ls.now lc.now lv.now us.now uc.now uv.now work.old)) result out.old out.new work.old work.new }
 {
     let r = s.reading;
     let f = s.factored;
@@ -183,7 +183,7 @@ fn report_staged(
 //   leaves   the buffer zero past the report, and the working row all zero
 pub fn report_all(text: &[u8], out: &mut [u8], work: &mut [u64]) -> Reported
     requires { ReportLists out.old work.old }
-    ensures { ReportsAll (before text) result (before out) (after out) (before work) (after work) }
+    ensures { ReportsAll text.now result out.old out.new work.old work.new }
 {
     let mut starts = [0u32; START_CELLS];
     let mut cols = [0u32; ENTRY_CELLS];
@@ -225,7 +225,7 @@ pub fn report_all(text: &[u8], out: &mut [u8], work: &mut [u64]) -> Reported
 // The same for a caller that only prints: the length alone.
 pub fn report(text: &[u8], out: &mut [u8], work: &mut [u64]) -> usize
     requires { ReportLists out.old work.old }
-    ensures { Reports (before text) result (before out) (after out) (before work) (after work) }
+    ensures { Reports text.now result out.old out.new work.old work.new }
 {
     let reported = report_all(text, out, work);
     reported.size

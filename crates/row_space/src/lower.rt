@@ -2,7 +2,7 @@
 ghost use Rattle.std.specs.Prelude.{length};
 ghost use Rattle.residue.specs.Arithmetic.{Residue};
 ghost use Rattle.residue.specs.Inverse.{inv_mod};
-ghost use Rattle.sparse.specs.Views.{before, after, view_at, viewed_at, viewed_before, vector_before, matrix_before};
+ghost use Rattle.sparse.specs.Views.{view_at, viewed_at, viewed_before, vector_before, matrix_before};
 ghost use Rattle.row_space.specs.Substitution.{through_l};
 ghost use Rattle.row_space.specs.Solving.{residues, QuotientTaken, Placed};
 ghost use Rattle.row_space.specs.Needs.{DiagonalReady, LowerRowReady, LowerOrder};
@@ -23,8 +23,8 @@ pub fn inverse_diagonal(
     lvb: &[u8],
     k: usize,
 ) -> u32
-    requires { DiagonalReady q.p k (viewed_at ls lsb lc lcb lv lvb) }
-    ensures { Residue q.p (inv_mod q.p (matrix_before ls lsb lc lcb lv lvb k k)) result }
+    requires { DiagonalReady q.p k (viewed_at ls.now lsb.now lc.now lcb.now lv.now lvb.now) }
+    ensures { Residue q.p (inv_mod q.p (matrix_before ls.now lsb.now lc.now lcb.now lv.now lvb.now k k)) result }
 {
     let e = index(word(ls, lsb, k + 1));
     q.invert(word(lv, lvb, e - 1))
@@ -42,8 +42,8 @@ fn take_quotient(
     k: usize,
     work: &mut [u64],
 ) -> u32
-    requires { LowerRowReady q.p k (viewed_at ls lsb lc lcb lv lvb) work.old }
-    ensures { QuotientTaken q.p (viewed_before ls lsb lc lcb lv lvb) k (before work) (after work) result }
+    requires { LowerRowReady q.p k (viewed_at ls.now lsb.now lc.now lcb.now lv.now lvb.now) work.old }
+    ensures { QuotientTaken q.p (viewed_before ls.now lsb.now lc.now lcb.now lv.now lvb.now) k work.old work.new result }
 {
     let d = q.reduce(work[k]);
     let a = inverse_diagonal(q, ls, lsb, lc, lcb, lv, lvb, k);
@@ -66,8 +66,8 @@ pub fn solve_lower(
     x: &mut [u32],
     work: &mut [u64],
 )
-    requires { LowerOrder q.p (viewed_at ls lsb lc lcb lv lvb) (view_at ro rob) work.old x.old }
-    ensures { Placed (through_l q.p (length (before x)) (length (before work)) (vector_before ro rob) (matrix_before ls lsb lc lcb lv lvb) (residues q.p (before work))) (after x) (after work) }
+    requires { LowerOrder q.p (viewed_at ls.now lsb.now lc.now lcb.now lv.now lvb.now) (view_at ro.now rob.now) work.old x.old }
+    ensures { Placed (through_l q.p (length x.old) (length work.old) (vector_before ro.now rob.now) (matrix_before ls.now lsb.now lc.now lcb.now lv.now lvb.now) (residues q.p work.old)) x.new work.new }
 {
     let mut k = work.len();
     while 0 < k {

@@ -1,7 +1,7 @@
 // z by substitution through U, from its last row up.
 ghost use Rattle.std.specs.Prelude.{◌≡◌, length};
 ghost use Rattle.algebra.specs.Matrix.{vector};
-ghost use Rattle.sparse.specs.Views.{before, after, view_at, viewed_at, vector_before, matrix_before};
+ghost use Rattle.sparse.specs.Views.{view_at, viewed_at, vector_before, matrix_before};
 ghost use Rattle.row_space.specs.Substitution.{missing, through_u};
 ghost use Rattle.row_space.specs.Needs.{UpperRowReady, UpperReady};
 
@@ -22,8 +22,8 @@ pub fn missing_value(
     k: usize,
     z: &[u32],
 ) -> u32
-    requires { UpperRowReady q.p k (viewed_at us usb uc ucb uv uvb) z.now }
-    ensures { result ≡ missing q.p (length (before z)) (matrix_before us usb uc ucb uv uvb k) (vector (before z)) }
+    requires { UpperRowReady q.p k (viewed_at us.now usb.now uc.now ucb.now uv.now uvb.now) z.now }
+    ensures { result ≡ missing q.p (length z.now) (matrix_before us.now usb.now uc.now ucb.now uv.now uvb.now k) (vector z.now) }
 {
     let a = index(word(us, usb, k));
     let e = index(word(us, usb, k + 1));
@@ -51,8 +51,8 @@ pub fn solve_upper(
     r: usize,
     z: &mut [u32],
 )
-    requires { UpperReady q.p r (viewed_at us usb uc ucb uv uvb) (view_at co cob) z.old }
-    ensures { after z ≡ through_u q.p (length (before z)) r (vector_before co cob) (matrix_before us usb uc ucb uv uvb) (vector (before z)) }
+    requires { UpperReady q.p r (viewed_at us.now usb.now uc.now ucb.now uv.now uvb.now) (view_at co.now cob.now) z.old }
+    ensures { z.new ≡ through_u q.p (length z.old) r (vector_before co.now cob.now) (matrix_before us.now usb.now uc.now ucb.now uv.now uvb.now) (vector z.old) }
 {
     let mut k = r;
     while 0 < k {

@@ -1,6 +1,5 @@
 // A sparse row copied from list to list: as many steps as it has entries, however wide it is.
 ghost use Rattle.sparse.specs.Copying.{CopyReady, Copied};
-ghost use Rattle.sparse.specs.Views.{before, after};
 
 use residue::Modulus;
 
@@ -16,7 +15,7 @@ pub fn copy_scaled(
     vals: &mut [u32],
 ) -> usize
     requires { CopyReady q.p c at rc.now rv.now cols.old vals.old }
-    ensures { Copied q.p c at (before rc) (before rv) (before cols) (before vals) (after cols) (after vals) result }
+    ensures { Copied q.p c at rc.now rv.now cols.old vals.old cols.new vals.new result }
 {
     let mut t = 0;
     while t < rc.len() {

@@ -8,7 +8,7 @@ ghost use Rattle.residue.specs.Arithmetic.{Residue, Residues};
 ghost use Rattle.sparse.specs.Row.{entry, weigh};
 ghost use Rattle.sparse.specs.WorkingRow.{Cell};
 ghost use Rattle.sparse.specs.Storing.{LoadReady, DotReady, Room, DenseStored};
-ghost use Rattle.sparse.specs.Views.{before, after, view_at, view_before};
+ghost use Rattle.sparse.specs.Views.{view_at, view_before};
 
 use crate::scan::next_nonzero;
 use crate::words::{count, word};
@@ -17,8 +17,8 @@ use residue::Modulus;
 
 // Puts a sparse row into a working row that is all zero. The modulus bounds the cells and is not computed with.
 pub fn load(cols: &[u32], cb: &[u8], vals: &[u32], vb: &[u8], p: u32, work: &mut [u64])
-    requires { LoadReady p (view_at cols cb) (view_at vals vb) work.old }
-    ensures { after work ≡ tabulate (length (before work)) (entry (view_before cols cb) (view_before vals vb)) }
+    requires { LoadReady p (view_at cols.now cb.now) (view_at vals.now vb.now) work.old }
+    ensures { work.new ≡ tabulate (length work.old) (entry (view_before cols.now cb.now) (view_before vals.now vb.now)) }
 {
     let n = count(cols, cb);
     let mut t = 0;
@@ -43,8 +43,8 @@ fn add_product(q: Modulus, s: u64, v: u32, x: u32) -> u64
 
 // The product of a sparse row and a vector of residues.
 pub fn dot(q: Modulus, cols: &[u32], cb: &[u8], vals: &[u32], vb: &[u8], z: &[u32]) -> u32
-    requires { DotReady q.p (view_at cols cb) (view_at vals vb) z.now }
-    ensures { Residue q.p (weigh (view_before cols cb) (view_before vals vb) (vector (before z)) % q.p) result }
+    requires { DotReady q.p (view_at cols.now cb.now) (view_at vals.now vb.now) z.now }
+    ensures { Residue q.p (weigh (view_before cols.now cb.now) (view_before vals.now vb.now) (vector z.now) % q.p) result }
 {
     let n = count(cols, cb);
     let mut s: u64 = 0;
@@ -69,7 +69,7 @@ fn is_zero(q: Modulus, x: u64) -> bool
 // The first cell that stands for another residue than 0, or the length.
 pub fn first_nonzero(q: Modulus, work: &[u64]) -> usize
     requires { 0 < q.p }
-    ensures { result ≡ first (length (before work)) (λ j. eqb (get_or (before work) j 0 % q.p) 0) }
+    ensures { result ≡ first (length work.now) (λ j. eqb (get_or work.now j 0 % q.p) 0) }
 {
     let mut j = 0;
     while j < work.len() {
@@ -84,7 +84,7 @@ pub fn first_nonzero(q: Modulus, work: &[u64]) -> usize
 // Stores the value v at column j in place `at`, unless it is 0; gives the next place.
 pub fn put(v: u32, j: u32, at: usize, cols: &mut [u32], vals: &mut [u32]) -> usize
     requires { Room at (v ∷ []) cols.old vals.old }
-    ensures { DenseStored j at (v ∷ []) (before cols) (before vals) (after cols) (after vals) result }
+    ensures { DenseStored j at (v ∷ []) cols.old vals.old cols.new vals.new result }
 {
     if v == 0 {
         return at;

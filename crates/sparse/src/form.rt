@@ -9,8 +9,8 @@ use crate::words::{count, word};
 
 // Whether the columns from place a up to place e rise strictly and are below width.
 fn rises(cols: &[u32], cb: &[u8], a: usize, e: usize, width: u32) -> bool
-    requires { (a ≤ e) × (e ≤ length (view_at cols cb)) }
-    ensures { result ≡ rises_from width 0 (slice a e (view_before cols cb)) }
+    requires { (a ≤ e) × (e ≤ length (view_at cols.now cb.now)) }
+    ensures { result ≡ rises_from width 0 (slice a e (view_before cols.now cb.now)) }
 {
     let mut low = 0;
     let mut i = a;
@@ -30,8 +30,8 @@ fn rises(cols: &[u32], cb: &[u8], a: usize, e: usize, width: u32) -> bool
 
 // Whether the row starts after the first, which is 0, never fall, and the last is total.
 fn starts_from(starts: &[u32], sb: &[u8], n: usize, total: usize) -> bool
-    requires { (1 ≤ n) × (n ≡ length (view_at starts sb)) }
-    ensures { result ≡ starts_from total 0 (drop 1 (view_before starts sb)) }
+    requires { (1 ≤ n) × (n ≡ length (view_at starts.now sb.now)) }
+    ensures { result ≡ starts_from total 0 (drop 1 (view_before starts.now sb.now)) }
 {
     let mut from: u32 = 0;
     let mut i = 1;
@@ -48,7 +48,7 @@ fn starts_from(starts: &[u32], sb: &[u8], n: usize, total: usize) -> bool
 
 // Whether all row starts have their form: the first is 0, and the last is total.
 fn starts_ok(starts: &[u32], sb: &[u8], total: usize) -> bool
-    ensures { result ≡ starts_ok total (view_before starts sb) }
+    ensures { result ≡ starts_ok total (view_before starts.now sb.now) }
 {
     let n = count(starts, sb);
     if n == 0 {
@@ -63,8 +63,8 @@ fn starts_ok(starts: &[u32], sb: &[u8], total: usize) -> bool
 
 // Whether the columns of every row rise strictly and are below width; the row starts are known to be right.
 fn rows_ok(starts: &[u32], sb: &[u8], cols: &[u32], cb: &[u8], width: u32) -> bool
-    requires { starts_ok (length (view_at cols cb)) (view_at starts sb) ≡ true }
-    ensures { result ≡ rows_from width (view_before cols cb) 0 (drop 1 (view_before starts sb)) }
+    requires { starts_ok (length (view_at cols.now cb.now)) (view_at starts.now sb.now) ≡ true }
+    ensures { result ≡ rows_from width (view_before cols.now cb.now) 0 (drop 1 (view_before starts.now sb.now)) }
 {
     let n = count(starts, sb);
     let mut from: usize = 0;
@@ -82,7 +82,7 @@ fn rows_ok(starts: &[u32], sb: &[u8], cols: &[u32], cb: &[u8], width: u32) -> bo
 
 // Whether every value is from 1 to p - 1.
 fn values_ok(vals: &[u32], vb: &[u8], p: u32) -> bool
-    ensures { result ≡ values_ok p (view_before vals vb) }
+    ensures { result ≡ values_ok p (view_before vals.now vb.now) }
 {
     let n = count(vals, vb);
     let mut i = 0;
@@ -110,7 +110,7 @@ pub fn form_ok(
     width: u32,
     p: u32,
 ) -> bool
-    ensures { result ≡ form p width (viewed_before starts sb cols cb vals vb) }
+    ensures { result ≡ form p width (viewed_before starts.now sb.now cols.now cb.now vals.now vb.now) }
 {
     let total = count(cols, cb);
     if !starts_ok(starts, sb, total) {

@@ -7,7 +7,7 @@ ghost use Rattle.sparse.specs.Row.{entry};
 ghost use Rattle.sparse.specs.Matrix.{matrix};
 ghost use Rattle.sparse.specs.WorkingRow.{GrownBy, growth, GrowReady, GrowMatrixReady};
 ghost use Rattle.sparse.specs.Run.{AddReady, RowAdded, Neighbours, RunReady, Added, FromReady, AddedFrom};
-ghost use Rattle.sparse.specs.Views.{before, after, stored_at, stored_before, view_at, view_before, viewed_at, viewed_before};
+ghost use Rattle.sparse.specs.Views.{stored_at, stored_before, view_at, view_before, viewed_at, viewed_before};
 
 use crate::kernel::{product, subtract, subtract_list};
 use crate::words::{bytes_part, count, list_part, word, word_at};
@@ -17,7 +17,7 @@ use residue::Modulus;
 // work + d vals, cell by cell: the compiler adds to several cells at once.
 fn add_run(d: u32, vals: &[u32], work: &mut [u64])
     requires { RunReady d vals.now work.old }
-    ensures { Added d (before vals) (before work) (after work) }
+    ensures { Added d vals.now work.old work.new }
 {
     let mut t = 0;
     while t < work.len() {
@@ -29,7 +29,7 @@ fn add_run(d: u32, vals: &[u32], work: &mut [u64])
 // work + d vals, from cell `first` on.
 pub fn add_from(d: u32, first: usize, vals: &[u32], work: &mut [u64])
     requires { FromReady d first vals.now work.old }
-    ensures { AddedFrom d first (before vals) (before work) (after work) }
+    ensures { AddedFrom d first vals.now work.old work.new }
 {
     let end = first + vals.len();
     let cells = &mut work[first..end];
@@ -38,8 +38,8 @@ pub fn add_from(d: u32, first: usize, vals: &[u32], work: &mut [u64])
 
 // work + d vals, cell by cell, where the values may stand in bytes.
 fn add_words(d: u32, vals: &[u32], vb: &[u8], work: &mut [u64])
-    requires { RunReady d (view_at vals vb) work.old }
-    ensures { Added d (view_before vals vb) (before work) (after work) }
+    requires { RunReady d (view_at vals.now vb.now) work.old }
+    ensures { Added d (view_before vals.now vb.now) work.old work.new }
 {
     if vb.len() == 0 {
         add_run(d, vals, work);
@@ -55,7 +55,7 @@ fn add_words(d: u32, vals: &[u32], vb: &[u8], work: &mut [u64])
 // work + d row, entry by entry, where the row is given by stored lists: no cell is tested, since there is room.
 fn add_list(d: u32, cols: &[u32], vals: &[u32], work: &mut [u64])
     requires { AddReady d cols.now vals.now work.old }
-    ensures { RowAdded d (before cols) (before vals) (before work) (after work) }
+    ensures { RowAdded d cols.now vals.now work.old work.new }
 {
     let mut t = 0;
     while t < cols.len() {
@@ -68,7 +68,7 @@ fn add_list(d: u32, cols: &[u32], vals: &[u32], work: &mut [u64])
 // The same where the row is given by the numbers that bytes hold.
 fn add_bytes(d: u32, cb: &[u8], vb: &[u8], work: &mut [u64])
     requires { AddReady d (words cb.now) (words vb.now) work.old }
-    ensures { RowAdded d (words (before cb)) (words (before vb)) (before work) (after work) }
+    ensures { RowAdded d (words cb.now) (words vb.now) work.old work.new }
 {
     let n = cb.len() / 4;
     let mut t = 0;
@@ -82,7 +82,7 @@ fn add_bytes(d: u32, cb: &[u8], vb: &[u8], work: &mut [u64])
 
 // Whether the cells may grow, and the row has 8 entries or more and no column is left out between its first and its last.
 fn is_run(q: Modulus, cols: &[u32], cb: &[u8]) -> bool
-    ensures { result ≡ true → Neighbours q.p (view_before cols cb) }
+    ensures { result ≡ true → Neighbours q.p (view_before cols.now cb.now) }
 {
     let n = count(cols, cb);
     if 65535 < q.p || n < 8 {
@@ -93,8 +93,8 @@ fn is_run(q: Modulus, cols: &[u32], cb: &[u8]) -> bool
 
 // work - c row, where the row's columns are neighbours: p - c times its values are added from the first column on.
 fn grow_run(q: Modulus, cols: &[u32], cb: &[u8], vals: &[u32], vb: &[u8], c: u32, work: &mut [u64])
-    requires { GrowReady q.p c (view_at cols cb) (view_at vals vb) work.old × Neighbours q.p (view_at cols cb) }
-    ensures { GrownBy q.p (growth q.p) (λ j. c * entry (view_before cols cb) (view_before vals vb) j) (before work) (after work) }
+    requires { GrowReady q.p c (view_at cols.now cb.now) (view_at vals.now vb.now) work.old × Neighbours q.p (view_at cols.now cb.now) }
+    ensures { GrownBy q.p (growth q.p) (λ j. c * entry (view_before cols.now cb.now) (view_before vals.now vb.now) j) work.old work.new }
 {
     let first = index(word(cols, cb, 0));
     let end = first + count(cols, cb);
@@ -104,8 +104,8 @@ fn grow_run(q: Modulus, cols: &[u32], cb: &[u8], vals: &[u32], vb: &[u8], c: u32
 
 // work - c row, where the row is given by its columns and values, of which some may stand in bytes.
 pub fn grow(q: Modulus, cols: &[u32], cb: &[u8], vals: &[u32], vb: &[u8], c: u32, work: &mut [u64])
-    requires { GrowReady q.p c (view_at cols cb) (view_at vals vb) work.old }
-    ensures { GrownBy q.p (growth q.p) (λ j. c * entry (view_before cols cb) (view_before vals vb) j) (before work) (after work) }
+    requires { GrowReady q.p c (view_at cols.now cb.now) (view_at vals.now vb.now) work.old }
+    ensures { GrownBy q.p (growth q.p) (λ j. c * entry (view_before cols.now cb.now) (view_before vals.now vb.now) j) work.old work.new }
 {
     if cb.len() + vb.len() == 0 {
         grow_list(q, cols, vals, c, work);
@@ -125,7 +125,7 @@ pub fn grow(q: Modulus, cols: &[u32], cb: &[u8], vals: &[u32], vb: &[u8], c: u32
 // work - c row, where the row is given by stored lists: its loop asks of no number where it stands.
 pub fn grow_list(q: Modulus, cols: &[u32], vals: &[u32], c: u32, work: &mut [u64])
     requires { GrowReady q.p c cols.now vals.now work.old }
-    ensures { GrownBy q.p (growth q.p) (λ j. c * entry (before cols) (before vals) j) (before work) (after work) }
+    ensures { GrownBy q.p (growth q.p) (λ j. c * entry cols.now vals.now j) work.old work.new }
 {
     let none: &[u8] = b"";
     if is_run(q, cols, none) {
@@ -152,8 +152,8 @@ pub fn grow_row(
     c: u32,
     work: &mut [u64],
 )
-    requires { GrowMatrixReady q.p k c (viewed_at starts sb cols cb vals vb) work.old }
-    ensures { GrownBy q.p (growth q.p) (λ j. c * matrix (viewed_before starts sb cols cb vals vb) k j) (before work) (after work) }
+    requires { GrowMatrixReady q.p k c (viewed_at starts.now sb.now cols.now cb.now vals.now vb.now) work.old }
+    ensures { GrownBy q.p (growth q.p) (λ j. c * matrix (viewed_before starts.now sb.now cols.now cb.now vals.now vb.now) k j) work.old work.new }
 {
     let a = index(word(starts, sb, k));
     let e = index(word(starts, sb, k + 1));
@@ -178,8 +178,8 @@ pub fn grow_list_row(
     c: u32,
     work: &mut [u64],
 )
-    requires { GrowMatrixReady q.p k c (stored_at starts cols vals) work.old }
-    ensures { GrownBy q.p (growth q.p) (λ j. c * matrix (stored_before starts cols vals) k j) (before work) (after work) }
+    requires { GrowMatrixReady q.p k c (stored_at starts.now cols.now vals.now) work.old }
+    ensures { GrownBy q.p (growth q.p) (λ j. c * matrix (stored_before starts.now cols.now vals.now) k j) work.old work.new }
 {
     let a = index(starts[k]);
     let e = index(starts[k + 1]);

@@ -5,7 +5,7 @@ ghost use Rattle.sparse.specs.Words.{words};
 ghost use Rattle.sparse.specs.Row.{entry};
 ghost use Rattle.sparse.specs.Matrix.{matrix};
 ghost use Rattle.sparse.specs.WorkingRow.{Lessened, Lowered, Subtracted, GrownBy, RowReady, MatrixReady};
-ghost use Rattle.sparse.specs.Views.{before, after, stored_at, stored_before, view_at, view_before, viewed_at, viewed_before};
+ghost use Rattle.sparse.specs.Views.{stored_at, stored_before, view_at, view_before, viewed_at, viewed_before};
 
 use crate::words::{bytes_part, count, list_part, word, word_at};
 use lists::{index, part};
@@ -39,7 +39,7 @@ pub fn minus(q: Modulus, x: u64, c: u32, v: u32) -> u64
 // work - c row, where the row is given by stored lists.
 pub fn subtract_list(q: Modulus, cols: &[u32], vals: &[u32], c: u32, work: &mut [u64])
     requires { RowReady q.p c cols.now vals.now work.old }
-    ensures { GrownBy q.p 0 (λ j. c * entry (before cols) (before vals) j) (before work) (after work) }
+    ensures { GrownBy q.p 0 (λ j. c * entry cols.now vals.now j) work.old work.new }
 {
     let mut t = 0;
     while t < cols.len() {
@@ -52,7 +52,7 @@ pub fn subtract_list(q: Modulus, cols: &[u32], vals: &[u32], c: u32, work: &mut 
 // work - c row, where the row is given by the numbers that bytes hold.
 fn subtract_bytes(q: Modulus, cb: &[u8], vb: &[u8], c: u32, work: &mut [u64])
     requires { RowReady q.p c (words cb.now) (words vb.now) work.old }
-    ensures { GrownBy q.p 0 (λ j. c * entry (words (before cb)) (words (before vb)) j) (before work) (after work) }
+    ensures { GrownBy q.p 0 (λ j. c * entry (words cb.now) (words vb.now) j) work.old work.new }
 {
     let n = cb.len() / 4;
     let mut t = 0;
@@ -74,8 +74,8 @@ fn subtract_words(
     c: u32,
     work: &mut [u64],
 )
-    requires { RowReady q.p c (view_at cols cb) (view_at vals vb) work.old }
-    ensures { GrownBy q.p 0 (λ j. c * entry (view_before cols cb) (view_before vals vb) j) (before work) (after work) }
+    requires { RowReady q.p c (view_at cols.now cb.now) (view_at vals.now vb.now) work.old }
+    ensures { GrownBy q.p 0 (λ j. c * entry (view_before cols.now cb.now) (view_before vals.now vb.now) j) work.old work.new }
 {
     let n = count(cols, cb);
     let mut t = 0;
@@ -97,8 +97,8 @@ pub fn subtract(
     c: u32,
     work: &mut [u64],
 )
-    requires { RowReady q.p c (view_at cols cb) (view_at vals vb) work.old }
-    ensures { GrownBy q.p 0 (λ j. c * entry (view_before cols cb) (view_before vals vb) j) (before work) (after work) }
+    requires { RowReady q.p c (view_at cols.now cb.now) (view_at vals.now vb.now) work.old }
+    ensures { GrownBy q.p 0 (λ j. c * entry (view_before cols.now cb.now) (view_before vals.now vb.now) j) work.old work.new }
 {
     if cb.len() + vb.len() == 0 {
         subtract_list(q, cols, vals, c, work);
@@ -124,8 +124,8 @@ pub fn subtract_row(
     c: u32,
     work: &mut [u64],
 )
-    requires { MatrixReady q.p k c (viewed_at starts sb cols cb vals vb) work.old }
-    ensures { Subtracted q.p (λ j. c * matrix (viewed_before starts sb cols cb vals vb) k j) (before work) (after work) }
+    requires { MatrixReady q.p k c (viewed_at starts.now sb.now cols.now cb.now vals.now vb.now) work.old }
+    ensures { Subtracted q.p (λ j. c * matrix (viewed_before starts.now sb.now cols.now cb.now vals.now vb.now) k j) work.old work.new }
 {
     let a = index(word(starts, sb, k));
     let e = index(word(starts, sb, k + 1));
@@ -150,8 +150,8 @@ pub fn subtract_list_row(
     c: u32,
     work: &mut [u64],
 )
-    requires { MatrixReady q.p k c (stored_at starts cols vals) work.old }
-    ensures { Subtracted q.p (λ j. c * matrix (stored_before starts cols vals) k j) (before work) (after work) }
+    requires { MatrixReady q.p k c (stored_at starts.now cols.now vals.now) work.old }
+    ensures { Subtracted q.p (λ j. c * matrix (stored_before starts.now cols.now vals.now) k j) work.old work.new }
 {
     let a = index(starts[k]);
     let e = index(starts[k + 1]);

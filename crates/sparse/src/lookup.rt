@@ -2,12 +2,11 @@
 ghost use Rattle.std.specs.Prelude.{◌≡◌};
 ghost use Rattle.sparse.specs.Row.{entry};
 ghost use Rattle.sparse.specs.Copying.{LookupReady};
-ghost use Rattle.sparse.specs.Views.{before};
 
 // The value stored at column j, or 0. The search ends at the column: a row's first column costs one step.
 pub fn value_at(cols: &[u32], vals: &[u32], j: u32) -> u32
     requires { LookupReady cols.now vals.now }
-    ensures { result ≡ entry (before cols) (before vals) j }
+    ensures { result ≡ entry cols.now vals.now j }
 {
     let mut t = 0;
     while t < cols.len() {

@@ -1,12 +1,11 @@
 // Passing over cells that are 0, eight at a time: most cells of a working row are.
 ghost use Rattle.std.specs.Prelude.{◌+◌, ◌≤◌, length};
 ghost use Rattle.sparse.specs.Scan.{ZeroRun, NextNonzero};
-ghost use Rattle.sparse.specs.Views.{before};
 
 // How many of the eight cells from place j on are 0 before the first that is not.
 fn zeros_of_eight(row: &[u64], j: usize) -> usize
     requires { j + 8 ≤ length row.now }
-    ensures { ZeroRun (before row) j result }
+    ensures { ZeroRun row.now j result }
 {
     if row[j] != 0 {
         return 0;
@@ -38,7 +37,7 @@ fn zeros_of_eight(row: &[u64], j: usize) -> usize
 // The first place from `from` on whose cell is not 0, or the length; cell by cell.
 fn next_by_one(row: &[u64], from: usize) -> usize
     requires { from ≤ length row.now }
-    ensures { NextNonzero (before row) from result }
+    ensures { NextNonzero row.now from result }
 {
     let mut j = from;
     while j < row.len() {
@@ -53,7 +52,7 @@ fn next_by_one(row: &[u64], from: usize) -> usize
 // The same; cell by cell only where fewer than eight are left.
 pub fn next_nonzero(row: &[u64], from: usize) -> usize
     requires { from ≤ length row.now }
-    ensures { NextNonzero (before row) from result }
+    ensures { NextNonzero row.now from result }
 {
     let mut j = from;
     while 8 <= row.len() - j {

@@ -1,7 +1,7 @@
 // Numbers of a list that is stored or held by bytes.
 ghost use Rattle.std.specs.Prelude.{◌≡◌, ◌+◌, ◌-◌, ◌*◌, ◌/◌, ◌≤◌, ◌<◌, min, length, get_or, take, drop};
 ghost use Rattle.sparse.specs.Words.{words};
-ghost use Rattle.sparse.specs.Views.{before, view_at, view_before};
+ghost use Rattle.sparse.specs.Views.{view_at, view_before};
 
 // A byte as a number.
 fn wide(x: u8) -> u32
@@ -13,7 +13,7 @@ fn wide(x: u8) -> u32
 // The 32-bit number at place k of the bytes.
 pub fn word_at(bytes: &[u8], k: usize) -> u32
     requires { 4 * k + 4 ≤ length bytes.now }
-    ensures { result ≡ get_or (words (before bytes)) k 0 }
+    ensures { result ≡ get_or (words bytes.now) k 0 }
 {
     let at = 4 * k;
     let a = wide(bytes[at]);
@@ -25,15 +25,15 @@ pub fn word_at(bytes: &[u8], k: usize) -> u32
 
 // How many numbers the list has.
 pub fn count(list: &[u32], bytes: &[u8]) -> usize
-    ensures { result ≡ length (view_before list bytes) }
+    ensures { result ≡ length (view_before list.now bytes.now) }
 {
     list.len() + bytes.len() / 4
 }
 
 // The number at place i. The first two tests do not depend on i: of a loop over i the compiler makes one loop for lists and one for bytes.
 pub fn word(list: &[u32], bytes: &[u8], i: usize) -> u32
-    requires { i < length (view_at list bytes) }
-    ensures { result ≡ get_or (view_before list bytes) i 0 }
+    requires { i < length (view_at list.now bytes.now) }
+    ensures { result ≡ get_or (view_before list.now bytes.now) i 0 }
 {
     let n = list.len();
     if bytes.len() == 0 {
@@ -61,7 +61,7 @@ fn least(i: usize, n: usize) -> usize
 // The part of the stored list that lies from place a up to place e.
 pub fn list_part(list: &[u32], a: usize, e: usize) -> &[u32]
     requires { a ≤ e }
-    ensures { result.now ≡ take (min e (length (before list)) - min a (length (before list))) (drop (min a (length (before list))) (before list)) }
+    ensures { result.now ≡ take (min e (length list.now) - min a (length list.now)) (drop (min a (length list.now)) list.now) }
 {
     let n = list.len();
     let a1 = least(a, n);
@@ -72,7 +72,7 @@ pub fn list_part(list: &[u32], a: usize, e: usize) -> &[u32]
 // The part of the bytes that lies from place a up to place e, after n stored numbers.
 pub fn bytes_part(n: usize, bytes: &[u8], a: usize, e: usize) -> &[u8]
     requires { (a ≤ e) × (e ≤ n + length bytes.now / 4) }
-    ensures { result.now ≡ take (4 * (e - min e n) - 4 * (a - min a n)) (drop (4 * (a - min a n)) (before bytes)) }
+    ensures { result.now ≡ take (4 * (e - min e n) - 4 * (a - min a n)) (drop (4 * (a - min a n)) bytes.now) }
 {
     let a2 = 4 * (a - least(a, n));
     let e2 = 4 * (e - least(e, n));

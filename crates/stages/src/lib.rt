@@ -2,7 +2,7 @@
 #![tactic(auto)]
 
 ghost use Rattle.std.specs.Prelude.{◌≡◌};
-ghost use Rattle.sparse.specs.Views.{before, after, stored_at, stored_before, stored_after, storage_at, storage_after};
+ghost use Rattle.sparse.specs.Views.{stored_at, stored_before, stored_after, storage_at, storage_after};
 ghost use Rattle.stages.specs.Lists.{StageLists, OwnedLists};
 ghost use Rattle.stages.specs.Needs.{Lendable, HeldFactored};
 ghost use Rattle.stages.specs.Staged.{stages_outcome, Staged, StagedOwned};
@@ -39,8 +39,8 @@ fn factor_held(
     uv: &mut [u32],
     work: &mut [u64],
 ) -> Factored
-    requires { Lendable r (stored_at starts cols vals) (storage_at ro co ls lc lv us uc uv work) }
-    ensures { HeldFactored r (stored_before starts cols vals) result (storage_after ro co ls lc lv us uc uv work) }
+    requires { Lendable r (stored_at starts.now cols.now vals.now) (storage_at ro.old co.old ls.old lc.old lv.old us.old uc.old uv.old work.old) }
+    ensures { HeldFactored r (stored_before starts.now cols.now vals.now) result (storage_after ro.new co.new ls.new lc.new lv.new us.new uc.new uv.new work.new) }
 {
     let n = r.n as usize;
     let m = r.m as usize;
@@ -81,8 +81,8 @@ pub fn factor_owned(
     uv: &mut [u32],
     work: &mut [u64],
 ) -> Stages
-    requires { OwnedLists (stored_at starts cols vals) owners.old (storage_at ro co ls lc lv us uc uv work) }
-    ensures { StagedOwned (before text) result (stored_after starts cols vals) (after owners) (before work) (storage_after ro co ls lc lv us uc uv work) }
+    requires { OwnedLists (stored_at starts.old cols.old vals.old) owners.old (storage_at ro.old co.old ls.old lc.old lv.old us.old uc.old uv.old work.old) }
+    ensures { StagedOwned text.now result (stored_after starts.new cols.new vals.new) owners.new work.old (storage_after ro.new co.new ls.new lc.new lv.new us.new uc.new uv.new work.new) }
 {
     let reading = text_owners::read(text, starts, cols, vals, owners);
     let read = reading.outcome;
@@ -129,8 +129,8 @@ pub fn factor_text(
     uv: &mut [u32],
     work: &mut [u64],
 ) -> Stages
-    requires { StageLists (stored_at starts cols vals) (storage_at ro co ls lc lv us uc uv work) }
-    ensures { Staged (before text) result (stored_after starts cols vals) (before work) (storage_after ro co ls lc lv us uc uv work) }
+    requires { StageLists (stored_at starts.old cols.old vals.old) (storage_at ro.old co.old ls.old lc.old lv.old us.old uc.old uv.old work.old) }
+    ensures { Staged text.now result (stored_after starts.new cols.new vals.new) work.old (storage_after ro.new co.new ls.new lc.new lv.new us.new uc.new uv.new work.new) }
 {
     let mut owners = [0u8; SIZE_CELLS];
     factor_owned(

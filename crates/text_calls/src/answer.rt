@@ -2,7 +2,6 @@
 ghost use Rattle.std.specs.Prelude.{◌+◌, ◌*◌, ◌≡◌};
 ghost use Rattle.call_answer.specs.Calls.{answer_number, answer_detail};
 ghost use Rattle.text_calls.specs.Calls.{verdict_byte, AnswersText};
-ghost use Rattle.sparse.specs.Views.{before, after};
 
 use crate::pack;
 use answer_lib::answer_text;
@@ -41,7 +40,7 @@ pub fn answer_from_text(
     z: &mut [u32],
     verdict: &mut u8,
 ) -> u64
-    ensures { AnswersText (before text) (before certificate) (before y) result (before x) (after x) (before z) (after z) verdict.new }
+    ensures { AnswersText text.now certificate.now y.now result x.old x.new z.old z.new verdict.new }
 {
     let mut work = [0u64; WORK_CELLS];
     let answer = answer_text(text, certificate, y, x, z, &mut work);

@@ -5,7 +5,7 @@ ghost use Rattle.text_plan.specs.Held.{held_plan};
 ghost use Rattle.stages.specs.Lists.{Held};
 ghost use Rattle.text_calls.specs.Calls.{check_text_of};
 ghost use Rattle.text_calls.specs.Needs.{CheckLists};
-ghost use Rattle.sparse.specs.Views.{before, stored_at, stored_before};
+ghost use Rattle.sparse.specs.Views.{stored_at, stored_before};
 
 use call_check::check_certificate;
 use limits::SIZE_CELLS;
@@ -21,8 +21,8 @@ fn check_held(
     certificate: &[u8],
     work: &mut [u64],
 ) -> Outcome
-    requires { Held r (stored_at starts cols vals) }
-    ensures { ChecksIn (check_certificate_of r.p r.n r.m (held_plan r (stored_before starts cols vals)) (before certificate)) result work }
+    requires { Held r (stored_at starts.now cols.now vals.now) }
+    ensures { ChecksIn (check_certificate_of r.p r.n r.m (held_plan r (stored_before starts.now cols.now vals.now)) certificate.now) result work }
 {
     let ro = r.n as usize + 1;
     let count = r.count as usize;
@@ -47,8 +47,8 @@ pub fn check_text(
     vals: &mut [u32],
     work: &mut [u64],
 ) -> Outcome
-    requires { CheckLists (stored_at starts cols vals) work.old }
-    ensures { result ≡ check_text_of (before text) (before certificate) }
+    requires { CheckLists (stored_at starts.old cols.old vals.old) work.old }
+    ensures { result ≡ check_text_of text.now certificate.now }
 {
     let mut owners = [0u8; SIZE_CELLS];
     let r = text_owners::read(text, starts, cols, vals, &mut owners);

@@ -3,7 +3,7 @@ ghost use Rattle.std.specs.Prelude.{length};
 ghost use Rattle.stages.specs.Staged.{Fits};
 ghost use Rattle.text_calls.specs.Held.{held_certificate, written_of, staged_outcome, Puts};
 ghost use Rattle.text_calls.specs.Needs.{StagedFits};
-ghost use Rattle.sparse.specs.Views.{before, after, stored_at, stored_before, storage_at, storage_before};
+ghost use Rattle.sparse.specs.Views.{stored_at, stored_before, storage_at, storage_before};
 
 use call_write::write_certificate;
 use lists::clear_bytes;
@@ -27,8 +27,8 @@ fn write_held(
     buffer: &mut [u8],
     work: &mut [u64],
 ) -> Outcome
-    requires { Fits s (stored_at starts cols vals) (storage_at ro co ls lc lv us uc uv work) }
-    ensures { Puts (written_of s (stored_before starts cols vals) (storage_before ro co ls lc lv us uc uv work) (length (before buffer))) (held_certificate s (storage_before ro co ls lc lv us uc uv work)) result (before buffer) (after buffer) }
+    requires { Fits s (stored_at starts.now cols.now vals.now) (storage_at ro.now co.now ls.now lc.now lv.now us.now uc.now uv.now work.old) }
+    ensures { Puts (written_of s (stored_before starts.now cols.now vals.now) (storage_before ro.now co.now ls.now lc.now lv.now us.now uc.now uv.now work.old) (length buffer.old)) (held_certificate s (storage_before ro.now co.now ls.now lc.now lv.now us.now uc.now uv.now work.old)) result buffer.old buffer.new }
 {
     let r = s.reading;
     let n = r.n as usize;
@@ -77,8 +77,8 @@ pub fn make_staged(
     buffer: &mut [u8],
     work: &mut [u64],
 ) -> Outcome
-    requires { StagedFits s (stored_at starts cols vals) (storage_at ro co ls lc lv us uc uv work) }
-    ensures { Puts (staged_outcome s (stored_before starts cols vals) (storage_before ro co ls lc lv us uc uv work) (length (before buffer))) (held_certificate s (storage_before ro co ls lc lv us uc uv work)) result (before buffer) (after buffer) }
+    requires { StagedFits s (stored_at starts.now cols.now vals.now) (storage_at ro.now co.now ls.now lc.now lv.now us.now uc.now uv.now work.old) }
+    ensures { Puts (staged_outcome s (stored_before starts.now cols.now vals.now) (storage_before ro.now co.now ls.now lc.now lv.now us.now uc.now uv.now work.old) (length buffer.old)) (held_certificate s (storage_before ro.now co.now ls.now lc.now lv.now us.now uc.now uv.now work.old)) result buffer.old buffer.new }
 {
     let read = s.reading;
     let reading = read.outcome;

@@ -4,7 +4,6 @@ ghost use Rattle.certificate.specs.Writing.{room_for};
 ghost use Rattle.refusals.specs.Refusals.{◌▷◌};
 ghost use Rattle.text_calls.specs.Calls.{ReportsText};
 ghost use Rattle.text_calls.specs.Held.{Puts};
-ghost use Rattle.sparse.specs.Views.{before, after};
 
 use crate::pack;
 use byte_buffer::put_bytes;
@@ -17,7 +16,7 @@ use report_lib::report_all;
 // Puts bytes in a buffer, zero past their end, where nothing was refused and the buffer holds them.
 // It is cleared first, so that every refusal leaves it all zero.
 pub fn deliver(o: Outcome, bytes: &[u8], buffer: &mut [u8]) -> Outcome
-    ensures { Puts (o ▷ room_for (length (before buffer)) (before bytes)) (before bytes) result (before buffer) (after buffer) }
+    ensures { Puts (o ▷ room_for (length buffer.old) bytes.now) bytes.now result buffer.old buffer.new }
 {
     clear_bytes(buffer);
     let Outcome::Passed = o else {
@@ -32,7 +31,7 @@ pub fn deliver(o: Outcome, bytes: &[u8], buffer: &mut [u8]) -> Outcome
 
 // The report of a text in a buffer of any length, as one number.
 pub fn report_text(text: &[u8], buffer: &mut [u8]) -> u64
-    ensures { ReportsText (before text) result (before buffer) (after buffer) }
+    ensures { ReportsText text.now result buffer.old buffer.new }
 {
     let mut printed = [0u8; PRINT_ROOM];
     let mut work = [0u64; WORK_CELLS];

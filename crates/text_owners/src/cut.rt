@@ -3,7 +3,6 @@ ghost use Rattle.std.specs.Prelude.{◌≡◌, length};
 ghost use Rattle.text_plan.specs.Call.{refusal_of};
 ghost use Rattle.text_owners.specs.Call.{text_call_of};
 ghost use Rattle.text_owners.specs.Cut.{CutReady, ReadsCut};
-ghost use Rattle.sparse.specs.Views.{before, after};
 
 use crate::foot::read_foot;
 use lists::{clear, clear_bytes};
@@ -34,7 +33,7 @@ pub fn read_cut(
     owners: &mut [u8],
 ) -> Reading
     requires { CutReady text.now end (length owners.old) }
-    ensures { ReadsCut (before text) end (text_call_of (before text) (length (before starts)) (length (before cols)) (length (before vals)) (length (before owners))) result (after starts) (after cols) (after vals) (after owners) }
+    ensures { ReadsCut text.now end (text_call_of text.now (length starts.old) (length cols.old) (length vals.old) (length owners.old)) result starts.new cols.new vals.new owners.new }
 {
     clear_bytes(owners);
     let at = end.at;

@@ -6,7 +6,6 @@ ghost use Rattle.text_fields.specs.Pieces.{pieces};
 ghost use Rattle.text_owners.specs.Owners.{owners_in};
 ghost use Rattle.text_owners.specs.Call.{owners_length};
 ghost use Rattle.text_owners.specs.Needs.{FootReady, Owns};
-ghost use Rattle.sparse.specs.Views.{before, after};
 
 use crate::line::{OwnersLine, read_line};
 use refusals::Outcome;
@@ -16,7 +15,7 @@ use text_lines::Place;
 // Without a line of owners each of the m words belongs to customer 1.
 fn own_by_first(m: u32, owners: &mut [u8])
     requires { (m ≤ largest_size) × (owners.old ≡ zeros owners_length) }
-    ensures { after owners ≡ filled owners_length (replicate m 1) }
+    ensures { owners.new ≡ filled owners_length (replicate m 1) }
 {
     let words = lists::index(m);
     let mut j = 0;
@@ -29,7 +28,7 @@ fn own_by_first(m: u32, owners: &mut [u8])
 // Reads what follows a plan of m words, from the line at `from` on, into bytes that are all zero.
 pub fn read_foot(text: &[u8], from: Place, m: u32, owners: &mut [u8]) -> Outcome
     requires { FootReady text.now from m owners.old }
-    ensures { Owns (owners_in m from.line (pieces 10 (drop from.at (before text)))) result (after owners) }
+    ensures { Owns (owners_in m from.line (pieces 10 (drop from.at text.now))) result owners.new }
 {
     if from.at == text.len() {
         own_by_first(m, owners);

@@ -6,7 +6,6 @@
 ghost use Rattle.std.specs.Prelude.{◌≡◌, length};
 ghost use Rattle.text_owners.specs.Call.{text_call_of, GivesText};
 ghost use Rattle.text_owners.specs.Cut.{counts};
-ghost use Rattle.sparse.specs.Views.{before, after};
 
 use cut::{read_cut, refusal};
 use ending::plan_end;
@@ -49,7 +48,7 @@ pub fn read(
     vals: &mut [u32],
     owners: &mut [u8],
 ) -> Reading
-    ensures { GivesText (text_call_of (before text) (length (before starts)) (length (before cols)) (length (before vals)) (length (before owners))) result (after starts) (after cols) (after vals) (after owners) }
+    ensures { GivesText (text_call_of text.now (length starts.old) (length cols.old) (length vals.old) (length owners.old)) result starts.new cols.new vals.new owners.new }
 {
     if owners.len() != SIZE_CELLS {
         clear(starts);

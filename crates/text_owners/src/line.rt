@@ -3,7 +3,6 @@ ghost use Rattle.std.specs.Prelude.{◌≡◌, ◌<◌, length};
 ghost use Rattle.text_fields.specs.Pieces.{pieces, first_piece};
 ghost use Rattle.text_owners.specs.Owners.{is_owners_word, owners_line};
 ghost use Rattle.text_owners.specs.Needs.{PutsOwner, OwnersLineReady, LineOwns};
-ghost use Rattle.sparse.specs.Views.{before, after};
 
 use text_fields::numbers::{Number, number_of};
 use text_fields::pieces::piece;
@@ -56,7 +55,7 @@ pub fn begins_owners(l: &[u8]) -> bool
 // Stores the owner of a word where it is a byte, and says whether all are so far.
 fn put_owner(owners: &mut [u8], word: u32, v: u64, bytes: bool) -> bool
     requires { word < length owners.old }
-    ensures { PutsOwner word v bytes result (before owners) (after owners) }
+    ensures { PutsOwner word v bytes result owners.old owners.new }
 {
     if LARGEST_OWNER < v {
         return false;
@@ -68,7 +67,7 @@ fn put_owner(owners: &mut [u8], word: u32, v: u64, bytes: bool) -> bool
 // Reads the line of m owners into bytes that are all zero.
 pub fn read_line(l: &[u8], m: u32, owners: &mut [u8]) -> OwnersLine
     requires { OwnersLineReady l.now m owners.old }
-    ensures { LineOwns (owners_line m (before l)) result (after owners) }
+    ensures { LineOwns (owners_line m l.now) result owners.new }
 {
     if !begins_owners(l) {
         return OwnersLine::NotOwners;

@@ -3,7 +3,6 @@ ghost use Rattle.std.specs.Prelude.{◌≡◌, cond, [], eqb, length, drop, set}
 ghost use Rattle.text_fields.specs.Pieces.{pieces};
 ghost use Rattle.text_plan.specs.Collect.{collect};
 ghost use Rattle.text_plan.specs.Needs.{Keepable, Collectable, Collects};
-ghost use Rattle.sparse.specs.Views.{before, after};
 
 use refusals::Outcome;
 use refusals::numbers::MALFORMED;
@@ -29,7 +28,7 @@ fn keep(
     v: u32,
 )
     requires { Keepable (length rows.old) (length columns.old) (length values.old) number i j }
-    ensures { (after rows ≡ set (before rows) number i) × (after columns ≡ set (before columns) number j) × (after values ≡ set (before values) number v) }
+    ensures { (rows.new ≡ set rows.old number i) × (columns.new ≡ set columns.old number j) × (values.new ≡ set values.old number v) }
 {
     let at = lists::index(number);
     rows[at] = i as u32;
@@ -69,7 +68,7 @@ pub fn collect_lines(
     values: &mut [u32],
 ) -> Gathered
     requires { Collectable text.now from s rows.old columns.old values.old }
-    ensures { Collects (collect s room from.line [] (pieces 10 (drop from.at (before text)))) result (after rows) (after columns) (after values) }
+    ensures { Collects (collect s room from.line [] (pieces 10 (drop from.at text.now))) result rows.new columns.new values.new }
 {
     let mut here = from;
     let mut count: u32 = 0;

@@ -5,12 +5,12 @@ ghost use Rattle.text_opening.specs.Reading.{Entry};
 ghost use Rattle.text_plan.specs.Stored.{RowsWithin, starts_of};
 ghost use Rattle.text_plan.specs.Needs.{Storable, AddsEntry};
 ghost use Rattle.text_plan.specs.Collect.{triple_of};
-ghost use Rattle.sparse.specs.Views.{before, after, stored_before, stored_after};
+ghost use Rattle.sparse.specs.Views.{stored_before, stored_after};
 
 // The starts after the rows `from` + 1 to `to`, which have no entry: all entries stand before them.
 pub fn extend_starts(starts: &mut [u32], from: usize, to: usize, count: u32)
     requires { (from ≤ to) × (to < starts_length) × (length starts.old ≡ starts_length) }
-    ensures { (es : List Entry) → RowsWithin from es → count ≡ length es → before starts ≡ starts_of from es → after starts ≡ starts_of to es }
+    ensures { (es : List Entry) → RowsWithin from es → count ≡ length es → starts.old ≡ starts_of from es → starts.new ≡ starts_of to es }
 {
     let mut k = from;
     while k < to {
@@ -31,7 +31,7 @@ pub fn store(
     v: u32,
 ) -> u32
     requires { Storable (length starts.old) (length cols.old) (length vals.old) count row i j v }
-    ensures { AddsEntry (triple_of i j v) row count (stored_before starts cols vals) result (stored_after starts cols vals) }
+    ensures { AddsEntry (triple_of i j v) row count (stored_before starts.old cols.old vals.old) result (stored_after starts.new cols.new vals.new) }
 {
     let top = i as usize;
     extend_starts(starts, row as usize, top, count);

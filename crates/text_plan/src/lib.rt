@@ -7,7 +7,6 @@ ghost use Rattle.text_fields.specs.Pieces.{pieces};
 ghost use Rattle.text_opening.specs.Reading.{fresh, triples, read_of};
 ghost use Rattle.text_plan.specs.Call.{read_answer_of, call_of, refusal_of, Gives};
 ghost use Rattle.text_plan.specs.Needs.{NothingStored, ReadingReady, Settles};
-ghost use Rattle.sparse.specs.Views.{before, after};
 
 use limits::START_CELLS;
 use refusals::Outcome;
@@ -56,7 +55,7 @@ fn read_lines(
     vals: &mut [u32],
 ) -> TripleLines
     requires { ReadingReady text.now third s starts.old cols.old vals.old }
-    ensures { Settles (length (before cols)) (triples fresh s (length (before cols)) third.line [] (pieces 10 (drop third.at (before text)))) result (after starts) (after cols) (after vals) }
+    ensures { Settles (length cols.old) (triples fresh s (length cols.old) third.line [] (pieces 10 (drop third.at text.now))) result starts.new cols.new vals.new }
 {
     match triples::read_triples(text, third, s, starts, cols, vals) {
         TripleLines::Read { count, row } => TripleLines::Read { count, row },
@@ -75,7 +74,7 @@ fn read_lines(
 // Reads into lists of the right lengths that are all zero.
 fn fill(text: &[u8], starts: &mut [u32], cols: &mut [u32], vals: &mut [u32]) -> Reading
     requires { NothingStored starts.old cols.old vals.old }
-    ensures { Gives (read_answer_of (length (before cols)) (read_of (length (before cols)) (before text))) result (after starts) (after cols) (after vals) }
+    ensures { Gives (read_answer_of (length cols.old) (read_of (length cols.old) text.now)) result starts.new cols.new vals.new }
 {
     match text_opening::opening::open(text) {
         Opening::Refused { number, detail } => refusal(number, detail),
@@ -107,7 +106,7 @@ fn fill(text: &[u8], starts: &mut [u32], cols: &mut [u32], vals: &mut [u32]) -> 
 // Refuses with: 9 for a wrong length; 2 for a longer text; then the first line at fault: 3, then 1, 2, or 4, 5, 6, 7.
 // Leaves: after a refusal every number 0 and every lent list all zero. The text never changes.
 pub fn read(text: &[u8], starts: &mut [u32], cols: &mut [u32], vals: &mut [u32]) -> Reading
-    ensures { Gives (call_of (before text) (length (before starts)) (length (before cols)) (length (before vals))) result (after starts) (after cols) (after vals) }
+    ensures { Gives (call_of text.now (length starts.old) (length cols.old) (length vals.old)) result starts.new cols.new vals.new }
 {
     lists::clear(starts);
     lists::clear(cols);

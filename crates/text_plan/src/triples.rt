@@ -4,7 +4,6 @@ ghost use Rattle.text_fields.specs.Pieces.{pieces};
 ghost use Rattle.text_opening.specs.Reading.{triples};
 ghost use Rattle.text_plan.specs.Rising.{rises};
 ghost use Rattle.text_plan.specs.Needs.{ReadingReady, Shows};
-ghost use Rattle.sparse.specs.Views.{before, after};
 
 use refusals::numbers::MALFORMED;
 use text_judge::judge::{Sizes, Verdict};
@@ -27,7 +26,7 @@ pub fn read_triples(
     vals: &mut [u32],
 ) -> TripleLines
     requires { ReadingReady text.now from s starts.old cols.old vals.old }
-    ensures { Shows (length (before cols)) (triples rises s (length (before cols)) from.line [] (pieces 10 (drop from.at (before text)))) result (after starts) (after cols) (after vals) }
+    ensures { Shows (length cols.old) (triples rises s (length cols.old) from.line [] (pieces 10 (drop from.at text.now))) result starts.new cols.new vals.new }
 {
     let room = cols.len();
     let mut here = from;

@@ -1,0 +1,17 @@
+-- `subtract_bytes` meets its contract; the loop's invariant is `Lowering`, the measure what is left. Assumes nothing.
+use Prim.Native.Nat.{◌-◌, ◌<◌}
+use mathlib.Core.Path.{◌≡◌, ◌∙◌}
+use native.Mathlib.Omega.{arith}
+use lib.ListN.{length, get_or}
+use borrow.Author.Rules.{rules}
+use Rattle.sparse.specs.Words.{words}
+use Rattle.sparse.proofs.WordLaws.{length-words}
+use Rattle.sparse.proofs.Entries.{row-columns, row-values}
+use Rattle.sparse.proofs.Subtraction.{Lowering, lowering-starts, lowering-turn, lowering-ends}
+use Rattle.sparse.proofs.kernel.subtract_bytes.Given as goal
+
+abbrev pub invariant-loop-t : goal.invariant-loop-t
+invariant-loop-t l = Lowering l.q.p l.c (words l.cb) (words l.vb) l.initial.work l.work l.t
+
+abbrev pub decreases-loop-t : goal.decreases-loop-t
+decreases-loop-t l = l.n - l.t
