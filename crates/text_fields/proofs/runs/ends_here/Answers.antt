@@ -6,12 +6,10 @@ use native.Mathlib.Decide.{ℕ_discrete}
 use native.Mathlib.Omega.{arith}
 use lib.ListN.{length, get_or}
 use lib.Dec.{eqb}
-use borrow.Author.Rules.{rules}
 use borrow.Author.Tests.{eq-eqb, ne_eqb}
 use Rattle.text_fields.specs.Scan.{size_from}
 use Rattle.text_fields.proofs.Cuts.{first-end, first-hit, first-miss}
-use Rattle.text_fields.proofs.runs.ends_here.Statement.{statement}
-use Rattle.text_fields.proofs.runs.ends_here.Tie as tie
+use Rattle.text_fields.proofs.runs.ends_here.Goals as goal
 
 separator-here : (s : ℕ) (l : List ℕ) (e : ℕ) → e < length l → eqb (get_or l e 0) s ≡ eqb (size_from s l e) 0
 separator-here s l e h = go (ℕ_discrete (get_or l e 0) s)
@@ -20,14 +18,8 @@ separator-here s l e h = go (ℕ_discrete (get_or l e 0) s)
     go (yes q) = rw (eq-eqb (get_or l e 0) s q, eq-eqb (size_from s l e) 0 (ap length (first-hit s l e h q)))
     go (no q) = rw (ne_eqb (get_or l e 0) s q, ne_eqb (size_from s l e) 0 (λ z. omega (arith, first-miss s l e h q)))
 
-shared-slice-read-result : tie.Need-shared-slice-read-result
-shared-slice-read-result c = search rules
+pub returns-then-end-line : goal.returns-then-end-line
+returns-then-end-line c = separator-here _ _ _ c.if-end-line.true
 
-returns : tie.Need-returns
-returns c = separator-here _ _ _ c.before.if1.true
-
-returns-2 : tie.Need-returns-2
-returns-2 c = let a = c.before.args in sym (eq-eqb _ 0 (ap length (first-end a.separator a.line.now a.end (omega arith))))
-
-pub ends-here-spec : {M : Type 1} → statement M
-ends-here-spec = tie.close (tie.spec shared-slice-read-result returns returns-2)
+pub returns : goal.returns
+returns c = let a = c.args in sym (eq-eqb _ 0 (ap length (first-end a.separator a.line.now a.end (omega arith))))
