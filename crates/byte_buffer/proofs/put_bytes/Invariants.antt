@@ -1,12 +1,7 @@
 -- `put_bytes` meets its contract; the loop keeps that storing what remains of the bytes completes the buffer. Assumes nothing.
-use Prim.Native.Nat.{ℕ, ◌+◌, ◌-◌, ◌<◌}
-use mathlib.Core.Path.{◌≡◌, refl}
-use mathlib.Core.List.{List, [], ◌∷◌, ◌++◌}
-use native.Mathlib.Omega.{arith}
-use lib.ListN.{length, get_or, drop, drop_of_length-le}
-use Rattle.lists.proofs.Steps.{drop-step}
-use Rattle.lists.proofs.Stored.{stored_one}
-use Rattle.byte_buffer.proofs.Remaining.{Turns, turns-start, turn-room, turns-after, turns-end}
+use Prim.Native.Nat.{◌-◌}
+use lib.ListN.{length, drop}
+use Rattle.byte_buffer.proofs.Remaining.{Turns}
 use Rattle.byte_buffer.proofs.put_bytes.Given as goal
 
 abbrev pub invariant-loop-i : goal.invariant-loop-i

@@ -1,8 +1,7 @@
 -- `clear` meets its contract; the loop's invariant is `Clearing`. Assumes nothing.
 use Prim.Native.Nat.{◌-◌}
-use native.Mathlib.Omega.{arith}
 use lib.ListN.{length}
-use Rattle.lists.proofs.Filled.{Clearing, clearing-starts, clearing-turn, clearing-ends}
+use Rattle.lists.proofs.Filled.{Clearing}
 use Rattle.lists.proofs.clear.Given as goal
 
 -- `clear` meets its contract; the loop's invariant is `Clearing`. Assumes nothing.

@@ -1,7 +1,6 @@
 -- `part` meets its contract. Assumes nothing.
 use mathlib.Core.Path.{sym}
 use Rattle.lists.proofs.Steps.{drop-take}
-use borrow.Author.Rules.{rules}
 use Rattle.lists.proofs.part.Goals as goal
 
 pub returns : goal.returns

@@ -1,5 +1,4 @@
 -- `is_modulus` meets its contract. Assumes nothing.
-use borrow.Author.Rules.{rules}
 use borrow.Author.Tests.{le-leb, lt-leb}
 use Rattle.lists.proofs.Bools.{chain-false, chain-true}
 use Rattle.residue.specs.Range.{is_modulus}

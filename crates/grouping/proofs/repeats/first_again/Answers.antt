@@ -1,11 +1,7 @@
 use mathlib.Core.Path.{refl}
-use Prim.Native.Nat.{◌+◌, ◌-◌}
+use Prim.Native.Nat.{◌+◌}
 use native.Mathlib.Omega.{arith}
-use borrow.Author.Rules.{rules}
-use lib.ListN.{length}
-use Rattle.grouping.specs.Grouping.{key_of}
-use Rattle.grouping.specs.Repeats.{same_at}
-use Rattle.grouping.proofs.Walks.{Walk, walk-starts, walk_turn, walk_ends}
+use Rattle.grouping.proofs.Walks.{walk-starts, walk_turn, walk_ends}
 use Rattle.grouping.proofs.repeats.first_again.Goals as goal
 
 pub loop-k-init : goal.loop-k-init

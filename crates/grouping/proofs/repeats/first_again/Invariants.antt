@@ -1,11 +1,8 @@
-use mathlib.Core.Path.{refl}
-use Prim.Native.Nat.{◌+◌, ◌-◌}
-use native.Mathlib.Omega.{arith}
-use borrow.Author.Rules.{rules}
+use Prim.Native.Nat.{◌-◌}
 use lib.ListN.{length}
 use Rattle.grouping.specs.Grouping.{key_of}
 use Rattle.grouping.specs.Repeats.{same_at}
-use Rattle.grouping.proofs.Walks.{Walk, walk-starts, walk_turn, walk_ends}
+use Rattle.grouping.proofs.Walks.{Walk}
 use Rattle.grouping.proofs.repeats.first_again.Given as goal
 
 abbrev pub invariant-loop-k : goal.invariant-loop-k

@@ -1,5 +1,4 @@
 use borrow.Author.Tests.{lt-ltb, le-ltb}
-use borrow.Author.Rules.{rules}
 use Rattle.grouping.proofs.repeats.least.Goals as goal
 
 pub returns-then-b-d : goal.returns-then-b-d

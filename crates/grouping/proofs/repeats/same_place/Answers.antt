@@ -1,5 +1,4 @@
 use Rattle.grouping.proofs.Walks.{other_row, same_row}
-use borrow.Author.Rules.{rules}
 use Rattle.grouping.proofs.repeats.same_place.Goals as goal
 
 pub returns-then-rows-index : goal.returns-then-rows-index

@@ -1,11 +1,6 @@
 -- `Modulus::invert` meets its contract. The loop's invariant: t1 * x0 + t0 * x1 = p, and t1 * a is x1 or its negative modulo p. The measure is x1.
 -- Assumes nothing.
-use Prim.Native.Nat.{ℕ, ◌+◌, ◌-◌, ◌*◌, ◌/◌, ◌%◌, ◌^◌, ◌<◌}
-use mathlib.Core.Path.{◌≡◌, sym}
-use borrow.Author.Rules.{rules}
-use native.Mathlib.Nat.{mod-lt, mod-add-div'}
-use native.Mathlib.Omega.{arith}
-use Rattle.residue.proofs.Inverse.{Euclid, euclid-starts, euclid-top, euclid_fits, euclid-turn, euclid-even, euclid-odd, twice}
+use Rattle.residue.proofs.Inverse.{Euclid}
 use Rattle.residue.proofs.Modulus.invert.Given as goal
 
 -- `Modulus::invert` meets its contract. The loop's invariant: t1 * x0 + t0 * x1 = p, and t1 * a is x1 or its negative modulo p. The measure is x1.

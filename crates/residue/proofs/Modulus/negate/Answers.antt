@@ -3,7 +3,6 @@ use Prim.Native.Nat.{ℕ, ◌-◌, ◌%◌, ◌<◌}
 use mathlib.Core.Path.{sym, ap, ◌∙◌}
 use native.Mathlib.Nat.{mod_self, mod-eq_of_lt, sub-zero}
 use native.Mathlib.Omega.{arith}
-use borrow.Author.Rules.{rules}
 use Rattle.residue.proofs.Modulus.negate.Goals as goal
 
 -- `Modulus::negate` meets its contract: 0 is its own negative, and p - a is below p otherwise. Assumes nothing.

@@ -2,7 +2,6 @@
 use Prim.Native.Nat.{ℕ, ◌%◌}
 use mathlib.Core.Path.{sym, ap, ◌∙◌}
 use native.Mathlib.Nat.{zero-mod}
-use borrow.Author.Rules.{rules}
 use Rattle.residue.proofs.Modulus.reduce_cell.Goals as goal
 
 -- `reduce_cell` meets its contract: 0 is its own residue. Assumes nothing.

@@ -1,6 +1,5 @@
 use Prim.Native.Nat.{ℕ, ◌-◌, ◌%◌}
 use mathlib.Core.Path.{ap, ◌∙◌}
-use borrow.Author.Rules.{rules}
 use Rattle.residue.proofs.Modulus.signed.Goals as goal
 
 pub returns-then-negative : goal.returns-then-negative

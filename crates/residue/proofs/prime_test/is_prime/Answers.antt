@@ -1,7 +1,5 @@
 -- `is_prime` meets its contract: the table decides against, or prepares for the odd divisors. Assumes nothing.
 use mathlib.Core.Path.{sym, ◌∙◌}
-use borrow.Author.Rules.{rules}
-use borrow.Author.Tests.{not-true, not-false}
 use native.Mathlib.Omega.{arith}
 use Rattle.residue.proofs.Primes.{not-prime}
 use Rattle.residue.proofs.Table.{failing-composite}

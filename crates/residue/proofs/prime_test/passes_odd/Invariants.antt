@@ -1,11 +1,7 @@
 -- `passes_odd` meets its contract. The loop's invariant: d is odd, and no prime below it up to the square root of p divides p. The measure is what is left up to 65,538. Assumes nothing.
-use Prim.Native.Nat.{ℕ, ◌-◌, ◌%◌, ◌≤◌, ◌<◌}
-use mathlib.Core.Path.{◌≡◌, refl, sym}
-use borrow.Author.Rules.{rules}
-use native.Mathlib.Omega.{arith}
-use Rattle.residue.proofs.Arithmetic.{mul-fits}
-use Rattle.residue.proofs.Primes.{divided-false, root-small}
-use Rattle.residue.proofs.Divisors.{UndividedBelow, table-undivided, odd-undivided, undivided-prime}
+use Prim.Native.Nat.{◌-◌, ◌%◌, ◌≤◌}
+use mathlib.Core.Path.{◌≡◌}
+use Rattle.residue.proofs.Divisors.{UndividedBelow}
 use Rattle.residue.proofs.prime_test.passes_odd.Given as goal
 
 -- `passes_odd` meets its contract. The loop's invariant: d is odd, and no prime below it up to the square root of p divides p. The measure is what is left up to 65,538. Assumes nothing.

@@ -1,13 +1,10 @@
 -- `passes_table` meets its contract. The loop's invariant: the table in the code is the definition's, and p passes the entries below i. Assumes nothing.
-use Prim.Native.Nat.{ℕ, ◌-◌, ◌≤◌, ◌<◌}
-use mathlib.Core.Path.{◌≡◌, refl, sym}
-use mathlib.Core.Bool.{true}
+use mathlib.Core.Path.{refl, sym}
 use borrow.Author.Count.{below_none, below_more}
-use borrow.Author.Rules.{rules}
 use native.Mathlib.Omega.{arith}
 use Rattle.lists.proofs.Tests.{all_pass}
 use Rattle.residue.specs.Primality.{small_primes, small_prime, passes_table}
-use Rattle.residue.proofs.Table.{entry-large, square-fits, passes, root-passes, divided-fails, undivided-passes}
+use Rattle.residue.proofs.Table.{entry-large, square-fits, root-passes, divided-fails, undivided-passes}
 use Rattle.residue.proofs.prime_test.passes_table.Goals as goal
 
 pub loop-i-init : goal.loop-i-init

@@ -1,13 +1,9 @@
 -- `passes_table` meets its contract. The loop's invariant: the table in the code is the definition's, and p passes the entries below i. Assumes nothing.
 use Prim.Native.Nat.{ℕ, ◌-◌, ◌≤◌, ◌<◌}
-use mathlib.Core.Path.{◌≡◌, refl, sym}
+use mathlib.Core.Path.{◌≡◌}
 use mathlib.Core.Bool.{true}
-use borrow.Author.Count.{below_none, below_more}
-use borrow.Author.Rules.{rules}
-use native.Mathlib.Omega.{arith}
-use Rattle.lists.proofs.Tests.{all_pass}
-use Rattle.residue.specs.Primality.{small_primes, small_prime, passes_table}
-use Rattle.residue.proofs.Table.{entry-large, square-fits, passes, root-passes, divided-fails, undivided-passes}
+use Rattle.residue.specs.Primality.{small_primes}
+use Rattle.residue.proofs.Table.{passes}
 use Rattle.residue.proofs.prime_test.passes_table.Given as goal
 
 -- `passes_table` meets its contract. The loop's invariant: the table in the code is the definition's, and p passes the entries below i. Assumes nothing.

@@ -1,8 +1,8 @@
 -- `copy_scaled` meets its contract; the loop's invariant is `Copying`, the measure what is left. Assumes nothing.
-use Prim.Native.Nat.{◌-◌, ◌+◌, ◌<◌}
+use Prim.Native.Nat.{◌+◌, ◌<◌}
 use native.Mathlib.Omega.{arith}
 use lib.ListN.{length}
-use Rattle.sparse.proofs.CopySteps.{Copying, copying-starts, copying-columns, copying-values, copying-turn, copying-ends}
+use Rattle.sparse.proofs.CopySteps.{copying-starts, copying-columns, copying-values, copying-turn, copying-ends}
 use Rattle.sparse.proofs.copying.copy_scaled.Goals as goal
 
 pub loop-t-init : goal.loop-t-init

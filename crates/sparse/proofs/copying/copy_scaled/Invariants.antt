@@ -1,8 +1,7 @@
 -- `copy_scaled` meets its contract; the loop's invariant is `Copying`, the measure what is left. Assumes nothing.
-use Prim.Native.Nat.{◌-◌, ◌+◌, ◌<◌}
-use native.Mathlib.Omega.{arith}
+use Prim.Native.Nat.{◌-◌}
 use lib.ListN.{length}
-use Rattle.sparse.proofs.CopySteps.{Copying, copying-starts, copying-columns, copying-values, copying-turn, copying-ends}
+use Rattle.sparse.proofs.CopySteps.{Copying}
 use Rattle.sparse.proofs.copying.copy_scaled.Given as goal
 
 abbrev pub invariant-loop-t : goal.invariant-loop-t

@@ -1,14 +1,12 @@
 -- `dot` meets its contract; the loop's invariant is `Summing`, the measure what is left. Assumes nothing.
-use Prim.Native.Nat.{◌-◌, ◌<◌}
+use Prim.Native.Nat.{◌<◌}
 use mathlib.Core.Path.{◌≡◌, ◌∙◌}
 use native.Mathlib.Omega.{arith}
 use lib.ListN.{length, get_or}
-use borrow.Author.Rules.{rules}
-use Rattle.algebra.specs.Matrix.{vector}
 use Rattle.sparse.specs.Words.{view}
 use Rattle.sparse.proofs.Entries.{row-columns, row-values}
 use Rattle.sparse.proofs.Subtraction.{product-below}
-use Rattle.sparse.proofs.DenseSteps.{Summing, summing-starts, summing-turn, summing-ends}
+use Rattle.sparse.proofs.DenseSteps.{summing-starts, summing-turn, summing-ends}
 use Rattle.sparse.proofs.dense.dot.Goals as goal
 
 pub loop-t-init : goal.loop-t-init

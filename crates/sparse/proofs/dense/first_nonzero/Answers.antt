@@ -1,14 +1,10 @@
 -- `first_nonzero` meets its contract; every cell passed stands for 0, the measure is what is left. Assumes nothing.
-use Prim.Native.Nat.{ℕ, ◌-◌, ◌%◌, ◌≤◌, ◌<◌}
 use mathlib.Core.Path.{◌≡◌, sym, ◌∙◌}
-use mathlib.Core.Bool.{true}
 use native.Mathlib.Omega.{arith}
-use lib.Dec.{eqb}
-use lib.ListN.{length, get_or}
+use lib.ListN.{length}
 use borrow.Author.Count.{below_more}
-use borrow.Author.Tests.{not-true, not-false}
 use Rattle.lists.proofs.Tests.{first-all, first-fails}
-use Rattle.sparse.proofs.DenseSteps.{StandForZero, standing-over}
+use Rattle.sparse.proofs.DenseSteps.{standing-over}
 use Rattle.sparse.proofs.dense.first_nonzero.Goals as goal
 
 pub loop-j-init : goal.loop-j-init

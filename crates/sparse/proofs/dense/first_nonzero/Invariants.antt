@@ -1,14 +1,7 @@
 -- `first_nonzero` meets its contract; every cell passed stands for 0, the measure is what is left. Assumes nothing.
-use Prim.Native.Nat.{ℕ, ◌-◌, ◌%◌, ◌≤◌, ◌<◌}
-use mathlib.Core.Path.{◌≡◌, sym, ◌∙◌}
-use mathlib.Core.Bool.{true}
-use native.Mathlib.Omega.{arith}
-use lib.Dec.{eqb}
-use lib.ListN.{length, get_or}
-use borrow.Author.Count.{below_more}
-use borrow.Author.Tests.{not-true, not-false}
-use Rattle.lists.proofs.Tests.{first-all, first-fails}
-use Rattle.sparse.proofs.DenseSteps.{StandForZero, standing-over}
+use Prim.Native.Nat.{◌-◌, ◌≤◌}
+use lib.ListN.{length}
+use Rattle.sparse.proofs.DenseSteps.{StandForZero}
 use Rattle.sparse.proofs.dense.first_nonzero.Given as goal
 
 abbrev pub invariant-loop-j : goal.invariant-loop-j

@@ -1,12 +1,7 @@
 -- `load` meets its contract; the loop's invariant is `Loading`, the measure what is left. Assumes nothing.
-use Prim.Native.Nat.{◌-◌, ◌<◌}
-use mathlib.Core.Path.{◌≡◌, ◌∙◌}
-use native.Mathlib.Omega.{arith}
-use lib.ListN.{length, get_or}
-use borrow.Author.Rules.{rules}
+use Prim.Native.Nat.{◌-◌}
 use Rattle.sparse.specs.Words.{view}
-use Rattle.sparse.proofs.Entries.{row-columns}
-use Rattle.sparse.proofs.DenseSteps.{Loading, loading-starts, loading-fits, loading-turn, loading-ends}
+use Rattle.sparse.proofs.DenseSteps.{Loading}
 use Rattle.sparse.proofs.dense.load.Given as goal
 
 abbrev pub invariant-loop-t : goal.invariant-loop-t

@@ -1,7 +1,6 @@
 -- `put` meets its contract. Assumes nothing.
 use native.Mathlib.Omega.{arith}
 use mathlib.Core.List.{[]}
-use borrow.Author.Rules.{rules}
 use Rattle.sparse.proofs.Nonzeros.{nonzeros-one, stored-zero, stored_one}
 use Rattle.sparse.proofs.dense.put.Goals as goal
 

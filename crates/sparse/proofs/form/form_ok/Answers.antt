@@ -2,11 +2,10 @@
 use Prim.Native.Nat.{ℕ}
 use mathlib.Core.Path.{◌≡◌, sym, ◌∙◌, ap}
 use lib.ListN.{length}
-use borrow.Author.Tests.{ne_eqb, eq-eqb, not-false}
+use borrow.Author.Tests.{ne_eqb, eq-eqb}
 use Rattle.sparse.specs.Words.{view}
 use Rattle.sparse.specs.Form.{well_formed, starts_ok}
 use Rattle.lists.proofs.Bools.{chain-stop, chain-on, chain-false, chain-true}
-use borrow.Author.Rules.{rules}
 use Rattle.sparse.proofs.form.form_ok.Goals as goal
 
 pub returns-then-not-starts_ok : goal.returns-then-not-starts_ok

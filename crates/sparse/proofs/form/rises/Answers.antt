@@ -1,10 +1,7 @@
 -- `rises` meets its contract. Assumes nothing.
-use Prim.Native.Nat.{◌≤◌, ◌-◌}
-use mathlib.Core.Path.{◌≡◌, refl, sym, ◌∙◌}
+use mathlib.Core.Path.{refl, sym, ◌∙◌}
 use native.Mathlib.Omega.{arith}
-use lib.Seq.{slice}
 use Rattle.sparse.specs.Words.{view}
-use Rattle.sparse.specs.Form.{rises_from}
 use Rattle.sparse.proofs.Forms.{rises-low, rises-wide, rises-on, rises-end}
 use Rattle.sparse.proofs.form.rises.Goals as goal
 

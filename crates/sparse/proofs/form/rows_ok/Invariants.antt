@@ -1,13 +1,10 @@
 -- `rows_ok` meets its contract. Assumes nothing.
-use Prim.Native.Nat.{◌≤◌, ◌-◌, ◌+◌}
+use Prim.Native.Nat.{◌≤◌, ◌-◌}
 use mathlib.Core.Bool.{true}
-use mathlib.Core.Path.{◌≡◌, refl, sym, ◌∙◌}
-use native.Mathlib.Omega.{arith}
-use borrow.Author.Rules.{rules}
+use mathlib.Core.Path.{◌≡◌}
 use lib.ListN.{length, drop}
 use Rattle.sparse.specs.Words.{view}
 use Rattle.sparse.specs.Form.{rows_from, starts_from}
-use Rattle.sparse.proofs.Forms.{starts-true, starts-next, starts-le, rows-fail, rows_on, rows_end}
 use Rattle.sparse.proofs.form.rows_ok.Given as goal
 
 abbrev pub invariant-loop-i : goal.invariant-loop-i

@@ -1,10 +1,7 @@
 -- `starts_from` meets its contract. Assumes nothing.
-use Prim.Native.Nat.{◌≤◌, ◌<◌, ◌-◌, ◌^◌}
-use mathlib.Core.Path.{◌≡◌, refl, sym, ◌∙◌}
+use mathlib.Core.Path.{refl, sym, ◌∙◌}
 use native.Mathlib.Omega.{arith}
-use lib.ListN.{drop}
 use Rattle.sparse.specs.Words.{view}
-use Rattle.sparse.specs.Form.{starts_from}
 use Rattle.sparse.proofs.Forms.{starts-falls, starts-on, starts-end}
 use Rattle.sparse.proofs.form.starts_from.Goals as goal
 

@@ -1,11 +1,9 @@
 -- `starts_from` meets its contract. Assumes nothing.
 use Prim.Native.Nat.{◌≤◌, ◌<◌, ◌-◌, ◌^◌}
-use mathlib.Core.Path.{◌≡◌, refl, sym, ◌∙◌}
-use native.Mathlib.Omega.{arith}
+use mathlib.Core.Path.{◌≡◌}
 use lib.ListN.{drop}
 use Rattle.sparse.specs.Words.{view}
 use Rattle.sparse.specs.Form.{starts_from}
-use Rattle.sparse.proofs.Forms.{starts-falls, starts-on, starts-end}
 use Rattle.sparse.proofs.form.starts_from.Given as goal
 
 abbrev pub invariant-loop-i : goal.invariant-loop-i

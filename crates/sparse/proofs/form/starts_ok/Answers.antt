@@ -3,7 +3,6 @@ use mathlib.Core.Path.{sym, ◌∙◌}
 use native.Mathlib.Omega.{arith}
 use Rattle.sparse.specs.Words.{view}
 use Rattle.sparse.proofs.Forms.{starts_none, starts_first, starts-rest}
-use borrow.Author.Rules.{rules}
 use Rattle.sparse.proofs.form.starts_ok.Goals as goal
 
 pub returns-then-n-eq0 : goal.returns-then-n-eq0

@@ -1,11 +1,7 @@
 -- `values_ok` meets its contract. Assumes nothing.
-use Prim.Native.Nat.{◌≤◌, ◌-◌}
-use mathlib.Core.Path.{◌≡◌, refl, sym, ◌∙◌}
+use mathlib.Core.Path.{refl, sym, ◌∙◌}
 use native.Mathlib.Omega.{arith}
-use borrow.Author.Rules.{rules}
-use lib.ListN.{drop}
 use Rattle.sparse.specs.Words.{view}
-use Rattle.sparse.specs.Form.{values_ok}
 use Rattle.sparse.proofs.Forms.{values-zero, values-high, values-on, values-end}
 use Rattle.sparse.proofs.form.values_ok.Goals as goal
 

@@ -1,12 +1,9 @@
 -- `values_ok` meets its contract. Assumes nothing.
 use Prim.Native.Nat.{◌≤◌, ◌-◌}
-use mathlib.Core.Path.{◌≡◌, refl, sym, ◌∙◌}
-use native.Mathlib.Omega.{arith}
-use borrow.Author.Rules.{rules}
+use mathlib.Core.Path.{◌≡◌}
 use lib.ListN.{drop}
 use Rattle.sparse.specs.Words.{view}
 use Rattle.sparse.specs.Form.{values_ok}
-use Rattle.sparse.proofs.Forms.{values-zero, values-high, values-on, values-end}
 use Rattle.sparse.proofs.form.values_ok.Given as goal
 
 abbrev pub invariant-loop-i : goal.invariant-loop-i

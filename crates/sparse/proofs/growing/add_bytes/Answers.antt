@@ -1,12 +1,11 @@
 -- `add_bytes` meets its contract; the loop's invariant is `AddingRow`, the measure what is left. Assumes nothing.
-use Prim.Native.Nat.{ℕ, ◌+◌, ◌-◌, ◌<◌}
+use Prim.Native.Nat.{ℕ, ◌+◌, ◌<◌}
 use mathlib.Core.Path.{◌≡◌, ap, ◌∙◌}
 use native.Mathlib.Omega.{arith}
 use lib.ListN.{length, get_or}
-use borrow.Author.Rules.{rules}
 use Rattle.sparse.specs.Words.{words}
 use Rattle.sparse.proofs.WordLaws.{length-words}
-use Rattle.sparse.proofs.AddLaws.{AddingRow, adding-row-starts, adding-row-room, adding-row-turn, adding-row-ends}
+use Rattle.sparse.proofs.AddLaws.{adding-row-starts, adding-row-room, adding-row-turn, adding-row-ends}
 use Rattle.sparse.proofs.growing.add_bytes.Goals as goal
 
 pub loop-t-init : goal.loop-t-init

@@ -1,12 +1,7 @@
 -- `add_bytes` meets its contract; the loop's invariant is `AddingRow`, the measure what is left. Assumes nothing.
-use Prim.Native.Nat.{ℕ, ◌+◌, ◌-◌, ◌<◌}
-use mathlib.Core.Path.{◌≡◌, ap, ◌∙◌}
-use native.Mathlib.Omega.{arith}
-use lib.ListN.{length, get_or}
-use borrow.Author.Rules.{rules}
+use Prim.Native.Nat.{◌-◌}
 use Rattle.sparse.specs.Words.{words}
-use Rattle.sparse.proofs.WordLaws.{length-words}
-use Rattle.sparse.proofs.AddLaws.{AddingRow, adding-row-starts, adding-row-room, adding-row-turn, adding-row-ends}
+use Rattle.sparse.proofs.AddLaws.{AddingRow}
 use Rattle.sparse.proofs.growing.add_bytes.Given as goal
 
 abbrev pub invariant-loop-t : goal.invariant-loop-t

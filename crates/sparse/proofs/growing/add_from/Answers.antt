@@ -2,7 +2,6 @@
 use Prim.Native.Nat.{ℕ, ◌+◌, ◌-◌}
 use native.Mathlib.Omega.{arith}
 use lib.ListN.{length}
-use borrow.Author.Rules.{rules}
 use Rattle.sparse.proofs.RunLaws.{from-run, from-added}
 use Rattle.sparse.proofs.growing.add_from.Goals as goal
 

@@ -1,10 +1,9 @@
 -- `add_list` meets its contract; the loop's invariant is `AddingRow`, the measure what is left. Assumes nothing.
-use Prim.Native.Nat.{ℕ, ◌+◌, ◌-◌, ◌<◌}
+use Prim.Native.Nat.{ℕ, ◌+◌, ◌<◌}
 use mathlib.Core.Path.{refl, ap}
 use native.Mathlib.Omega.{arith}
 use lib.ListN.{length, get_or}
-use borrow.Author.Rules.{rules}
-use Rattle.sparse.proofs.AddLaws.{AddingRow, adding-row-starts, adding-row-room, adding-row-turn, adding-row-ends}
+use Rattle.sparse.proofs.AddLaws.{adding-row-starts, adding-row-room, adding-row-turn, adding-row-ends}
 use Rattle.sparse.proofs.growing.add_list.Goals as goal
 
 pub loop-t-init : goal.loop-t-init

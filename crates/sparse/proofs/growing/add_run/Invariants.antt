@@ -1,10 +1,7 @@
 -- `add_run` meets its contract; the loop's invariant is `Adding`, the measure what is left. Assumes nothing.
-use Prim.Native.Nat.{ℕ, ◌+◌, ◌-◌, ◌<◌}
-use mathlib.Core.Path.{ap}
-use native.Mathlib.Omega.{arith}
-use lib.ListN.{length, get_or}
-use borrow.Author.Rules.{rules}
-use Rattle.sparse.proofs.RunLaws.{Adding, adding-starts, adding-turn, adding-ends}
+use Prim.Native.Nat.{◌-◌}
+use lib.ListN.{length}
+use Rattle.sparse.proofs.RunLaws.{Adding}
 use Rattle.sparse.proofs.growing.add_run.Given as goal
 
 abbrev pub invariant-loop-t : goal.invariant-loop-t

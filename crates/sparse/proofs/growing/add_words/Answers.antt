@@ -1,12 +1,11 @@
 -- `add_words` meets its contract; the loop's invariant is `Adding`, the measure what is left. Assumes nothing.
-use Prim.Native.Nat.{ℕ, ◌+◌, ◌-◌, ◌*◌, ◌<◌}
+use Prim.Native.Nat.{ℕ, ◌+◌, ◌*◌, ◌<◌}
 use mathlib.Core.Path.{◌≡◌, ap, ◌∙◌}
 use native.Mathlib.Omega.{arith}
 use lib.ListN.{length, get_or}
-use borrow.Author.Rules.{rules}
 use Rattle.sparse.specs.Words.{view}
 use Rattle.sparse.proofs.WordLaws.{view-stored}
-use Rattle.sparse.proofs.RunLaws.{Adding, adding-starts, adding-turn, adding-ends}
+use Rattle.sparse.proofs.RunLaws.{adding-starts, adding-turn, adding-ends}
 use Rattle.sparse.proofs.growing.add_words.Goals as goal
 
 pub add_run-requires : goal.add_run-requires

@@ -1,12 +1,8 @@
 -- `add_words` meets its contract; the loop's invariant is `Adding`, the measure what is left. Assumes nothing.
-use Prim.Native.Nat.{ℕ, ◌+◌, ◌-◌, ◌*◌, ◌<◌}
-use mathlib.Core.Path.{◌≡◌, ap, ◌∙◌}
-use native.Mathlib.Omega.{arith}
-use lib.ListN.{length, get_or}
-use borrow.Author.Rules.{rules}
+use Prim.Native.Nat.{◌-◌}
+use lib.ListN.{length}
 use Rattle.sparse.specs.Words.{view}
-use Rattle.sparse.proofs.WordLaws.{view-stored}
-use Rattle.sparse.proofs.RunLaws.{Adding, adding-starts, adding-turn, adding-ends}
+use Rattle.sparse.proofs.RunLaws.{Adding}
 use Rattle.sparse.proofs.growing.add_words.Given as goal
 
 abbrev pub invariant-loop-t : goal.invariant-loop-t

@@ -2,8 +2,6 @@
 use Prim.Native.Nat.{◌<◌}
 use mathlib.Core.Path.{◌≡◌}
 use native.Mathlib.Omega.{arith}
-use borrow.Author.Rules.{rules}
-use borrow.Author.Tests.{leb-true}
 use Rattle.sparse.specs.Words.{words, view}
 use Rattle.sparse.specs.WorkingRow.{GrowReady}
 use Rattle.sparse.proofs.WordLaws.{view-stored, view-bytes}

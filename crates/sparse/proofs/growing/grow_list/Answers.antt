@@ -1,6 +1,5 @@
 -- `grow_list` meets its contract, by whichever loop: with no bytes, the lists meant are the stored ones. Assumes nothing.
 use native.Mathlib.Omega.{arith}
-use borrow.Author.Rules.{rules}
 use Rattle.sparse.proofs.WordLaws.{view-list}
 use Rattle.sparse.proofs.Subtraction.{grown-more}
 use Rattle.sparse.proofs.AddLaws.{add-ready, added-grown}

@@ -4,7 +4,6 @@ use mathlib.Core.Path.{◌≡◌, refl, ◌∙◌}
 use native.Mathlib.Omega.{arith}
 use lib.ListN.{length, get_or}
 use lib.Seq.{slice}
-use borrow.Author.Rules.{rules}
 use Rattle.sparse.specs.Words.{view}
 use Rattle.sparse.specs.Matrix.{row_of}
 use Rattle.sparse.proofs.WordLaws.{length-view}

@@ -3,7 +3,6 @@ use mathlib.Core.Path.{◌≡◌, ◌∙◌}
 use Prim.Native.Nat.{ℕ, ◌+◌, ◌-◌, ◌≤◌}
 use native.Mathlib.Omega.{arith}
 use lib.ListN.{length, get_or}
-use borrow.Author.Rules.{rules}
 use Rattle.sparse.specs.Words.{view}
 use Rattle.sparse.proofs.RunLaws.{run_inside, run-ready, run-grown}
 use Rattle.sparse.proofs.growing.grow_run.Goals as goal

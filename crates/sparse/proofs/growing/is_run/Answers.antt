@@ -4,8 +4,7 @@ use mathlib.Core.Bool.{true≢false}
 use Prim.Native.Nat.{ℕ, ◌+◌, ◌-◌, ◌≤◌, ◌<◌}
 use native.Mathlib.Omega.{arith}
 use lib.ListN.{length, get_or}
-use borrow.Author.Rules.{rules}
-use borrow.Author.Tests.{eqb-true, ltb-false}
+use borrow.Author.Tests.{eqb-true}
 use Rattle.sparse.specs.Words.{view}
 use Rattle.sparse.proofs.WordLaws.{length-view}
 use Rattle.sparse.proofs.growing.is_run.Goals as goal

@@ -1,7 +1,6 @@
 -- `less` meets its contract, by the law of each arm. Assumes nothing.
 use Prim.Native.Nat.{◌*◌}
 use native.Mathlib.Omega.{arith}
-use borrow.Author.Rules.{rules}
 use Rattle.sparse.proofs.Subtraction.{product-below, cell-less, cell-wraps}
 use Rattle.sparse.proofs.kernel.less.Goals as goal
 

@@ -1,5 +1,4 @@
 -- `minus` meets its contract. Assumes nothing.
-use borrow.Author.Rules.{rules}
 use Rattle.sparse.proofs.Subtraction.{lowered-cell}
 use Rattle.sparse.proofs.kernel.minus.Goals as goal
 

@@ -1,7 +1,6 @@
 -- `subtract` meets its contract, by whichever loop. Assumes nothing.
 use mathlib.Core.Path.{◌≡◌}
 use native.Mathlib.Omega.{arith}
-use borrow.Author.Rules.{rules}
 use Rattle.sparse.specs.Words.{words, view}
 use Rattle.sparse.proofs.WordLaws.{view-stored, view-bytes}
 use Rattle.sparse.proofs.kernel.subtract.Goals as goal

@@ -1,13 +1,12 @@
 -- `subtract_bytes` meets its contract; the loop's invariant is `Lowering`, the measure what is left. Assumes nothing.
-use Prim.Native.Nat.{◌-◌, ◌<◌}
+use Prim.Native.Nat.{◌<◌}
 use mathlib.Core.Path.{◌≡◌, ◌∙◌}
 use native.Mathlib.Omega.{arith}
 use lib.ListN.{length, get_or}
-use borrow.Author.Rules.{rules}
 use Rattle.sparse.specs.Words.{words}
 use Rattle.sparse.proofs.WordLaws.{length-words}
 use Rattle.sparse.proofs.Entries.{row-columns, row-values}
-use Rattle.sparse.proofs.Subtraction.{Lowering, lowering-starts, lowering-turn, lowering-ends}
+use Rattle.sparse.proofs.Subtraction.{lowering-starts, lowering-turn, lowering-ends}
 use Rattle.sparse.proofs.kernel.subtract_bytes.Goals as goal
 
 pub loop-t-init : goal.loop-t-init

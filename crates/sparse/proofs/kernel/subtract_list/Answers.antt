@@ -1,11 +1,10 @@
 -- `subtract_list` meets its contract; the loop's invariant is `Lowering`, the measure what is left. Assumes nothing.
-use Prim.Native.Nat.{◌-◌, ◌<◌}
+use Prim.Native.Nat.{◌<◌}
 use mathlib.Core.Path.{refl}
 use native.Mathlib.Omega.{arith}
 use lib.ListN.{length}
-use borrow.Author.Rules.{rules}
 use Rattle.sparse.proofs.Entries.{row-columns, row-values}
-use Rattle.sparse.proofs.Subtraction.{Lowering, lowering-starts, lowering-turn, lowering-ends}
+use Rattle.sparse.proofs.Subtraction.{lowering-starts, lowering-turn, lowering-ends}
 use Rattle.sparse.proofs.kernel.subtract_list.Goals as goal
 
 pub loop-t-init : goal.loop-t-init

@@ -1,11 +1,7 @@
 -- `subtract_list` meets its contract; the loop's invariant is `Lowering`, the measure what is left. Assumes nothing.
-use Prim.Native.Nat.{◌-◌, ◌<◌}
-use mathlib.Core.Path.{refl}
-use native.Mathlib.Omega.{arith}
+use Prim.Native.Nat.{◌-◌}
 use lib.ListN.{length}
-use borrow.Author.Rules.{rules}
-use Rattle.sparse.proofs.Entries.{row-columns, row-values}
-use Rattle.sparse.proofs.Subtraction.{Lowering, lowering-starts, lowering-turn, lowering-ends}
+use Rattle.sparse.proofs.Subtraction.{Lowering}
 use Rattle.sparse.proofs.kernel.subtract_list.Given as goal
 
 abbrev pub invariant-loop-t : goal.invariant-loop-t

@@ -4,7 +4,6 @@ use mathlib.Core.Path.{◌≡◌, ◌∙◌}
 use native.Mathlib.Omega.{arith}
 use lib.ListN.{length}
 use lib.Seq.{slice}
-use borrow.Author.Rules.{rules}
 use Rattle.sparse.specs.Matrix.{row_of}
 use Rattle.sparse.proofs.Rows.{form-starts, form-paired, form-row}
 use Rattle.sparse.proofs.Subtraction.{grown-none}

@@ -1,12 +1,11 @@
 -- `subtract_words` meets its contract; the loop's invariant is `Lowering`, the measure what is left. Assumes nothing.
-use Prim.Native.Nat.{◌-◌, ◌<◌}
+use Prim.Native.Nat.{◌<◌}
 use mathlib.Core.Path.{◌≡◌, ◌∙◌}
 use native.Mathlib.Omega.{arith}
 use lib.ListN.{length, get_or}
-use borrow.Author.Rules.{rules}
 use Rattle.sparse.specs.Words.{view}
 use Rattle.sparse.proofs.Entries.{row-columns, row-values}
-use Rattle.sparse.proofs.Subtraction.{Lowering, lowering-starts, lowering-turn, lowering-ends}
+use Rattle.sparse.proofs.Subtraction.{lowering-starts, lowering-turn, lowering-ends}
 use Rattle.sparse.proofs.kernel.subtract_words.Goals as goal
 
 pub loop-t-init : goal.loop-t-init

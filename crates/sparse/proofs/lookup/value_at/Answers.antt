@@ -1,8 +1,6 @@
 -- `value_at` meets its contract; the loop's invariant is `Seeking`, the measure what is left. Assumes nothing.
-use Prim.Native.Nat.{◌-◌}
 use native.Mathlib.Omega.{arith}
-use lib.ListN.{length}
-use Rattle.sparse.proofs.CopySteps.{Seeking, seeking-starts, seeking-turn, seeking-finds, seeking-ends}
+use Rattle.sparse.proofs.CopySteps.{seeking-starts, seeking-turn, seeking-finds, seeking-ends}
 use Rattle.sparse.proofs.lookup.value_at.Goals as goal
 
 pub loop-t-init : goal.loop-t-init

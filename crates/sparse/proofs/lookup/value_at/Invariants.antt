@@ -1,8 +1,7 @@
 -- `value_at` meets its contract; the loop's invariant is `Seeking`, the measure what is left. Assumes nothing.
 use Prim.Native.Nat.{◌-◌}
-use native.Mathlib.Omega.{arith}
 use lib.ListN.{length}
-use Rattle.sparse.proofs.CopySteps.{Seeking, seeking-starts, seeking-turn, seeking-finds, seeking-ends}
+use Rattle.sparse.proofs.CopySteps.{Seeking}
 use Rattle.sparse.proofs.lookup.value_at.Given as goal
 
 abbrev pub invariant-loop-t : goal.invariant-loop-t

@@ -1,8 +1,6 @@
 -- `next_by_one` meets its contract; every cell passed is 0, the measure is what is left. Assumes nothing.
-use Prim.Native.Nat.{◌-◌}
 use native.Mathlib.Omega.{arith}
-use lib.ListN.{length}
-use Rattle.sparse.proofs.Scanning.{Passed, passed-starts, passed-one, passed-found, passed-end}
+use Rattle.sparse.proofs.Scanning.{passed-starts, passed-one, passed-found, passed-end}
 use Rattle.sparse.proofs.scan.next_by_one.Goals as goal
 
 pub loop-j-init : goal.loop-j-init

@@ -1,8 +1,7 @@
 -- `next_by_one` meets its contract; every cell passed is 0, the measure is what is left. Assumes nothing.
 use Prim.Native.Nat.{◌-◌}
-use native.Mathlib.Omega.{arith}
 use lib.ListN.{length}
-use Rattle.sparse.proofs.Scanning.{Passed, passed-starts, passed-one, passed-found, passed-end}
+use Rattle.sparse.proofs.Scanning.{Passed}
 use Rattle.sparse.proofs.scan.next_by_one.Given as goal
 
 abbrev pub invariant-loop-j : goal.invariant-loop-j

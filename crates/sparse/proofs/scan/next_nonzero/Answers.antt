@@ -1,5 +1,5 @@
 -- `next_nonzero` meets its contract; every cell passed is 0, the measure is what is left. Assumes nothing.
-use Prim.Native.Nat.{◌+◌, ◌-◌, ◌≤◌}
+use Prim.Native.Nat.{◌+◌, ◌≤◌}
 use native.Mathlib.Omega.{arith}
 use lib.ListN.{length}
 use Rattle.sparse.proofs.Scanning.{Passed, passed-starts, passed-run, passed-found, passed_then}

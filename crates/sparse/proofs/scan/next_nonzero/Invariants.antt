@@ -1,8 +1,7 @@
 -- `next_nonzero` meets its contract; every cell passed is 0, the measure is what is left. Assumes nothing.
-use Prim.Native.Nat.{◌+◌, ◌-◌, ◌≤◌}
-use native.Mathlib.Omega.{arith}
+use Prim.Native.Nat.{◌-◌}
 use lib.ListN.{length}
-use Rattle.sparse.proofs.Scanning.{Passed, passed-starts, passed-run, passed-found, passed_then}
+use Rattle.sparse.proofs.Scanning.{Passed}
 use Rattle.sparse.proofs.scan.next_nonzero.Given as goal
 
 abbrev pub invariant-loop-j : goal.invariant-loop-j

@@ -1,7 +1,6 @@
 -- `zeros_of_eight` meets its contract. Assumes nothing.
 use native.Mathlib.Omega.{arith}
 use Rattle.sparse.proofs.Scanning.{Zeros, zeros-first, zeros-more, run_none, run_ends, run-whole}
-use borrow.Author.Rules.{rules}
 use Rattle.sparse.proofs.scan.zeros_of_eight.Goals as goal
 
 pub returns-then-row-j-ne0 : goal.returns-then-row-j-ne0

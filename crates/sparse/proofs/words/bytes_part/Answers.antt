@@ -1,7 +1,6 @@
 -- `bytes_part` meets its contract. Assumes nothing.
 use Prim.Native.Nat.{◌-◌, ◌*◌}
 use lib.ListN.{take, drop}
-use borrow.Author.Rules.{rules}
 use Rattle.sparse.proofs.words.bytes_part.Goals as goal
 
 pub returns : goal.returns

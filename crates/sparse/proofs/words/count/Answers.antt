@@ -1,7 +1,6 @@
 -- `count` meets its contract. Assumes nothing.
 use mathlib.Core.Path.{sym}
 use Rattle.sparse.proofs.WordLaws.{length-view}
-use borrow.Author.Rules.{rules}
 use Rattle.sparse.proofs.words.count.Goals as goal
 
 pub returns : goal.returns

@@ -4,7 +4,6 @@ use mathlib.Core.Path.{sym, ap, ◌∙◌}
 use mathlib.Core.List.{List}
 use native.Mathlib.Omega.{arith}
 use lib.ListN.{length, get_or}
-use borrow.Author.Rules.{rules}
 use Rattle.sparse.proofs.WordLaws.{length-view, view-stored, view-bytes, view_first, view-second}
 use Rattle.sparse.proofs.words.word.Goals as goal
 

@@ -1,7 +1,6 @@
 -- `word_at` meets its contract. Assumes nothing.
 use mathlib.Core.Path.{sym, ◌∙◌}
 use Rattle.sparse.proofs.WordLaws.{get_d_words, le32-ap}
-use borrow.Author.Rules.{rules}
 use Rattle.sparse.proofs.words.word_at.Goals as goal
 
 pub returns : goal.returns
