@@ -8,7 +8,7 @@ use native.Mathlib.Nat.{mod-eq_of_lt, zero-mod}
 use lib.Dec.{leb, eqb}
 use lib.ListN.{length}
 use borrow.Author.Tests.{leb-true, leb-false, le-leb, eqb-false}
-use Rattle.lists.specs.Tests.{all, first, among}
+use Rattle.lists.specs.Tests.{first, among}
 use Rattle.refusals.specs.Table.{set_faults}
 use Rattle.lists.proofs.Tests.{first-all, first-before, first-here}
 use Rattle.refusals.proofs.Refusals.{RefusedBy, unless-passed, unless_holds, refused-unless, refused-next}
