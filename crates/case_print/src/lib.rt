@@ -7,10 +7,14 @@ use refusals::Outcome;
 
 pub mod parts;
 
+// Prints a text. A write that fails is not said: what the programs print is compared whole.
+pub fn text(rt: &impl Print, bytes: &[u8]) {
+    let _ = rt.write_all(bytes);
+}
+
 // A space and a number.
-pub fn number(n: u64) {
-    io::write_all(1, b" ");
-    io::print_decimal(1, n);
+pub fn number(rt: &impl Print, n: u64) {
+    let _ = print!(rt; " {n}");
 }
 
 fn wide(x: u32) -> u64 {
@@ -22,37 +26,37 @@ fn wide_byte(x: u8) -> u64 {
 }
 
 // The number of an outcome, 0 where it passed, and its detail.
-pub fn outcome(o: Outcome) {
+pub fn outcome(rt: &impl Print, o: Outcome) {
     match o {
         Outcome::Passed => {
-            number(0);
-            number(0);
+            number(rt, 0);
+            number(rt, 0);
         }
         Outcome::Refused(k, detail) => {
-            number(wide(k));
-            number(wide(detail));
+            number(rt, wide(k));
+            number(rt, wide(detail));
         }
     }
 }
 
 // A label and the numbers of a list.
-pub fn list(label: &[u8], numbers: &[u32]) {
-    io::write_all(1, label);
+pub fn list(rt: &impl Print, label: &[u8], numbers: &[u32]) {
+    text(rt, label);
     let mut i = 0;
     while i < numbers.len() {
-        number(wide(numbers[i]));
+        number(rt, wide(numbers[i]));
         i += 1;
     }
 }
 
 // A label and the first bytes of a list, so many.
-pub fn first_bytes(label: &[u8], bytes: &[u8], count: usize)
+pub fn first_bytes(rt: &impl Print, label: &[u8], bytes: &[u8], count: usize)
     requires { count ≤ length bytes.now }
 {
-    io::write_all(1, label);
+    text(rt, label);
     let mut i = 0;
     while i < count {
-        number(wide_byte(bytes[i]));
+        number(rt, wide_byte(bytes[i]));
         i += 1;
     }
 }

@@ -1,6 +1,6 @@
 // The first cells of a list.
 ghost use Rattle.std.specs.Prelude.{◌≤◌};
-ghost use Rattle.io.specs.Counts.{IsPrefixLen};
+ghost use Rattle.case_print.specs.Beginning.{IsPrefixLen};
 
 use lists::index;
 
