@@ -12,7 +12,7 @@ use Rattle.lists.proofs.Tabulate.{length-tabulate, tabulate-at}
 use Rattle.algebra.specs.Congruence.{◌≈⟨◌⟩◌}
 use Rattle.algebra.specs.Sum.{dot}
 use Rattle.algebra.specs.Prime.{Prime}
-use Rattle.algebra.specs.Matrix.{Vector, Matrix, Distinct, vector}
+use Rattle.algebra.specs.Matrix.{Vector, Distinct, vector}
 use Rattle.algebra.proofs.Congruence.{exact, ◌⊙◌, ◌⊗◌, same_refl, same-mod}
 use Rattle.algebra.proofs.Dot.{dot-suc, dot-eq}
 use Rattle.residue.specs.Inverse.{inv_mod}

@@ -1,7 +1,7 @@
 -- Each turn keeps what holds of the pivots and the dependent rows found so far.
 use mathlib.Core.Path.{◌≡◌, refl, sym, ap, ◌∙◌, subst, subst₂}
 use mathlib.Core.List.{List, [], ◌∷◌, ◌++◌}
-use Prim.Native.Nat.{ℕ, suc, ◌+◌, ◌*◌, ◌%◌, ◌≤◌, ◌<◌}
+use Prim.Native.Nat.{ℕ, ◌+◌, ◌*◌, ◌%◌, ◌<◌}
 use native.Mathlib.Decide.{dec_lt}
 use native.Mathlib.Omega.{arith}
 use lib.ListN.{length, get_or, length-map, get_or-eq_default}
@@ -15,7 +15,7 @@ use Rattle.algebra.proofs.Congruence.{exact, turn, ◌⊙◌, ◌⊕◌, same_re
 use Rattle.residue.specs.Inverse.{inv_mod}
 use Rattle.elimination.specs.Pivots.{Pivot, Found, columns_of, uppers_of, upper_of, rank_of, with_pivot, with_dependent}
 use Rattle.elimination.specs.Factoring.{nothing}
-use Rattle.elimination.specs.Invariant.{no_pivot, no_dependent, cells, Echelon, Lower, PivotRow, Invariant}
+use Rattle.elimination.specs.Invariant.{no_pivot, no_dependent, Echelon, Lower, PivotRow, Invariant}
 use Rattle.algebra.proofs.Listed.{snoc-length, snoc-each, map-append}
 use Rattle.elimination.proofs.Echelon.{echelon-more, scaled-row, scaled-back, combination-more, combination-last}
 

@@ -20,7 +20,7 @@ use Rattle.lists.specs.Members.{Member}
 use Rattle.elimination.proofs.Pairs.{no_pair}
 use Rattle.elimination.specs.Chains.{chain, closes}
 use Rattle.elimination.specs.Selection.{nonzero, pair_at, unfit, extended, extendedTo, Apart}
-use Rattle.elimination.proofs.Members.{here, in-snoc, in_place, not_named, apart_snoc, at-apart}
+use Rattle.elimination.proofs.Members.{in-snoc, in_place, not_named, apart_snoc, at-apart}
 use Rattle.elimination.proofs.Paths.{chain-join, closes-join, entry-chain}
 
 pub record Sound (has : ℕ → ℕ → Bool) (n m : ℕ) (ps : List Pair) : Type 0 where

@@ -3,7 +3,6 @@
 --   RemainderRow p m k C U y w   the m cells of the working row stand for what remains of y after the first k rows
 --   MultipleTaken p c u w₀ w x   x is the residue at column c, and x times the row u is taken away from every cell, modulo p
 use Rattle.std.specs.Prelude.{ℕ, ◌+◌, ◌*◌, ◌%◌, ◌<◌, ◌≡◌, List, length, get_or}
-use Rattle.lists.specs.Tabulate.{tabulate}
 use Rattle.algebra.specs.Congruence.{◌≈⟨◌⟩◌}
 use Rattle.algebra.specs.Matrix.{Vector, Matrix}
 use Rattle.algebra.specs.Reduction.{reduced}
