@@ -8,7 +8,7 @@ use lib.ListN.{length, get_or, take}
 use lib.Seq.{get_or-take, length-take-le}
 use Rattle.algebra.specs.Matrix.{vector}
 use Rattle.sparse.specs.Scan.{NextNonzero}
-use Rattle.factor_touch.specs.Touched.{cell_block, Covers}
+use Rattle.factor_touch.specs.Touched.{cell_block}
 use Rattle.factor_touch.specs.Searching.{ZeroSpan, FirstNonzero, marks_of, BlockEnd, BlockPassable, CellPassable}
 
 -- the end of the sixteen cells, and that of the row where it comes before
