@@ -2,9 +2,20 @@
 // each is said on standard error, and answered. A program has no exit status to say it by.
 #![tactic(auto)]
 
+ghost use Rattle.std.specs.Io.{ReadsAtMost};
 ghost use Rattle.standard_io.specs.Within.{Within};
 
-use libc::{EINTR, STDIN_FILENO, STDOUT_FILENO};
+use std::fs::{OpenFile, OpenOptions};
+use std::io::{BufRead, Error, ErrorKind, Read};
+use std::rt::Files;
+use std::{fs, io};
+
+mod words;
+
+use words::fail;
+
+// Where the system has standard output as a file.
+const OUTPUT: &str = "/dev/stdout";
 
 // How many bytes were read, or that a read failed.
 #[derive(Clone, Copy)]
@@ -14,70 +25,93 @@ pub enum Input {
 }
 
 // One read, 0 bytes at the end of the input. A read that a signal interrupts is tried again; the turns are counted so that the loop ends.
-fn read_some(part: &mut [u8]) -> Input
-    ensures { Within result part.new }
+fn read_some(input: &mut impl Read, part: &mut [u8]) -> io::Result<usize>
+    ensures { ReadsAtMost result part.new }
 {
-    let mut turns = u64::MAX;
-    while turns > 0 {
-        let got = libc::read(STDIN_FILENO, part);
-        if got >= 0 {
-            return Input::Read(io::count(got, part));
+    for _ in 0..u64::MAX {
+        match input.read(part) {
+            Ok(size) => return Ok(size),
+            Err(e) => {
+                if e.kind() != ErrorKind::Interrupted {
+                    return Err(e);
+                }
+            }
         }
-        if os::errno() != EINTR {
-            return Input::Failed;
-        }
-        turns -= 1;
     }
-    Input::Failed
+    Err(Error::from(ErrorKind::Interrupted))
 }
 
 // Reads until the text is full or the input ends.
-fn read_on(text: &mut [u8]) -> Input
-    ensures { Within result text.new }
+fn read_on(input: &mut impl Read, text: &mut [u8]) -> io::Result<usize>
+    ensures { ReadsAtMost result text.new }
 {
     let mut size = 0;
     while size < text.len() {
-        let Input::Read(more) = read_some(&mut text[size..]) else {
-            return Input::Failed;
-        };
+        let more = read_some(input, &mut text[size..])?;
         if more == 0 {
-            return Input::Read(size);
+            return Ok(size);
         }
         size += more;
     }
-    Input::Read(size)
+    Ok(size)
 }
 
-// Reads standard input until the text is full or the input ends. Where a read fails, standard error says so after the words given.
-pub fn read_input(text: &mut [u8], words: &[u8]) -> Input
+// Reads an input until the text is full or the input ends. Where a read fails, `errors` says so after the words given.
+pub fn read_input(
+    input: &mut impl Read,
+    errors: &impl Print,
+    text: &mut [u8],
+    words: &[u8],
+) -> Input
     ensures { Within result text.new }
 {
-    let input = read_on(text);
-    if let Input::Failed = input {
-        os::fail(words);
+    match read_on(input, text) {
+        Ok(size) => Input::Read(size),
+        Err(e) => {
+            fail(errors, words, e);
+            Input::Failed
+        }
     }
-    input
 }
 
-// Writes a text to standard output; whether all of it is written. Where a write fails, standard error says so after the words given.
-pub fn write_output(text: &[u8], words: &[u8]) -> bool {
-    let done = io::write_all(STDOUT_FILENO, text);
-    if !done {
-        os::fail(words);
+// Writes a text to standard output; whether all of it is written. Where a write fails, `errors` says so after the words given.
+pub fn write_output(rt: &impl Print, errors: &impl Print, text: &[u8], words: &[u8]) -> bool {
+    match rt.write_all(text) {
+        Ok(()) => true,
+        Err(e) => {
+            fail(errors, words, e);
+            false
+        }
     }
-    done
+}
+
+// Sees standard output through to where it is kept, if it is a file that can be opened again: some file systems say only then that there was no room.
+fn keep_output(rt: &impl Files) -> io::Result<()> {
+    let Ok(about) = fs::metadata(rt, OUTPUT) else {
+        return Ok(());
+    };
+    if !about.is_file() {
+        return Ok(());
+    }
+    let Ok(file) = OpenOptions::new().write(true).open(rt, OUTPUT) else {
+        return Ok(());
+    };
+    match file.sync_all() {
+        Err(e) if e.kind() == ErrorKind::InvalidInput => Ok(()),
+        kept => kept,
+    }
 }
 
 // Ends standard output. Some file systems say only then that there was no room.
-pub fn end_output(words: &[u8]) {
-    if libc::close(STDOUT_FILENO) < 0 {
-        os::fail(words);
+pub fn end_output(rt: &impl Files, errors: &impl Print, words: &[u8]) {
+    if let Err(e) = keep_output(rt) {
+        fail(errors, words, e);
     }
 }
 
 // Writes the last text, or the only one, and ends standard output.
-pub fn write_last(text: &[u8], words: &[u8]) {
-    if write_output(text, words) {
-        end_output(words);
+pub fn write_last(rt: &(impl Print + Files), errors: &impl Print, text: &[u8], words: &[u8]) {
+    if write_output(rt, errors, text, words) {
+        end_output(rt, errors, words);
     }
 }
