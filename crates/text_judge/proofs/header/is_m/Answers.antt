@@ -7,9 +7,7 @@ use lib.ListN.{length, get_or}
 use lib.Dec.{eqb}
 use native.Mathlib.Omega.{arith}
 use Rattle.text_judge.specs.Line.{is_m}
-use borrow.Author.Rules.{rules}
-use Rattle.text_judge.proofs.header.is_m.Statement.{statement}
-use Rattle.text_judge.proofs.header.is_m.Tie as tie
+use Rattle.text_judge.proofs.header.is_m.Goals as goal
 
 m-long : (l : List ℕ) → (length l ≡ 1 → ⊥) → false ≡ is_m l
 m-long [] h = refl
@@ -21,14 +19,8 @@ m-one [] h = absurd (omega arith)
 m-one (b ∷ []) h = refl
 m-one (b ∷ c ∷ cs) h = absurd (omega arith)
 
-returns : tie.Need-returns
-returns c = m-long c.before.args.field.now c.if1.true
+pub returns-then-field-ne1 : goal.returns-then-field-ne1
+returns-then-field-ne1 c = m-long c.args.field.now c.if-field-ne1.true
 
-shared-slice-read-result : tie.Need-shared-slice-read-result
-shared-slice-read-result c = search rules
-
-returns-2 : tie.Need-returns-2
-returns-2 c = m-one c.before.before.args.field.now c.before.if1.false
-
-pub is-m-spec : {M : Type 1} → statement M
-is-m-spec = tie.close (tie.spec returns shared-slice-read-result returns-2)
+pub returns : goal.returns
+returns c = m-one c.args.field.now c.if-field-ne1.false

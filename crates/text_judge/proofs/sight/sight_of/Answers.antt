@@ -1,0 +1,8 @@
+-- `sight_of` meets its contract: the line picks a case of `sight`. Assumes nothing.
+use mathlib.Core.Path.{sym, ap}
+use Rattle.text_judge.specs.Sight.{sight}
+use Rattle.text_judge.proofs.sight.sight_of.Goals as goal
+
+pub returns-in-NotTriple : goal.returns-in-NotTriple
+unfolding sight
+returns-in-NotTriple c = sym (ap (sight _ _) c.in-NotTriple.is)
