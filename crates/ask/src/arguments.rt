@@ -1,21 +1,42 @@
 // What the program was called with: a verb or none, and values.
 ghost use Rattle.std.specs.Prelude.{◌↔◌, ◌≡◌, true, ◌≤◌, length};
+ghost use Rattle.std.specs.Io.{ReadsAtMost};
 ghost use Rattle.print_text.specs.Labels.{setting_word};
 ghost use Rattle.ask.specs.Verb.{settings_verb};
 
 use crate::question::{put, value};
+use std::env::FillError;
+use std::rt::Env;
+
+// Whether there is an i-th argument; the 0-th is the program's name.
+pub fn has(rt: &impl Env, i: usize) -> bool {
+    match rt.arg(i, &mut []) {
+        Err(FillError::NotPresent) => false,
+        _ => true,
+    }
+}
+
+// Puts an argument at the start of a buffer; how many bytes it has, 0 where there is none or it does not fit.
+fn fill(rt: &impl Env, i: usize, field: &mut [u8]) -> usize
+    ensures { result ≤ length field.new }
+{
+    match rt.arg(i, field) {
+        Ok(size) => size,
+        Err(_) => 0,
+    }
+}
 
 // Whether an argument is the verb `words`.
 fn is_words(argument: &[u8]) -> bool
     ensures { (result ≡ true) ↔ (argument.now ≡ setting_word) }
 {
-    check::same(argument, b"words")
+    argument == b"words"
 }
 
 // Whether the first argument is the verb `words`. One that does not fit the buffer is longer.
-pub fn says_words() -> bool {
+pub fn says_words(rt: &impl Env) -> bool {
     let mut field = [0u8; 16];
-    let size = os::arg(1, &mut field);
+    let size = fill(rt, 1, &mut field);
     is_words(&field[..size])
 }
 
@@ -23,36 +44,36 @@ pub fn says_words() -> bool {
 fn is_settings(argument: &[u8]) -> bool
     ensures { (result ≡ true) ↔ (argument.now ≡ settings_verb) }
 {
-    check::same(argument, b"settings")
+    argument == b"settings"
 }
 
 // Whether the only argument is the verb `settings`, which takes no values.
-pub fn says_settings() -> bool {
-    if os::arg_count() != 2 {
+pub fn says_settings(rt: &impl Env) -> bool {
+    if has(rt, 2) {
         return false;
     }
     let mut field = [0u8; 16];
-    let size = os::arg(1, &mut field);
+    let size = fill(rt, 1, &mut field);
     is_settings(&field[..size])
 }
 
 // The value of an argument. One that does not fit the buffer has more digits than any number that is accepted.
-fn argument(i: usize) -> u32 {
+fn argument(rt: &impl Env, i: usize) -> u32 {
     let mut field = [0u8; 16];
-    let size = os::arg(i, &mut field);
+    let size = fill(rt, i, &mut field);
     value(&field[..size])
 }
 
 // The values of the arguments from the first-th on; how many were kept.
-pub fn question(first: usize, y: &mut [u32]) -> usize
+pub fn question(rt: &impl Env, first: usize, y: &mut [u32]) -> usize
     ensures { result ≤ length y.new }
 {
-    let arguments = os::arg_count();
     let mut count = 0;
-    let mut i = first;
-    while i < arguments {
-        count = put(y, count, argument(i));
-        i += 1;
+    for i in first..usize::MAX {
+        if !has(rt, i) {
+            break;
+        }
+        count = put(y, count, argument(rt, i));
     }
     count
 }

@@ -16,6 +16,7 @@ ghost use Rattle.ask.specs.Verb.{line_for, text_line, TextLists};
 use limits::{PRINT_ROOM, START_CELLS, WORK_CELLS};
 use output::print_only;
 use standard_io::{Input, read_input};
+use std::rt::{Env, Files};
 
 mod arguments;
 mod cut;
@@ -49,60 +50,71 @@ fn write_text_line(words: bool, text: &[u8], out: &mut [u8], work: &mut [u64]) -
     write_line(words, &text[..end], &y[..count], out, work)
 }
 
-fn print_answer(words: bool, plan: &[u8], y: &[u32])
+fn print_answer(rt: &(impl Print + Files), errors: &impl Print, words: bool, plan: &[u8], y: &[u32])
     requires { length y.now ≤ starts_length }
 {
     let mut out = [0u8; PRINT_ROOM];
     let mut work = [0u64; WORK_CELLS];
     let size = write_line(words, plan, y, &mut out, &mut work);
-    print_only(&out[..size]);
+    print_only(rt, errors, &out[..size]);
 }
 
 // All of the text is the plan; the values are the arguments from the first-th on.
-fn ask_by_arguments(words: bool, first: usize, text: &[u8]) {
+fn ask_by_arguments(
+    rt: &(impl Print + Files + Env),
+    errors: &impl Print,
+    words: bool,
+    first: usize,
+    text: &[u8],
+) {
     let mut y = [0u32; START_CELLS];
-    let count = arguments::question(first, &mut y);
-    print_answer(words, text, &y[..count]);
+    let count = arguments::question(rt, first, &mut y);
+    print_answer(rt, errors, words, text, &y[..count]);
 }
 
-fn ask_by_text(words: bool, text: &[u8])
+fn ask_by_text(rt: &(impl Print + Files), errors: &impl Print, words: bool, text: &[u8])
     requires { length text.now + 1 < 2 ^ 32 }
 {
     let mut out = [0u8; PRINT_ROOM];
     let mut work = [0u64; WORK_CELLS];
     let size = write_text_line(words, text, &mut out, &mut work);
-    print_only(&out[..size]);
+    print_only(rt, errors, &out[..size]);
 }
 
 // A question, or with the verb `words` slot values, as arguments or after the plan.
-fn ask_values(text: &[u8])
+fn ask_values(rt: &(impl Print + Files + Env), errors: &impl Print, text: &[u8])
     requires { length text.now + 1 < 2 ^ 32 }
 {
-    let words = arguments::says_words();
+    let words = arguments::says_words(rt);
     let first = if words { 2 } else { 1 };
-    if first < os::arg_count() {
-        ask_by_arguments(words, first, text);
+    if arguments::has(rt, first) {
+        ask_by_arguments(rt, errors, words, first, text);
     } else {
-        ask_by_text(words, text);
+        ask_by_text(rt, errors, words, text);
     }
 }
 
 // What the input asks for.
-fn run(text: &[u8])
+fn run(rt: &(impl Print + Files + Env), errors: &impl Print, text: &[u8])
     requires { length text.now + 1 < 2 ^ 32 }
 {
-    if arguments::says_settings() {
-        settings::print_settings(text);
+    if arguments::says_settings(rt) {
+        settings::print_settings(rt, errors, text);
     } else {
-        ask_values(text);
+        ask_values(rt, errors, text);
     }
 }
 
 // A plan has at most 65,536 bytes, and 2,049 values have at most 22,539 with what separates them.
-fn main() {
+fn main(rt: HostRuntime) {
     let mut text = [0u8; 98304];
-    let Input::Read(size) = read_input(&mut text, b"ask: standard input") else {
+    let Input::Read(size) = read_input(
+        &mut rt.stdin(),
+        &rt.stderr(),
+        &mut text,
+        b"ask: standard input",
+    ) else {
         return;
     };
-    run(&text[..size]);
+    run(&rt, &rt.stderr(), &text[..size]);
 }

@@ -5,9 +5,12 @@ ghost use Rattle.ask.specs.Settings.{LinesReady};
 use crate::output::{end, print};
 use ask_settings::{Begun, begin, setting_line};
 use limits::{ENTRY_CELLS, PRINT_ROOM, SIZE_CELLS, START_CELLS, WORK_CELLS};
+use std::rt::Files;
 
 // Prints the lines of the columns, rising, to the last or to one that cannot be written; a pivot column has none.
 fn print_lines(
+    rt: &(impl Print + Files),
+    errors: &impl Print,
     g: Begun,
     co: &[u32],
     us: &[u32],
@@ -22,16 +25,16 @@ fn print_lines(
     let mut c = 0;
     while c < columns {
         let size = setting_line(g, co, us, uc, uv, marks, c, out);
-        if !print(&out[..size]) {
+        if !print(rt, errors, &out[..size]) {
             return;
         }
         c += 1;
     }
-    end();
+    end(rt, errors);
 }
 
 // Prints the settings for a plan's text: how many columns are free, then a line for each of them; or the line of a refusal.
-pub fn print_settings(text: &[u8]) {
+pub fn print_settings(rt: &(impl Print + Files), errors: &impl Print, text: &[u8]) {
     let mut co = [0u32; SIZE_CELLS];
     let mut us = [0u32; START_CELLS];
     let mut uc = [0u32; ENTRY_CELLS];
@@ -41,8 +44,8 @@ pub fn print_settings(text: &[u8]) {
     let g = begin(
         text, &mut co, &mut us, &mut uc, &mut uv, &mut out, &mut work,
     );
-    if !print(&out[..g.size]) {
+    if !print(rt, errors, &out[..g.size]) {
         return;
     }
-    print_lines(g, &co, &us, &uc, &uv, &work, &mut out);
+    print_lines(rt, errors, g, &co, &us, &uc, &uv, &work, &mut out);
 }

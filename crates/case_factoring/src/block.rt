@@ -2,32 +2,37 @@
 // what is printed does not tell which way it was. In each plan the first row leads to the second, and the second has the columns that
 // are left: there the other rows would close circles.
 use crate::plans::show;
-use case_print::number;
+use case_print::{number, say};
 use case_run::change;
 use case_run::run::run;
 use std::num::wrapping_add_u32;
 
-pub fn contents() {
+pub fn contents(rt: &impl Print) {
     // both rows are sums of the first two
     show(
+        rt,
         b"a block of zeros",
         b"7\n4 4 M\n1 1 1\n1 2 1\n2 2 1\n2 3 1\n2 4 1\n3 1 1\n3 2 2\n3 3 1\n3 4 1\n4 1 2\n4 2 5\n4 3 3\n4 4 3\n0 0 0\n",
     );
     // one of the rows is empty
     show(
+        rt,
         b"rows left, but no column",
         b"7\n5 2 M\n1 1 1\n1 2 1\n2 2 1\n3 1 3\n3 2 5\n5 2 4\n0 0 0\n",
     );
     // each row has its pivot to the left of the one before
     show(
+        rt,
         b"the last column first",
         b"7\n5 5 M\n1 1 1\n1 2 1\n2 2 1\n2 3 1\n2 4 1\n2 5 1\n3 1 1\n3 3 6\n3 4 6\n4 1 1\n4 3 6\n4 4 1\n4 5 2\n5 1 1\n5 3 3\n5 4 4\n5 5 5\n0 0 0\n",
     );
     show(
+        rt,
         b"p 2, four rows left",
         b"2\n6 5 M\n1 1 1\n1 2 1\n2 2 1\n2 3 1\n2 4 1\n2 5 1\n3 1 1\n3 3 1\n3 4 1\n4 1 1\n4 4 1\n5 1 1\n5 3 1\n5 4 1\n5 5 1\n6 1 1\n6 5 1\n0 0 0\n",
     );
     show(
+        rt,
         b"p 65521, two rows left",
         b"65521\n4 4 M\n1 1 1\n1 2 1\n2 2 1\n2 3 1\n2 4 1\n3 1 1\n3 3 65519\n3 4 1\n4 1 1\n4 3 2\n4 4 65518\n0 0 0\n",
     );
@@ -35,28 +40,33 @@ pub fn contents() {
 
 // As many as the block has, and one more. All but three of the rows are empty, and the last is dependent; all but three of the columns
 // are empty, and the last is a pivot.
-pub fn sizes() {
+pub fn sizes(rt: &impl Print) {
     show(
+        rt,
         b"32 rows left",
         b"7\n34 4 M\n1 1 1\n1 2 1\n2 2 1\n2 3 1\n2 4 1\n3 1 1\n3 3 1\n3 4 2\n20 1 2\n20 3 5\n20 4 1\n34 1 1\n34 3 5\n34 4 2\n0 0 0\n",
     );
     show(
+        rt,
         b"33 rows left",
         b"7\n35 4 M\n1 1 1\n1 2 1\n2 2 1\n2 3 1\n2 4 1\n3 1 1\n3 3 1\n3 4 2\n20 1 2\n20 3 5\n20 4 1\n35 1 1\n35 3 5\n35 4 2\n0 0 0\n",
     );
     show(
+        rt,
         b"32 columns left",
         b"7\n4 34 M\n1 1 1\n1 2 1\n2 2 1\n2 3 1\n2 20 1\n2 34 1\n3 1 1\n3 20 2\n3 34 1\n4 1 1\n4 3 1\n4 20 5\n4 34 4\n0 0 0\n",
     );
     show(
+        rt,
         b"33 columns left",
         b"7\n4 35 M\n1 1 1\n1 2 1\n2 2 1\n2 3 1\n2 20 1\n2 35 1\n3 1 1\n3 20 2\n3 35 1\n4 1 1\n4 3 1\n4 20 5\n4 35 4\n0 0 0\n",
     );
 }
 
 // Eight rows and five columns left. One row is dependent by the block, one by the first two rows, and one is empty.
-fn eight(name: &[u8], l: u32, u: u32) {
+fn eight(rt: &impl Print, name: &[u8], l: u32, u: u32) {
     run(
+        rt,
         name,
         b"7\n10 7 M\n1 1 1\n1 2 1\n2 2 1\n2 3 1\n2 4 1\n2 5 1\n2 6 1\n2 7 1\n3 1 1\n3 3 6\n3 5 6\n3 6 1\n3 7 6\n4 1 1\n4 4 6\n4 5 6\n4 6 6\n4 7 2\n5 1 1\n5 3 1\n5 4 1\n5 5 6\n5 6 3\n5 7 5\n6 1 1\n6 3 6\n6 4 6\n6 5 6\n6 6 6\n6 7 6\n7 1 1\n7 4 6\n7 5 3\n7 6 6\n7 7 6\n9 1 1\n9 3 6\n9 4 6\n9 5 6\n9 7 6\n10 1 1\n10 3 6\n10 4 6\n10 5 6\n10 6 6\n10 7 4\n0 0 0\n",
         l,
@@ -65,46 +75,46 @@ fn eight(name: &[u8], l: u32, u: u32) {
     );
 }
 
-fn rooms_of(l: u32, u: u32) {
-    io::write_all(1, b"eight rows left, rooms");
-    number(l as u64);
-    number(u as u64);
-    eight(b"", l, u);
+fn rooms_of(rt: &impl Print, l: u32, u: u32) {
+    say(rt, b"eight rows left, rooms");
+    number(rt, l as u64);
+    number(rt, u as u64);
+    eight(rt, b"", l, u);
 }
 
 // Six rooms of L, from l on.
-fn six_of_l(l: u32) {
-    rooms_of(l, 32);
-    rooms_of(wrapping_add_u32(l, 1), 32);
-    rooms_of(wrapping_add_u32(l, 2), 32);
-    rooms_of(wrapping_add_u32(l, 3), 32);
-    rooms_of(wrapping_add_u32(l, 4), 32);
-    rooms_of(wrapping_add_u32(l, 5), 32);
+fn six_of_l(rt: &impl Print, l: u32) {
+    rooms_of(rt, l, 32);
+    rooms_of(rt, wrapping_add_u32(l, 1), 32);
+    rooms_of(rt, wrapping_add_u32(l, 2), 32);
+    rooms_of(rt, wrapping_add_u32(l, 3), 32);
+    rooms_of(rt, wrapping_add_u32(l, 4), 32);
+    rooms_of(rt, wrapping_add_u32(l, 5), 32);
 }
 
 // Six rooms of U, from u on.
-fn six_of_u(u: u32) {
-    rooms_of(32, u);
-    rooms_of(32, wrapping_add_u32(u, 1));
-    rooms_of(32, wrapping_add_u32(u, 2));
-    rooms_of(32, wrapping_add_u32(u, 3));
-    rooms_of(32, wrapping_add_u32(u, 4));
-    rooms_of(32, wrapping_add_u32(u, 5));
+fn six_of_u(rt: &impl Print, u: u32) {
+    rooms_of(rt, 32, u);
+    rooms_of(rt, 32, wrapping_add_u32(u, 1));
+    rooms_of(rt, 32, wrapping_add_u32(u, 2));
+    rooms_of(rt, 32, wrapping_add_u32(u, 3));
+    rooms_of(rt, 32, wrapping_add_u32(u, 4));
+    rooms_of(rt, 32, wrapping_add_u32(u, 5));
 }
 
 // Every room of L up to one more than it takes, 24. The first two rows take 2, the others 3, 3, 4, 2, 4, 0, 3 and 3.
-pub fn lower_rooms() {
-    six_of_l(0);
-    six_of_l(6);
-    six_of_l(12);
-    six_of_l(18);
-    rooms_of(24, 32);
-    rooms_of(25, 32);
+pub fn lower_rooms(rt: &impl Print) {
+    six_of_l(rt, 0);
+    six_of_l(rt, 6);
+    six_of_l(rt, 12);
+    six_of_l(rt, 18);
+    rooms_of(rt, 24, 32);
+    rooms_of(rt, 25, 32);
 }
 
 // Every room of U up to one more than it takes, 16. The first two rows take 8, the others 2, 2, 0, 0, 2, 0, 1 and 1.
-pub fn upper_rooms() {
-    six_of_u(0);
-    six_of_u(6);
-    six_of_u(12);
+pub fn upper_rooms(rt: &impl Print) {
+    six_of_u(rt, 0);
+    six_of_u(rt, 6);
+    six_of_u(rt, 12);
 }

@@ -7,23 +7,23 @@ mod block;
 mod plan_d;
 mod plans;
 
-fn main() {
-    plans::sizes();
-    plans::gaps();
-    plans::elimination();
-    plans::structure();
-    plans::moduli();
-    block::contents();
-    block::sizes();
-    block::lower_rooms();
-    block::upper_rooms();
-    plan_d::rooms();
-    plan_d::sweep();
-    plan_d::moduli();
-    plan_d::sizes();
-    plan_d::forms();
-    plan_d::plan_lengths();
-    plan_d::order_lengths();
-    plan_d::lower_lengths();
-    plan_d::upper_lengths();
+fn main(rt: HostRuntime) {
+    plans::sizes(&rt);
+    plans::gaps(&rt);
+    plans::elimination(&rt);
+    plans::structure(&rt);
+    plans::moduli(&rt);
+    block::contents(&rt);
+    block::sizes(&rt);
+    block::lower_rooms(&rt);
+    block::upper_rooms(&rt);
+    plan_d::rooms(&rt);
+    plan_d::sweep(&rt);
+    plan_d::moduli(&rt);
+    plan_d::sizes(&rt);
+    plan_d::forms(&rt);
+    plan_d::plan_lengths(&rt);
+    plan_d::order_lengths(&rt);
+    plan_d::lower_lengths(&rt);
+    plan_d::upper_lengths(&rt);
 }

@@ -8,7 +8,7 @@ use refusals::Outcome;
 pub mod parts;
 
 // Prints a text. A write that fails is not said: what the programs print is compared whole.
-pub fn text(rt: &impl Print, bytes: &[u8]) {
+pub fn say(rt: &impl Print, bytes: &[u8]) {
     let _ = rt.write_all(bytes);
 }
 
@@ -41,7 +41,7 @@ pub fn outcome(rt: &impl Print, o: Outcome) {
 
 // A label and the numbers of a list.
 pub fn list(rt: &impl Print, label: &[u8], numbers: &[u32]) {
-    text(rt, label);
+    say(rt, label);
     let mut i = 0;
     while i < numbers.len() {
         number(rt, wide(numbers[i]));
@@ -53,7 +53,7 @@ pub fn list(rt: &impl Print, label: &[u8], numbers: &[u32]) {
 pub fn first_bytes(rt: &impl Print, label: &[u8], bytes: &[u8], count: usize)
     requires { count ≤ length bytes.now }
 {
-    text(rt, label);
+    say(rt, label);
     let mut i = 0;
     while i < count {
         number(rt, wide_byte(bytes[i]));

@@ -2,12 +2,14 @@
 ghost use Rattle.std.specs.Prelude.{◌≤◌, length};
 
 use crate::print;
+use case_print::say;
 
 // The byte `|`.
 const BAR: u8 = 124;
 
 // Reads a text and prints what comes of it.
 fn show(
+    rt: &impl Print,
     name: &[u8],
     text: &[u8],
     starts: &mut [u32],
@@ -16,17 +18,18 @@ fn show(
     owners: &mut [u8],
 ) {
     let r = text_owners::read(text, starts, cols, vals, owners);
-    print::line(name, r);
-    io::write_all(1, b" cells");
-    case_print::number(case_print::nonzero(starts) as u64);
-    case_print::number(case_print::nonzero(cols) as u64);
-    case_print::number(case_print::nonzero(vals) as u64);
-    case_print::number(case_print::nonzero_bytes(owners) as u64);
-    io::write_all(1, b"\n");
+    print::line(rt, name, r);
+    say(rt, b" cells");
+    case_print::number(rt, case_print::nonzero(starts) as u64);
+    case_print::number(rt, case_print::nonzero(cols) as u64);
+    case_print::number(rt, case_print::nonzero(vals) as u64);
+    case_print::number(rt, case_print::nonzero_bytes(owners) as u64);
+    say(rt, b"\n");
 }
 
 // A case is its name, a bar and its text.
 fn show_case(
+    rt: &impl Print,
     case: &[u8],
     starts: &mut [u32],
     cols: &mut [u32],
@@ -36,12 +39,13 @@ fn show_case(
     let name = text_fields::pieces::piece(case, 0, BAR);
     let e = name.len();
     if e < case.len() {
-        show(name, &case[e + 1..], starts, cols, vals, owners);
+        show(rt, name, &case[e + 1..], starts, cols, vals, owners);
     }
 }
 
 // Reads a case's text into the first a, b, c and d cells of the lists.
 fn show_parts(
+    rt: &impl Print,
     case: &[u8],
     starts: &mut [u32],
     a: usize,
@@ -55,6 +59,7 @@ fn show_parts(
     requires { (a ≤ length starts.old) × (b ≤ length cols.old) × (c ≤ length vals.old) × (d ≤ length owners.old) }
 {
     show_case(
+        rt,
         case,
         &mut starts[..a],
         &mut cols[..b],
@@ -64,7 +69,7 @@ fn show_parts(
 }
 
 // Reads a case's text into lists of these lengths.
-pub fn length_case(case: &[u8], a: usize, b: usize, c: usize, d: usize)
+pub fn length_case(rt: &impl Print, case: &[u8], a: usize, b: usize, c: usize, d: usize)
     requires { (a ≤ 2050) × (b ≤ 16) × (c ≤ 16) × (d ≤ 2049) }
 {
     let mut starts = [9u32; 2050];
@@ -72,6 +77,7 @@ pub fn length_case(case: &[u8], a: usize, b: usize, c: usize, d: usize)
     let mut vals = [9u32; 16];
     let mut owners = [9u8; 2049];
     show_parts(
+        rt,
         case,
         &mut starts,
         a,
@@ -85,31 +91,31 @@ pub fn length_case(case: &[u8], a: usize, b: usize, c: usize, d: usize)
 }
 
 // Reads a case's text into lists with room for so many entries.
-pub fn room_case(case: &[u8], room: usize)
+pub fn room_case(rt: &impl Print, case: &[u8], room: usize)
     requires { room ≤ 16 }
 {
-    length_case(case, 2049, room, room, 2048);
+    length_case(rt, case, 2049, room, room, 2048);
 }
 
-pub fn plain_case(case: &[u8]) {
-    room_case(case, 16);
+pub fn plain_case(rt: &impl Print, case: &[u8]) {
+    room_case(rt, case, 16);
 }
 
 // Reads a case's text and prints the first cells of each list too.
-pub fn cells_case(case: &[u8]) {
+pub fn cells_case(rt: &impl Print, case: &[u8]) {
     let mut starts = [9u32; 2049];
     let mut cols = [9u32; 12];
     let mut vals = [9u32; 12];
     let mut owners = [9u8; 2048];
-    show_case(case, &mut starts, &mut cols, &mut vals, &mut owners);
-    print::list_line(b"  starts", lists::part(&starts, 0, 7));
-    print::list_line(b"  columns", &cols);
-    print::list_line(b"  values", &vals);
-    print::bytes_line(b"  owners", &owners, 7);
+    show_case(rt, case, &mut starts, &mut cols, &mut vals, &mut owners);
+    print::list_line(rt, b"  starts", lists::part(&starts, 0, 7));
+    print::list_line(rt, b"  columns", &cols);
+    print::list_line(rt, b"  values", &vals);
+    print::bytes_line(rt, b"  owners", &owners, 7);
 }
 
 // Reads the first n bytes of a text into lists with room for 5,460 entries.
-pub fn long_case(name: &[u8], text: &[u8], n: usize)
+pub fn long_case(rt: &impl Print, name: &[u8], text: &[u8], n: usize)
     requires { n ≤ length text.now }
 {
     let mut starts = [9u32; 2049];
@@ -117,6 +123,7 @@ pub fn long_case(name: &[u8], text: &[u8], n: usize)
     let mut vals = [9u32; 5460];
     let mut owners = [9u8; 2048];
     show(
+        rt,
         name,
         &text[..n],
         &mut starts,

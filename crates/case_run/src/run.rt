@@ -9,6 +9,7 @@ use text_plan::Reading;
 
 // Factors a plan into lent lists and prints what it returned and left.
 fn factor_and_print(
+    rt: &impl Print,
     name: &[u8],
     h: Handed,
     starts: &[u32],
@@ -28,11 +29,19 @@ fn factor_and_print(
     let f = factor(
         h.p, h.n, h.m, starts, cols, vals, owners, ro, co, ls, lc, lv, us, uc, uv, work,
     );
-    print::result(name, h.n, f, ro, co, ls, lc, lv, us, uc, uv, work);
+    print::result(rt, name, h.n, f, ro, co, ls, lc, lv, us, uc, uv, work);
 }
 
 // Lends lists of 9s, as many cells of each as are to be handed.
-fn lend(name: &[u8], h: Handed, starts: &[u32], cols: &[u32], vals: &[u32], owners: &[u8]) {
+fn lend(
+    rt: &impl Print,
+    name: &[u8],
+    h: Handed,
+    starts: &[u32],
+    cols: &[u32],
+    vals: &[u32],
+    owners: &[u8],
+) {
     let mut ro = [9u32; 2049];
     let mut co = [9u32; 2049];
     let mut ls = [9u32; 2050];
@@ -52,6 +61,7 @@ fn lend(name: &[u8], h: Handed, starts: &[u32], cols: &[u32], vals: &[u32], owne
     let i = within(&uv, h.uv);
     let k = within_row(&work, h.work);
     factor_and_print(
+        rt,
         name,
         h,
         starts,
@@ -90,7 +100,7 @@ fn read(
 }
 
 // Runs a case with rooms l and u for the entries of L and U.
-pub fn run(name: &[u8], text: &[u8], l: u32, u: u32, change: Change) {
+pub fn run(rt: &impl Print, name: &[u8], text: &[u8], l: u32, u: u32, change: Change) {
     let mut starts = [9u32; 2050];
     let mut cols = [9u32; 16385];
     let mut vals = [9u32; 16385];
@@ -98,6 +108,7 @@ pub fn run(name: &[u8], text: &[u8], l: u32, u: u32, change: Change) {
     let r = read(text, change, &mut starts, &mut cols, &mut vals, &mut owners);
     let h = prepare(r, l, u, change);
     lend(
+        rt,
         name,
         h,
         first(&starts, h.starts),

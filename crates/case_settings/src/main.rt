@@ -5,9 +5,9 @@
 mod cases;
 mod run;
 
-fn main() {
-    cases::lengths();
-    cases::faults();
-    cases::one_slot();
-    cases::sizes();
+fn main(rt: HostRuntime) {
+    cases::lengths(&rt);
+    cases::faults(&rt);
+    cases::one_slot(&rt);
+    cases::sizes(&rt);
 }

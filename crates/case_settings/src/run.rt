@@ -1,10 +1,11 @@
 // Runs a case: the settings are given from a certificate into a list of 9s, and what comes of it is printed.
 use call_kernel::from_certificate::kernel_basis_from_certificate;
 use case_print::parts::{first_bytes, within, within_row};
-use case_print::{list, nonzero_row, number, outcome};
+use case_print::{list, nonzero_row, number, outcome, say};
 
 // Into lent lists; prints what was returned and left.
 fn give(
+    rt: &impl Print,
     name: &[u8],
     p: u32,
     n: u32,
@@ -18,17 +19,18 @@ fn give(
     work: &mut [u64],
 ) {
     let o = kernel_basis_from_certificate(p, n, m, starts, cols, vals, owners, cert, basis, work);
-    io::write_all(1, name);
-    io::write_all(1, b":");
-    outcome(o);
-    list(b" settings", basis);
-    io::write_all(1, b" row");
-    number(nonzero_row(work) as u64);
-    io::write_all(1, b"\n");
+    say(rt, name);
+    say(rt, b":");
+    outcome(rt, o);
+    list(rt, b" settings", basis);
+    say(rt, b" row");
+    number(rt, nonzero_row(work) as u64);
+    say(rt, b"\n");
 }
 
 // Lends so many owners, and so many cells of 9s for the settings and in the working row.
 pub fn run(
+    rt: &impl Print,
     name: &[u8],
     p: u32,
     n: u32,
@@ -47,6 +49,7 @@ pub fn run(
     let a = within(&basis, cells);
     let b = within_row(&work, row);
     give(
+        rt,
         name,
         p,
         n,

@@ -2,12 +2,13 @@
 use crate::plan_d::{lend, lists};
 use crate::run::Lent;
 
-fn with(name: &[u8], owners: u32, s: u32, w: u32, work: u32) {
-    lend(name, &[1, 2, 4, 3, 5], Lent { owners, s, w, work });
+fn with(rt: &impl Print, name: &[u8], owners: u32, s: u32, w: u32, work: u32) {
+    lend(rt, name, &[1, 2, 4, 3, 5], Lent { owners, s, w, work });
 }
 
-fn values(name: &[u8], h: &[u32]) {
+fn values(rt: &impl Print, name: &[u8], h: &[u32]) {
     lend(
+        rt,
         name,
         h,
         Lent {
@@ -20,8 +21,18 @@ fn values(name: &[u8], h: &[u32]) {
 }
 
 // A list of the plan or of the set, one too short or one too long.
-fn set(name: &[u8], starts: &[u32], ro: &[u32], co: &[u32], ls: &[u32], us: &[u32], uv: &[u32]) {
+fn set(
+    rt: &impl Print,
+    name: &[u8],
+    starts: &[u32],
+    ro: &[u32],
+    co: &[u32],
+    ls: &[u32],
+    us: &[u32],
+    uv: &[u32],
+) {
     lists(
+        rt,
         name,
         starts,
         ro,
@@ -39,7 +50,7 @@ fn set(name: &[u8], starts: &[u32], ro: &[u32], co: &[u32], ls: &[u32], us: &[u3
     );
 }
 
-pub fn sets() {
+pub fn sets(rt: &impl Print) {
     let starts = [0u32, 2, 4, 8, 10, 11];
     let more_starts = [0u32, 2, 4, 8, 10, 11, 11];
     let ro = [0u32, 3, 1, 4, 2];
@@ -52,31 +63,103 @@ pub fn sets() {
     let more_us = [0u32, 2, 4, 6, 7, 7];
     let uv = [1u32, 4, 3, 1, 1, 5, 1];
     let more_uv = [1u32, 4, 3, 1, 1, 5, 1, 1];
-    set(b"D, 5 starts", &starts[..5], &ro, &co, &ls, &us, &uv);
-    set(b"D, 7 starts", &more_starts, &ro, &co, &ls, &us, &uv);
-    set(b"D, 4 rows in R", &starts, &ro[..4], &co, &ls, &us, &uv);
-    set(b"D, 6 rows in R", &starts, &more_ro, &co, &ls, &us, &uv);
-    set(b"D, 4 columns in C", &starts, &ro, &co[..4], &ls, &us, &uv);
-    set(b"D, 6 columns in C", &starts, &ro, &more_co, &ls, &us, &uv);
-    set(b"D, 5 starts of L", &starts, &ro, &co, &ls[..5], &us, &uv);
-    set(b"D, 7 starts of L", &starts, &ro, &co, &more_ls, &us, &uv);
-    set(b"D, 4 starts of U", &starts, &ro, &co, &ls, &us[..4], &uv);
-    set(b"D, 6 starts of U", &starts, &ro, &co, &ls, &more_us, &uv);
-    set(b"D, 6 values of U", &starts, &ro, &co, &ls, &us, &uv[..6]);
-    set(b"D, 8 values of U", &starts, &ro, &co, &ls, &us, &more_uv);
+    set(rt, b"D, 5 starts", &starts[..5], &ro, &co, &ls, &us, &uv);
+    set(rt, b"D, 7 starts", &more_starts, &ro, &co, &ls, &us, &uv);
+    set(rt, b"D, 4 rows in R", &starts, &ro[..4], &co, &ls, &us, &uv);
+    set(rt, b"D, 6 rows in R", &starts, &more_ro, &co, &ls, &us, &uv);
+    set(
+        rt,
+        b"D, 4 columns in C",
+        &starts,
+        &ro,
+        &co[..4],
+        &ls,
+        &us,
+        &uv,
+    );
+    set(
+        rt,
+        b"D, 6 columns in C",
+        &starts,
+        &ro,
+        &more_co,
+        &ls,
+        &us,
+        &uv,
+    );
+    set(
+        rt,
+        b"D, 5 starts of L",
+        &starts,
+        &ro,
+        &co,
+        &ls[..5],
+        &us,
+        &uv,
+    );
+    set(
+        rt,
+        b"D, 7 starts of L",
+        &starts,
+        &ro,
+        &co,
+        &more_ls,
+        &us,
+        &uv,
+    );
+    set(
+        rt,
+        b"D, 4 starts of U",
+        &starts,
+        &ro,
+        &co,
+        &ls,
+        &us[..4],
+        &uv,
+    );
+    set(
+        rt,
+        b"D, 6 starts of U",
+        &starts,
+        &ro,
+        &co,
+        &ls,
+        &more_us,
+        &uv,
+    );
+    set(
+        rt,
+        b"D, 6 values of U",
+        &starts,
+        &ro,
+        &co,
+        &ls,
+        &us,
+        &uv[..6],
+    );
+    set(
+        rt,
+        b"D, 8 values of U",
+        &starts,
+        &ro,
+        &co,
+        &ls,
+        &us,
+        &more_uv,
+    );
 }
 
-pub fn all() {
-    with(b"D, 4 owners", 4, 5, 5, 2048);
-    with(b"D, 6 owners", 6, 5, 5, 2048);
-    with(b"D, 4 cells for s", 5, 4, 5, 2048);
-    with(b"D, 6 cells for s", 5, 6, 5, 2048);
-    with(b"D, 4 cells for w", 5, 5, 4, 2048);
-    with(b"D, 6 cells for w", 5, 5, 6, 2048);
-    with(b"D, 2,047 cells in the working row", 5, 5, 5, 2047);
-    with(b"D, 2,049 cells in the working row", 5, 5, 5, 2049);
-    with(b"D, nothing lent", 0, 0, 0, 0);
-    values(b"D, 4 slot values", &[1, 2, 4, 3]);
-    values(b"D, 6 slot values", &[1, 2, 4, 3, 5, 0]);
-    values(b"D, one slot value, which is 7", &[7]);
+pub fn all(rt: &impl Print) {
+    with(rt, b"D, 4 owners", 4, 5, 5, 2048);
+    with(rt, b"D, 6 owners", 6, 5, 5, 2048);
+    with(rt, b"D, 4 cells for s", 5, 4, 5, 2048);
+    with(rt, b"D, 6 cells for s", 5, 6, 5, 2048);
+    with(rt, b"D, 4 cells for w", 5, 5, 4, 2048);
+    with(rt, b"D, 6 cells for w", 5, 5, 6, 2048);
+    with(rt, b"D, 2,047 cells in the working row", 5, 5, 5, 2047);
+    with(rt, b"D, 2,049 cells in the working row", 5, 5, 5, 2049);
+    with(rt, b"D, nothing lent", 0, 0, 0, 0);
+    values(rt, b"D, 4 slot values", &[1, 2, 4, 3]);
+    values(rt, b"D, 6 slot values", &[1, 2, 4, 3, 5, 0]);
+    values(rt, b"D, one slot value, which is 7", &[7]);
 }

@@ -8,15 +8,15 @@ mod plan_d;
 mod run;
 mod sets;
 
-fn main() {
-    plan_d::settings();
-    plan_d::contradictions();
-    plan_d::values();
-    plan_d::certificates();
-    sets::sizes();
-    sets::falling();
-    sets::moduli();
-    sets::faults();
-    lengths::all();
-    lengths::sets();
+fn main(rt: HostRuntime) {
+    plan_d::settings(&rt);
+    plan_d::contradictions(&rt);
+    plan_d::values(&rt);
+    plan_d::certificates(&rt);
+    sets::sizes(&rt);
+    sets::falling(&rt);
+    sets::moduli(&rt);
+    sets::faults(&rt);
+    lengths::all(&rt);
+    lengths::sets(&rt);
 }

@@ -3,6 +3,7 @@ use crate::run::{Lent, run, run_changed};
 
 // D with its own set; some of the lists may be others, and lists of any length lent.
 pub fn lists(
+    rt: &impl Print,
     name: &[u8],
     starts: &[u32],
     ro: &[u32],
@@ -14,6 +15,7 @@ pub fn lists(
     lent: Lent,
 ) {
     run(
+        rt,
         name,
         7,
         5,
@@ -36,8 +38,9 @@ pub fn lists(
 }
 
 // D with its own set, and with lists of any length lent.
-pub fn lend(name: &[u8], h: &[u32], lent: Lent) {
+pub fn lend(rt: &impl Print, name: &[u8], h: &[u32], lent: Lent) {
     lists(
+        rt,
         name,
         &[0, 2, 4, 8, 10, 11],
         &[0, 3, 1, 4, 2],
@@ -51,8 +54,9 @@ pub fn lend(name: &[u8], h: &[u32], lent: Lent) {
 }
 
 // D's certificate with the byte at one place changed, and of so many bytes, with a value of 7 in the last slot.
-fn changed(name: &[u8], place: usize, byte: u8, size: usize) {
+fn changed(rt: &impl Print, name: &[u8], place: usize, byte: u8, size: usize) {
     run_changed(
+        rt,
         name,
         7,
         5,
@@ -83,20 +87,21 @@ fn changed(name: &[u8], place: usize, byte: u8, size: usize) {
 }
 
 // The check of the certificate comes before the values: D's has 217 bytes, R from 29 on, L's values from 117 on, U's from 189 on.
-pub fn certificates() {
-    changed(b"D, one byte short", 512, 0, 216);
-    changed(b"D, one byte long", 217, 0, 218);
-    changed(b"D, version 2", 3, 2, 217);
-    changed(b"D, a row twice", 29, 3, 217);
-    changed(b"D, rank 6", 17, 6, 217);
-    changed(b"D, U[0][0] = 2", 189, 2, 217);
-    changed(b"D, L[3][3] = 4", 129, 4, 217);
-    changed(b"D, nothing changed", 512, 0, 217);
+pub fn certificates(rt: &impl Print) {
+    changed(rt, b"D, one byte short", 512, 0, 216);
+    changed(rt, b"D, one byte long", 217, 0, 218);
+    changed(rt, b"D, version 2", 3, 2, 217);
+    changed(rt, b"D, a row twice", 29, 3, 217);
+    changed(rt, b"D, rank 6", 17, 6, 217);
+    changed(rt, b"D, U[0][0] = 2", 189, 2, 217);
+    changed(rt, b"D, L[3][3] = 4", 129, 4, 217);
+    changed(rt, b"D, nothing changed", 512, 0, 217);
 }
 
 // The same with lists of their lengths.
-fn show(name: &[u8], h: &[u32]) {
+fn show(rt: &impl Print, name: &[u8], h: &[u32]) {
     lend(
+        rt,
         name,
         h,
         Lent {
@@ -108,24 +113,25 @@ fn show(name: &[u8], h: &[u32]) {
     );
 }
 
-pub fn settings() {
-    show(b"D, a setting", &[1, 2, 4, 3, 5]);
-    show(b"D, all slots 0", &[0, 0, 0, 0, 0]);
-    show(b"D, one pivot slot alone", &[0, 0, 0, 0, 1]);
-    show(b"D, the largest residues", &[6, 6, 4, 6, 6]);
+pub fn settings(rt: &impl Print) {
+    show(rt, b"D, a setting", &[1, 2, 4, 3, 5]);
+    show(rt, b"D, all slots 0", &[0, 0, 0, 0, 0]);
+    show(rt, b"D, one pivot slot alone", &[0, 0, 0, 0, 1]);
+    show(rt, b"D, the largest residues", &[6, 6, 4, 6, 6]);
 }
 
-pub fn contradictions() {
-    show(b"D, the dependent slot is one more", &[1, 2, 5, 3, 5]);
-    show(b"D, the dependent slot alone", &[0, 0, 1, 0, 0]);
-    show(b"D, a pivot slot that it depends on", &[1, 0, 0, 0, 0]);
+pub fn contradictions(rt: &impl Print) {
+    show(rt, b"D, the dependent slot is one more", &[1, 2, 5, 3, 5]);
+    show(rt, b"D, the dependent slot alone", &[0, 0, 1, 0, 0]);
+    show(rt, b"D, a pivot slot that it depends on", &[1, 0, 0, 0, 0]);
 }
 
-pub fn values() {
-    show(b"D, 7 at the first slot", &[7, 2, 4, 3, 5]);
-    show(b"D, 7 at the last slot", &[1, 2, 4, 3, 7]);
-    show(b"D, 7 at two slots", &[1, 8, 4, 7, 5]);
+pub fn values(rt: &impl Print) {
+    show(rt, b"D, 7 at the first slot", &[7, 2, 4, 3, 5]);
+    show(rt, b"D, 7 at the last slot", &[1, 2, 4, 3, 7]);
+    show(rt, b"D, 7 at two slots", &[1, 8, 4, 7, 5]);
     show(
+        rt,
         b"D, 4294967295 at the dependent slot",
         &[1, 2, 4294967295, 3, 5],
     );

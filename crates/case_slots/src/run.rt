@@ -4,7 +4,7 @@ use call_slots::Solution;
 use call_slots::from_certificate::solve_slots_from_certificate;
 use call_slots::from_factors::solve_slots_from_factors;
 use case_print::parts::{first_bytes, first_size, within, within_row};
-use case_print::{list, nonzero_row, number};
+use case_print::{list, nonzero_row, number, say};
 
 // How much is lent, by the number of cells.
 #[derive(Clone, Copy)]
@@ -15,36 +15,45 @@ pub struct Lent {
     pub work: u32,
 }
 
-fn verdict(a: Solution) {
+fn verdict(rt: &impl Print, a: Solution) {
     match a {
         Solution::Refused(k, detail) => {
-            io::write_all(1, b" refused");
-            number(k as u64);
-            number(detail as u64);
+            say(rt, b" refused");
+            number(rt, k as u64);
+            number(rt, detail as u64);
         }
         Solution::Solved => {
-            io::write_all(1, b" solved");
+            say(rt, b" solved");
         }
         Solution::Contradiction => {
-            io::write_all(1, b" contradiction");
+            say(rt, b" contradiction");
         }
     }
 }
 
 // What was returned and left.
-fn result(name: &[u8], from: &[u8], a: Solution, s: &[u32], w: &[u32], work: &[u64]) {
-    io::write_all(1, name);
-    io::write_all(1, from);
-    verdict(a);
-    list(b" s", s);
-    list(b" w", w);
-    io::write_all(1, b" row");
-    number(nonzero_row(work) as u64);
-    io::write_all(1, b"\n");
+fn result(
+    rt: &impl Print,
+    name: &[u8],
+    from: &[u8],
+    a: Solution,
+    s: &[u32],
+    w: &[u32],
+    work: &[u64],
+) {
+    say(rt, name);
+    say(rt, from);
+    verdict(rt, a);
+    list(rt, b" s", s);
+    list(rt, b" w", w);
+    say(rt, b" row");
+    number(rt, nonzero_row(work) as u64);
+    say(rt, b"\n");
 }
 
 // From stored factors, into lent lists; prints what was returned and left.
 fn answer_from_factors(
+    rt: &impl Print,
     name: &[u8],
     p: u32,
     n: u32,
@@ -70,11 +79,12 @@ fn answer_from_factors(
     let answer = solve_slots_from_factors(
         p, n, m, starts, cols, vals, owners, r, ro, co, ls, lc, lv, us, uc, uv, h, s, w, work,
     );
-    result(name, b", factors:", answer, s, w, work);
+    result(rt, name, b", factors:", answer, s, w, work);
 }
 
 // Lends lists of 9s, as many cells of each as are to be lent.
 fn from_factors(
+    rt: &impl Print,
     name: &[u8],
     p: u32,
     n: u32,
@@ -102,6 +112,7 @@ fn from_factors(
     let b = within(&w, lent.w);
     let c = within_row(&work, lent.work);
     answer_from_factors(
+        rt,
         name,
         p,
         n,
@@ -128,6 +139,7 @@ fn from_factors(
 
 // From a certificate, into lent lists; prints what was returned and left.
 fn answer_from_bytes(
+    rt: &impl Print,
     name: &[u8],
     p: u32,
     n: u32,
@@ -145,11 +157,12 @@ fn answer_from_bytes(
     let answer = solve_slots_from_certificate(
         p, n, m, starts, cols, vals, owners, cert, h, s, w, work,
     );
-    result(name, b", certificate:", answer, s, w, work);
+    result(rt, name, b", certificate:", answer, s, w, work);
 }
 
 // Lends lists of 9s, as many cells of each as are to be lent.
 fn from_bytes(
+    rt: &impl Print,
     name: &[u8],
     p: u32,
     n: u32,
@@ -169,6 +182,7 @@ fn from_bytes(
     let b = within(&w, lent.w);
     let c = within_row(&work, lent.work);
     answer_from_bytes(
+        rt,
         name,
         p,
         n,
@@ -238,6 +252,7 @@ fn put_byte(bytes: &mut [u8], place: usize, byte: u8) {
 
 // From the certificate of the set with the byte at one place changed, cut or lengthened to so many bytes.
 pub fn run_changed(
+    rt: &impl Print,
     name: &[u8],
     p: u32,
     n: u32,
@@ -283,6 +298,7 @@ pub fn run_changed(
     let owners = [9u8; 16];
     let held = first_bytes(&owners, lent.owners);
     from_bytes(
+        rt,
         name,
         p,
         n,
@@ -299,6 +315,7 @@ pub fn run_changed(
 
 // A case from stored factors, and from their certificate.
 pub fn run(
+    rt: &impl Print,
     name: &[u8],
     p: u32,
     n: u32,
@@ -321,7 +338,7 @@ pub fn run(
     let owners = [9u8; 16];
     let held = first_bytes(&owners, lent.owners);
     from_factors(
-        name, p, n, m, starts, cols, vals, held, r, ro, co, ls, lc, lv, us, uc, uv, h, lent,
+        rt, name, p, n, m, starts, cols, vals, held, r, ro, co, ls, lc, lv, us, uc, uv, h, lent,
     );
     let mut buffer = [9u8; 512];
     let size = certify(
@@ -343,5 +360,5 @@ pub fn run(
         &mut buffer,
     );
     let cert = first_size(&buffer, size);
-    from_bytes(name, p, n, m, starts, cols, vals, held, cert, h, lent);
+    from_bytes(rt, name, p, n, m, starts, cols, vals, held, cert, h, lent);
 }
