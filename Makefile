@@ -1,7 +1,10 @@
 # The command plq and the library for C: build, install, remove. GNU make.
 #
 #   make              target/command/plq; where the archive is absent, or older than a source, it is proved and built first, which takes minutes
+#   make library      the archive alone, target/staticlib/libplq.a
 #   make shared       target/command/libplq.so.1, the same library for linking at run time
+#   make programs     target/bin/report and target/bin/ask, the programs in Rattle, proved and built
+#   make benchmark    target/staticlib/libbench_calls.a and libbench_stored.a, which bench/ times, proved and built
 #   make install      command, manual, header, both libraries and the pkg-config file, below PREFIX, in DESTDIR where that is set; programs that
 #                     link libplq.so.1 then find it where the loader looks, after `ldconfig` or by LD_LIBRARY_PATH
 #   make uninstall    removes these
@@ -24,18 +27,42 @@ built := target/command
 soname := libplq.so.1
 version := $(shell sed -n 's/^.define PLQ_VERSION "\(.*\)"$$/\1/p' command/plq.c)
 
-.PHONY: plq shared install uninstall clean
+sources := crates.txt $(shell find crates -name out -prune -o -path '*/src/*.rt' -print)
+
+.PHONY: plq library shared programs benchmark install uninstall clean
 .DELETE_ON_ERROR:
 
 plq: $(built)/plq
 
+library: $(archive)
+
+programs: target/bin/report target/bin/ask
+
+benchmark: target/staticlib/libbench_calls.a target/staticlib/libbench_stored.a
+
 shared: $(built)/$(soname)
 
-$(archive): crates.txt $(shell find crates -path '*/src/*.rt')
+# What rt builds lies in the crate's out/. A program it builds by running it, here without input.
+define proved
 	@command -v rt >/dev/null || { echo "rt, the Rattle toolchain, is not installed: $@ cannot be made" >&2; exit 1; }
 	@echo "proving and building $@, which takes some minutes" >&2
-	rt staticlib plq
-	@touch $@
+	@mkdir -p $(@D)
+endef
+
+$(archive): $(sources)
+	$(proved)
+	cd crates/plq_c && rt lib
+	cp crates/plq_c/out/libplq_c.a $@
+
+target/staticlib/lib%.a: $(sources)
+	$(proved)
+	cd crates/$* && rt lib
+	cp crates/$*/out/lib$*.a $@
+
+target/bin/%: $(sources)
+	$(proved)
+	cd crates/$* && rt run </dev/null >/dev/null
+	cp crates/$*/out/$* $@
 
 $(built)/plq: command/plq.c include/plq.h $(LIBRARY)
 	@mkdir -p $(built)

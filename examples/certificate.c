@@ -1,6 +1,6 @@
 /* Makes a certificate from a plan file, writes it to a file, reads it back and checks it:
  *
- *     rt staticlib plq
+ *     make library
  *     cc -Iinclude examples/certificate.c target/staticlib/libplq.a -o certificate
  *     ./certificate examples/D.txt D.plq
  */

@@ -1,6 +1,6 @@
 /* Checks a certificate file against a plan file:
  *
- *     rt staticlib plq
+ *     make library
  *     cc -Iinclude examples/check.c target/staticlib/libplq.a -o check
  *     ./check examples/D.txt examples/D.plq
  */

@@ -1,6 +1,6 @@
 /* What a listener can work out from the slots of a frame plan: four calls for programs in C and C++.
  *
- * Link with target/staticlib/libplq.a, which `rt staticlib plq` writes, or with -lplq where it is installed. x86-64 Linux.
+ * Link with target/staticlib/libplq.a, which `make library` writes, or with -lplq where it is installed. x86-64 Linux.
  *
  * Every call returns one number: the table's number (enum plq_refusal) plus 256 times its detail; 0 is done. Whatever is wrong with what a call is
  * given is refused by such a number, and what it was lent is then all zero.

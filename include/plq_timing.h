@@ -1,7 +1,7 @@
 /* What the benchmark times within one process beside the calls of plq.h: calls that serve measuring alone.
  *
- * Link with target/staticlib/libbench_calls.a and, for the calls on a stored plan, libbench_stored.a, which `rt staticlib bench_calls` and
- * `rt staticlib bench_stored` write; libplq.a may be linked to the same program.
+ * Link with target/staticlib/libbench_calls.a and, for the calls on a stored plan, libbench_stored.a, which `make benchmark`
+ * writes; libplq.a may be linked to the same program.
  *
  * A call needs about 680 KiB of stack, whatever the plan, and no other memory; the library keeps nothing between calls.
  */

@@ -14,7 +14,7 @@ from typing import NamedTuple
 WORD = re.compile(r"[^\s(){},;]+")
 COMMENT = re.compile(r"(?<!\S)--.*")
 USE = re.compile(r"use\s+([^\s{]+?)(?:\.\{(.*)\}|\s+as\s+(\S+))?", re.DOTALL)
-MODULE = re.compile(r"Rattle·(\w+)(?:·\w+)?\.(specs|proofs)\.(.+)")
+MODULE = re.compile(r"Rattle\.(\w+)\.(specs|proofs)\.(.+)")
 MODIFIERS = ("abbrev", "unfoldable", "pub")
 NO_EQUATION = ("use", "mod", "infix", "infixl", "infixr", "unfolding")
 
@@ -48,8 +48,8 @@ class Definition(NamedTuple):
 
 
 def spoken(name):
-    """The words that use a name: `_▷_` is used as `a ▷ b`."""
-    return {name, *filter(None, name.split("_")[:2])}
+    """The words that use a name: `◌▷◌` is used as `a ▷ b`."""
+    return {name, *filter(None, name.split("◌")[:2])}
 
 
 def used(line):
@@ -69,7 +69,7 @@ def used(line):
 
 def place_of(module, name):
     """Where a name of a module stands; none for the modules of the kit."""
-    if not module.startswith("Rattle·"):
+    if not module.startswith("Rattle."):
         return None
     found = MODULE.fullmatch(module)
     if not found:
@@ -78,7 +78,7 @@ def place_of(module, name):
     parts = path.split(".")
     if parts[0] != "declared":
         return Place(crate, part, "/".join(parts), name)
-    *files, declared = [part for part in parts[1:] if part != "the-variants"]
+    *files, declared = [part for part in parts[1:] if part != "TheVariants"]
     return Place(crate, "src", "/".join(files) or "lib", declared)
 
 

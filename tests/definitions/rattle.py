@@ -13,8 +13,9 @@ COMMENT = re.compile(r"//.*")
 GHOST = re.compile(r"^ghost (use [^;]*);", re.MULTILINE)
 USE = re.compile(r"^(pub )?use ([^;]*);", re.MULTILINE)
 PATH = re.compile(r"(\w+(?:::\w+)*)(?: as (\w+))?")
+GROUP = re.compile(r"(\w+(?:::\w+)*)::\{([^{}]*)\}")
 TYPE = re.compile(r"^(?:pub )?(?:struct|enum) (\w+)[^{;]*\{", re.MULTILINE)
-FUNCTION = re.compile(r'^ *(?:pub )?(extern "C" )?fn (\w+)', re.MULTILINE)
+FUNCTION = re.compile(r'^ *(pub )?(?:extern "C" )?fn (\w+)', re.MULTILINE)
 CONTRACT = re.compile(r"\{|\b(?:requires|ensures)\b")
 CLAUSE = re.compile(r"\s*(?:requires|ensures)\b[^{]*\{")
 
@@ -22,7 +23,15 @@ CLAUSE = re.compile(r"\s*(?:requires|ensures)\b[^{]*\{")
 class Function(NamedTuple):
     signature: str
     contract: str
-    exported: bool
+    public: bool
+
+
+def paths(path):
+    """The paths of a `use` line, of which one may end in several names: `a::{b, c as d}`."""
+    group = GROUP.fullmatch(" ".join(path.split()))
+    if group:
+        return [f"{group[1]}::{name.strip()}" for name in group[2].split(",") if name.strip()]
+    return [path]
 
 
 def closing(text, at):
@@ -58,8 +67,9 @@ class Source:
             self.functions.setdefault(found[2], []).append(function(text, found))
         for found in TYPE.finditer(text):
             self.types[found[1]] = text[found.end():closing(text, found.end())]
-        for public, path in USE.findall(text):
-            self.use(path, public)
+        for public, every in USE.findall(text):
+            for path in paths(every):
+                self.use(path, public)
 
     def use(self, path, public):
         found = PATH.fullmatch(path)

@@ -10,6 +10,7 @@ from antt import Antt, Place, Unreadable
 from rattle import Source
 
 LIBRARY = "plq"
+EXPORTS = "plq_c"
 PROGRAMS = ("report", "ask")
 PROGRAM_CALLS = (
     ("report_lib", "report"),
@@ -19,6 +20,7 @@ PROGRAM_CALLS = (
     ("ask_settings", "setting_line"),
 )
 THEOREMS = "theorems"
+ALWAYS = {"std"}
 TYPE_NAME = re.compile(r"(?:\w+::)*[A-Z]\w*[a-z]\w*")
 
 
@@ -29,9 +31,9 @@ class Tree:
         for line in (root / "crates.txt").read_text(encoding="utf-8").splitlines():
             if line and not line.startswith("#"):
                 crate, _, others = line.partition(":")
-                self.crates.append(crate)
+                self.crates.append(crate.split()[0])
                 below.update(others.split())
-        self.kit = below.difference(self.crates)
+        self.kit = (below | ALWAYS).difference(self.crates)
 
     # ---- files
 
@@ -123,14 +125,16 @@ class Tree:
     # ---- where to begin
 
     def public_calls(self):
-        """What the library exports and passes on, the programs' calls, and the programs."""
-        for file in self.files(LIBRARY, "src"):
-            source = self.file(LIBRARY, "src", file)
-            for name, functions in source.functions.items():
-                if functions[0].exported:
-                    yield Place(LIBRARY, "src", file, name)
-            for parts in source.passed_on.values():
-                yield self.declared(self.led_to(source, parts), "functions")
+        """What the library has itself and passes on, what is exported to C, the programs'
+        calls, and the programs."""
+        for crate in (LIBRARY, EXPORTS):
+            for file in self.files(crate, "src"):
+                source = self.file(crate, "src", file)
+                for name, functions in source.functions.items():
+                    if functions[0].public:
+                        yield Place(crate, "src", file, name)
+                for parts in source.passed_on.values():
+                    yield self.declared(self.led_to(source, parts), "functions")
         for crate, name in PROGRAM_CALLS:
             yield self.declared(Place(crate, "src", "lib", name), "functions")
         for crate in PROGRAMS:

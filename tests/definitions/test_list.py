@@ -16,6 +16,7 @@ CRATES = """# Layers.
 base:
 calls: base
 plq: calls base
+plq_c staticlib: plq base
 report_lib:
 ask_lib:
 report: report_lib io
@@ -24,11 +25,10 @@ theorems: base
 """
 LAWS = """
 -- Laws. A comment names Inner's `need`.
-use Prim.Native.Nat.{ℕ, _+_}
-use mathlib.Core.Path.{_≡_}
+use Rattle.std.specs.Prelude.{ℕ, ◌+◌, ◌≡◌}
 
-infixr 20 _▷_
-abbrev pub _▷_ : ℕ → ℕ → ℕ
+infixr 20 ◌▷◌
+abbrev pub ◌▷◌ : ℕ → ℕ → ℕ
 0 ▷ b = b
 a ▷ b = a
 
@@ -44,7 +44,7 @@ module _ (t : Tree) where
   pub record Good (n : ℕ) : Type 0 where
     pub same : twice n ≡ n
 
-pub record _≈⟨_⟩_ (x p y : ℕ) : Type 0 where
+pub record ◌≈⟨◌⟩◌ (x p y : ℕ) : Type 0 where
   pub same : x ≡ y
 
 abbrev pub alone : ℕ
@@ -59,22 +59,23 @@ fact = refl
 """
 CALLS = """
 // A call.
-ghost use Rattle·base.specs.Laws.{twice};
-ghost use Rattle·base.specs.Inner.{need};
+ghost use Rattle.base.specs.Laws.{twice};
+ghost use Rattle.base.specs.Inner.{need};
 use base::Kind;
 
 fn inner(n: u32) -> u32
-    requires { ⌜ need ⌝ }
-    ensures { λ r. ⌜ r ≡ n ⌝ }
+    requires { need }
+    ensures { result ≡ n }
 {
     n
 }
 
 pub fn call(
-    n: u32, // requires { ⌜ need ⌝ }
+    n: u32, // requires { need }
 ) -> u32
-    requires { ⌜ n ≡ n ⌝ }
-    ensures { λ r. ⌜ r ≡ twice n ⌝ }
+    requires { n ≡ n }
+    ensures same { result ≡ result }
+    ensures doubled { result ≡ twice n }
 {
     inner(n)
 }
@@ -87,6 +88,7 @@ FILES = {
     "base/src/lib.rt": "pub enum Kind {\n    One,\n    Two(u32),\n}\n",
     "calls/src/lib.rt": CALLS,
     "plq/src/lib.rt": "pub use calls::call as first_call;\n",
+    "plq_c/src/lib.rt": "",
     "report_lib/src/lib.rt": "pub fn report() {\n}\n",
     "ask_lib/src/lib.rt": "pub fn ask() {\n}\n",
     "ask_words/src/lib.rt": "pub fn words() {\n}\n",
@@ -103,7 +105,7 @@ def theorems(text):
 
 def law(names, statement):
     """One theorem, which uses names of the crate `base`."""
-    return theorems(f"use Rattle·base.{names}\n\npub law : {statement}\nlaw = refl\n")
+    return theorems(f"use Rattle.base.{names}\n\npub law : {statement}\nlaw = refl\n")
 
 
 class ListTest(unittest.TestCase):
@@ -140,8 +142,21 @@ class ReachedTest(ListTest):
         self.reaches({}, "twice")
 
     def test_exported_call(self):
-        source = CALLS.replace("pub fn", '#[no_mangle]\npub extern "C" fn')
-        self.reaches({"plq/src/lib.rt": source}, "twice")
+        source = CALLS.replace("pub fn", '#[unsafe(no_mangle)]\npub extern "C" fn')
+        for clause in ("result ≡ twice n", "result ≡ alone"):
+            exported = source.replace("result ≡ twice n", clause).replace("{twice}", "{twice, alone}")
+            self.reaches({"plq/src/lib.rt": "", "plq_c/src/lib.rt": exported}, clause.split()[2])
+
+    def test_call_of_the_library(self):
+        """Its own public ones, beside those that it passes on."""
+        source = CALLS.replace("twice n", "alone").replace("{twice}", "{alone}")
+        self.reaches({"plq/src/lib.rt": FILES["plq/src/lib.rt"] + source}, "twice", "alone")
+
+    def test_calls_passed_on_together(self):
+        more = CALLS + "\npub fn other() -> u32\n    ensures { result ≡ alone }\n{\n    0\n}\n"
+        more = more.replace("{twice}", "{twice, alone}")
+        library = "pub use calls::{\n    call,\n    other as another,\n};\n"
+        self.reaches({"calls/src/lib.rt": more, "plq/src/lib.rt": library}, "twice", "alone")
 
     def test_call_passed_on_twice(self):
         passing = FILES["report_lib/src/lib.rt"] + "pub use calls::call;\n"
@@ -149,14 +164,14 @@ class ReachedTest(ListTest):
         self.reaches({"plq/src/lib.rt": library, "report_lib/src/lib.rt": passing}, "twice")
 
     def test_program(self):
-        source = "fn f()\n    requires { ⌜ alone ⌝ }\n{\n}\n"
-        source = "ghost use Rattle·base.specs.Laws.{alone};\n" + source
+        source = "fn f()\n    requires { alone }\n{\n}\n"
+        source = "ghost use Rattle.base.specs.Laws.{alone};\n" + source
         self.reaches({"ask/src/main.rt": source}, "twice", "alone")
 
     def test_statement_and_not_its_proof(self):
         text = """
-use Rattle·base.specs.Laws.{alone, leaf}
-use Rattle·base.specs.Inner.{need}
+use Rattle.base.specs.Laws.{alone, leaf}
+use Rattle.base.specs.Inner.{need}
 
 lemma : need ≡ 0
 lemma = refl
@@ -172,14 +187,14 @@ law n = lemma leaf
         self.reaches(theorems(text), "twice", "alone")
 
     def test_operator(self):
-        self.reaches(law("specs.Laws.{_▷_}", "(a b : ℕ) → (a ▷ b) ≡ b"), "twice", "_▷_")
+        self.reaches(law("specs.Laws.{◌▷◌}", "(a b : ℕ) → (a ▷ b) ≡ b"), "twice", "◌▷◌")
 
     def test_operator_of_several_parts(self):
-        self.reaches(law("specs.Laws.{_≈⟨_⟩_}", "(a p : ℕ) → a ≈⟨ p ⟩ a"), "twice", "_≈⟨_⟩_")
+        self.reaches(law("specs.Laws.{◌≈⟨◌⟩◌}", "(a p : ℕ) → a ≈⟨ p ⟩ a"), "twice", "◌≈⟨◌⟩◌")
 
     def test_parameters_of_a_module(self):
         text = """
-use Rattle·base.specs.Laws.{Good, alone}
+use Rattle.base.specs.Laws.{Good, alone}
 
 module _ (n : ℕ) (z : n ≡ alone) where
   module _ (m : ℕ) where
@@ -198,15 +213,15 @@ module _ (n : ℕ) (z : n ≡ alone) where
         self.reaches(law("specs.Laws as laws", "laws.alone ≡ 0"), "twice", "alone")
 
     def test_definition_passed_on(self):
-        inner = "unfoldable pub use Rattle·base·specs.specs.Laws.{alone}\n"
+        inner = "unfoldable pub use Rattle.base.specs.Laws.{alone}\n"
         files = law("specs.Inner.{alone}", "alone ≡ 0")
         self.reaches({"base/specs/Inner.antt": inner, **files}, "twice", "alone")
 
     def test_field(self):
-        self.reaches(law("specs.Laws.{alone}", "(s : S) → s .alone ≡ 0"), "twice")
+        self.reaches(law("specs.Laws.{alone}", "(s : S) → s.alone ≡ 0"), "twice")
 
     def test_kit(self):
-        text = "use Rattle·io.specs.Counts.{C}\n\npub law : C\nlaw = refl\n"
+        text = "use Rattle.io.specs.Counts.{C}\n\npub law : C\nlaw = refl\n"
         self.reaches(theorems(text), "twice")
 
 
@@ -216,7 +231,7 @@ class ListedTest(ListTest):
 
     def test_types(self):
         """One that a definition speaks of, and one that only its field has."""
-        laws = "use Rattle·base·specs.specs.declared.more.Pair.{Pair}\n\n"
+        laws = "use Rattle.base.specs.declared.more.Pair.{Pair}\n\n"
         laws += "abbrev pub twice : Pair → ℕ\ntwice n = 0\n"
         more = "use crate::Kind;\n\npub struct Pair {\n    pub kind: Kind,\n}\n"
         files = {"base/src/more.rt": more, "base/specs/Laws.antt": laws}
@@ -262,7 +277,7 @@ class MissingTest(ListTest):
         self.refuses(law("specs.Gone.{x}", "x ≡ 0"), "crates/base/specs/Gone.antt is not there")
 
     def test_crate(self):
-        text = "use Rattle·gone.specs.Laws.{x}\n\npub law : x ≡ 0\nlaw = refl\n"
+        text = "use Rattle.gone.specs.Laws.{x}\n\npub law : x ≡ 0\nlaw = refl\n"
         self.refuses(theorems(text), "no crate gone")
 
     def test_unknown_lines(self):

@@ -1,5 +1,5 @@
-// The library. For programs in Rattle: reading a plan's text, and the calls on stored plans with the owners of their words. For planning programs in C
-// (include/plq.h): the calls that take a plan as its text and need no storage of the caller's to work in.
+// The library. For programs in Rattle: reading a plan's text, and the calls on stored plans with the owners of their words. Beside these, the calls that take
+// a plan as its text and need no storage of the caller's to work in: `plq_c` exports them to planning programs in C (include/plq.h).
 #![tactic(auto)]
 
 ghost use Rattle.std.specs.Prelude.{◌≡◌};
@@ -27,8 +27,7 @@ pub use text_owners::read as read_plan;
 //   gives    0, and the certificate in the buffer, zero past its end
 //   refuses  reading: 2, then the first line at fault; then factoring: 7 at a row; then writing: 9 for a buffer that is too short
 //   leaves   after a refusal the buffer all zero; the text is only read
-#[unsafe(no_mangle)]
-pub extern "C" fn plq_make_certificate(text: &[u8], buffer: &mut [u8]) -> u64
+pub fn plq_make_certificate(text: &[u8], buffer: &mut [u8]) -> u64
     ensures { Makes text.now result buffer.old buffer.new }
 {
     let mut starts = [0u32; START_CELLS];
@@ -68,8 +67,7 @@ pub extern "C" fn plq_make_certificate(text: &[u8], buffer: &mut [u8]) -> u64
 //   gives    0 exactly if the set that it holds has the published shape and its product is the plan
 //   refuses  reading: 2, then the first line at fault; then checking: 10, 11, 12, 13, 14 at the first position
 //   leaves   nothing: both are only read
-#[unsafe(no_mangle)]
-pub extern "C" fn plq_check_certificate(text: &[u8], certificate: &[u8]) -> u64
+pub fn plq_check_certificate(text: &[u8], certificate: &[u8]) -> u64
     ensures { result ≡ packed (check_text_of text.now certificate.now) }
 {
     let mut starts = [0u32; START_CELLS];
@@ -91,8 +89,7 @@ pub extern "C" fn plq_check_certificate(text: &[u8], certificate: &[u8]) -> u64
 //   gives    0, and the report's lines in the buffer, zero past their end
 //   refuses  reading: 2, then the first line at fault; then factoring: 7 at a row; then a buffer that does not hold the report: 9
 //   leaves   after a refusal the buffer all zero; the text is only read
-#[unsafe(no_mangle)]
-pub extern "C" fn plq_report(text: &[u8], buffer: &mut [u8]) -> u64
+pub fn plq_report(text: &[u8], buffer: &mut [u8]) -> u64
     ensures { ReportsText text.now result buffer.old buffer.new }
 {
     report_text(text, buffer)
@@ -104,8 +101,7 @@ pub extern "C" fn plq_report(text: &[u8], buffer: &mut [u8]) -> u64
 //   refuses  reading: 2, then the first line at fault; without a certificate then factoring: 7 at a row; then 9 for the lengths of y, x and z;
 //            10 to 14 for the certificate; 15 at the first index
 //   leaves   the one of x and z that is not the answer all zero; after a refusal both, and the verdict; the text, the certificate and y are only read
-#[unsafe(no_mangle)]
-pub extern "C" fn plq_answer(
+pub fn plq_answer(
     text: &[u8],
     certificate: &[u8],
     y: &[u32],
