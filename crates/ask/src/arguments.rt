@@ -1,6 +1,5 @@
 // What the program was called with: a verb or none, and values.
 ghost use Rattle.std.specs.Prelude.{◌↔◌, ◌≡◌, true, ◌≤◌, length};
-ghost use Rattle.std.specs.Io.{ReadsAtMost};
 ghost use Rattle.print_text.specs.Labels.{setting_word};
 ghost use Rattle.ask.specs.Verb.{settings_verb};
 
@@ -30,7 +29,7 @@ fn fill(rt: &impl Env, i: usize, field: &mut [u8]) -> usize
 fn is_words(argument: &[u8]) -> bool
     ensures { (result ≡ true) ↔ (argument.now ≡ setting_word) }
 {
-    argument == b"words"
+    argument == b"words".as_slice()
 }
 
 // Whether the first argument is the verb `words`. One that does not fit the buffer is longer.
@@ -44,7 +43,7 @@ pub fn says_words(rt: &impl Env) -> bool {
 fn is_settings(argument: &[u8]) -> bool
     ensures { (result ≡ true) ↔ (argument.now ≡ settings_verb) }
 {
-    argument == b"settings"
+    argument == b"settings".as_slice()
 }
 
 // Whether the only argument is the verb `settings`, which takes no values.
