@@ -1,12 +1,12 @@
 -- Copies of rows, as they are read and as they are made.
 use mathlib.Core.Path.{◌≡◌, sym, ◌∙◌}
 use mathlib.Core.List.{List}
-use Prim.Native.Nat.{ℕ, ◌+◌, ◌-◌, ◌≤◌, ◌<◌}
+use Prim.Native.Nat.{ℕ, ◌+◌, ◌≤◌, ◌<◌}
 use native.Mathlib.Decide.{dec_lt}
 use native.Mathlib.Omega.{arith}
 use lib.ListN.{length, get_or}
 use Rattle.algebra.specs.Matrix.{Vector, Matrix}
-use Rattle.factor_copies.specs.Copies.{Copied, RowCopy, CopiedRows, Kept, Keeping}
+use Rattle.factor_copies.specs.Copies.{Copied, CopiedRows, Kept, Keeping}
 
 -- ---- the same row by another name
 

@@ -12,7 +12,7 @@ use Rattle.sparse.specs.Form.{rises_from}
 use Rattle.sparse.specs.Row.{entry, Row}
 use Rattle.sparse.specs.Matrix.{Compressed, row_of}
 use Rattle.sparse.proofs.Entries.{rises-at, rises-apart, entry_absent}
-use Rattle.factor_copies.specs.Copies.{Copied, Kept, Keeping, HoldReady, RowHeld}
+use Rattle.factor_copies.specs.Copies.{Kept, Keeping, HoldReady, RowHeld}
 use Rattle.factor_copies.specs.Spreading.{SpreadReady, Spread, Worth, CopyRowReady, RowCopied}
 use Rattle.factor_copies.proofs.CopyLaws.{not-held}
 

@@ -4,7 +4,7 @@ use native.Mathlib.Omega.{arith}
 use Rattle.factor_touch.proofs.searching.mark.Goals as goal
 
 pub overflow_cast-result : goal.overflow_cast-result
-overflow_cast-result c = omega (arith, c.shared_slice_known-1.given c.args.b)
+overflow_cast-result c = omega arith
 
 pub returns : goal.returns
-returns c = (refl, omega (arith, c.shared_slice_known-1.given c.args.b))
+returns c = (refl, omega (arith, c.type_inv.marks c.args.b))
