@@ -25,7 +25,7 @@ use Rattle.factor_marked.proofs.Residues.{residues-long, residue-at, residue-twi
 
 -- ---- one pivot
 
-module _ (p k c : ℕ) (U : Compressed) (at limit : ℕ) (place touched pending w lc lv copies : List ℕ) (full : Bool) (h : PivotStepReady p k c U at limit place touched pending w lc lv copies full)
+module _ (p k c : ℕ) (U : Compressed) (at limit : ℕ) (place touched pending w lc lv : List ℕ) (full : Bool) (h : PivotStepReady p k c U at limit place touched pending w lc lv full)
     (touched' pending' w' : List ℕ) (x : ℕ) (full' : Bool) (t : MultipleMarked p k c (matrix U k) place w touched' pending' w' x full') where
   pub pivot-none : x ≡ 0 → PivotMarked p k c (matrix U k) at limit place w lc lv touched' pending' w' lc lv false at full'
   pivot-none z =
@@ -66,8 +66,8 @@ pub record MarkedGathering (p : ℕ) (C : List ℕ) (U : Compressed) (l limit : 
   pub cleared : (j : ℕ) → j < k → get_or w (vector C j) 0 ≡ 0
   pub marks : Marks place touched pending w full
 
-module _ (p : ℕ) (C : List ℕ) (U : Compressed) (l limit : ℕ) (place touched₀ pending₀ w₀ lc₀ lv₀ copies : List ℕ) (full₀ : Bool)
-    (ready : MarkedGatherReady p C U l limit place touched₀ pending₀ w₀ lc₀ lv₀ copies full₀) where
+module _ (p : ℕ) (C : List ℕ) (U : Compressed) (l limit : ℕ) (place touched₀ pending₀ w₀ lc₀ lv₀ : List ℕ) (full₀ : Bool)
+    (ready : MarkedGatherReady p C U l limit place touched₀ pending₀ w₀ lc₀ lv₀ full₀) where
   positive : 0 < p
   positive = ready.rows.upper.positive
 
@@ -166,7 +166,7 @@ module _ (p : ℕ) (C : List ℕ) (U : Compressed) (l limit : ℕ) (place touche
       entry_ready : EntryReady p k c U next limit (residues p w) lc lv
       entry_ready = gathering-ready p C U l limit w₀ lc₀ lv₀ ready.rows (residues p w) lc lv next k s.rows h c ec
 
-      pub marked-ready : PivotStepReady p k c U next limit place touched pending w lc lv copies full
+      pub marked-ready : PivotStepReady p k c U next limit place touched pending w lc lv full
       marked-ready =
           record {
             step = record {
@@ -181,7 +181,6 @@ module _ (p : ℕ) (C : List ℕ) (U : Compressed) (l limit : ℕ) (place touche
               long = omega (arith, ready.placed.long, marked-long);
               places = λ j g. ready.placed.inside j (omega (arith, g, marked-long));
               marks = s.marks;
-              copy = rw marked-long (ready.copied k h);
             };
             lists = entry_ready.lists;
           }

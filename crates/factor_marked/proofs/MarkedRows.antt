@@ -23,7 +23,7 @@ use Rattle.factor_marked.specs.Marking.{residues, Marks, MultiplesMarked, RowMar
 use Rattle.factor_marked.specs.Needs.{Placed, NoteRowReady, MarkedGatherReady, MarkedRowReady, MarkedRowFrom}
 use Rattle.factor_marked.proofs.Marked.{Touches, note-ready, marks-noted, marks-none}
 
-module _ (p i l total : ℕ) (A : Compressed) (C : List ℕ) (U : Compressed) (place touched w lc lv copies : List ℕ) (h : MarkedRowReady p i l total A C U place touched w lc lv copies) where
+module _ (p i l total : ℕ) (A : Compressed) (C : List ℕ) (U : Compressed) (place touched w lc lv : List ℕ) (h : MarkedRowReady p i l total A C U place touched w lc lv) where
   abbrev cs : List ℕ
   cs = row_of A.starts i A.cols
 
@@ -61,14 +61,13 @@ module _ (p i l total : ℕ) (A : Compressed) (C : List ℕ) (U : Compressed) (p
         }
 
     pub loaded-ready : (w₁ : List ℕ) → w₁ ≡ tabulate (length w) (matrix A i) → (limit : ℕ) → limit ≡ l + (length lc - total)
-        → (touched' pending' : List ℕ) (full : Bool) → Noted cs place touched pending touched' pending' full → MarkedGatherReady p C U l limit place touched' pending' w₁ lc lv copies full
+        → (touched' pending' : List ℕ) (full : Bool) → Noted cs place touched pending touched' pending' full → MarkedGatherReady p C U l limit place touched' pending' w₁ lc lv full
     loaded-ready w₁ e limit el touched' pending' full n =
         record {
           rows = gather-ready p i l total A C U w lc lv h.row w₁ e limit (omega arith) (omega (arith, h.row.place, h.row.room));
           placed = rw (long w₁ e) h.placed;
           narrow = omega (arith, h.narrow, long w₁ e);
           marks = marks-noted place touched pending w false unmarked cs touched' pending' w₁ full (long w₁ e) (loaded w₁ e) n;
-          copied = rw (long w₁ e) h.copied;
         }
 
 -- ---- by lists that are cut first
@@ -88,20 +87,16 @@ placed-cut r m columns C place e h s =
     same : (k : ℕ) → k < r → get_or C k 0 ≡ get_or columns k 0
     same k b = ap (λ (c : List ℕ). get_or c k 0) e ∙ get_d-slice 0 r columns k (omega arith) ∙ ap (λ (n : ℕ). get_or columns n 0) (zero-add k)
 
-module _ (p i r at l total : ℕ) (A : Compressed) (columns us uc uv place touched w lc lv copies : List ℕ) (h : MarkedRowFrom p i r at l total A columns us uc uv place touched w lc lv copies)
+module _ (p i r at l total : ℕ) (A : Compressed) (columns us uc uv place touched w lc lv : List ℕ) (h : MarkedRowFrom p i r at l total A columns us uc uv place touched w lc lv)
     (C us₁ uc₁ uv₁ : List ℕ) (eC : C ≡ slice 0 r columns) (es : us₁ ≡ slice 0 (r + 1) us) (ec : uc₁ ≡ slice 0 at uc) (ev : uv₁ ≡ slice 0 at uv) where
-  pub part-ready : MarkedRowReady p i l total A C (compressed us₁ uc₁ uv₁) place touched w lc lv copies
+  pub part-ready : MarkedRowReady p i l total A C (compressed us₁ uc₁ uv₁) place touched w lc lv
   part-ready =
       record {
         row = cut-ready p i r at l total A columns us uc uv w lc lv h.row C us₁ uc₁ uv₁ eC es ec ev;
         placed = placed-cut r (length w) columns C place eC h.row.rank h.placed;
         narrow = h.narrow;
         blocks = h.blocks;
-        copied = rw (es, ec, ev) (λ k b. h.copied k (omega (arith, b, rank)));
       }
-    where
-      rank : length C ≡ r
-      rank = ap length eC ∙ length-take-le r columns h.row.rank
 
   pub part-done : (touched' lc' lv' w₂ : List ℕ) (g : Gathered) → RowMarked p l total (reduction_by p (length w) (length C) C (compressed us₁ uc₁ uv₁) (matrix A i)) lc lv touched' lc' lv' w₂ g
       → RowMarked p l total (reduction_by p (length w) r (take r columns) (cut r at us uc uv) (matrix A i)) lc lv touched' lc' lv' w₂ g

@@ -14,11 +14,10 @@ use Rattle.algebra.proofs.Congruence.{exact, turn, ◌⊙◌, ◌⊕◌, same-mo
 use Rattle.residue.specs.Arithmetic.{Residue}
 use Rattle.sparse.specs.Row.{Row, Below}
 use Rattle.sparse.specs.Matrix.{Compressed, matrix, row_of}
-use Rattle.sparse.specs.WorkingRow.{SubtractedTo, GrownBy, growth}
+use Rattle.sparse.specs.WorkingRow.{SubtractedTo, GrownBy, growth, GrowMatrixReady}
 use Rattle.sparse.proofs.Entries.{row-columns, entry_absent}
 use Rattle.sparse.proofs.Rows.{form-row, form-starts}
 use Rattle.sparse.proofs.Subtraction.{below_set}
-use Rattle.factor_copies.specs.Copies.{CopyReady}
 use Rattle.factor_touch.specs.Touched.{Noted}
 use Rattle.factor_reduce.specs.InPlace.{MultipleTaken}
 use Rattle.factor_marked.specs.Marking.{residues, cell_bound, StillZero, MultipleMarked}
@@ -58,7 +57,7 @@ still-cleared u c w₀ w h s j b e z = go (ℕ_discrete j c)
     go (yes q) = rw q (get_or-set_same w c 0 0 h)
     go (no q) = get_or-set_other w c j 0 0 q ∙ s j b e z
 
-module _ (p k c : ℕ) (U : Compressed) (place touched pending w copies : List ℕ) (full : Bool) (h : MultipleReady p k c U place touched pending w copies full) where
+module _ (p k c : ℕ) (U : Compressed) (place touched pending w : List ℕ) (full : Bool) (h : MultipleReady p k c U place touched pending w full) where
   row : Row p (length w) (row_of U.starts k U.cols) (row_of U.starts k U.vals)
   row = form-row p (length w) U.starts U.cols U.vals h.formed k
 
@@ -72,12 +71,9 @@ module _ (p k c : ℕ) (U : Compressed) (place touched pending w copies : List �
       }
 
   module _ (x : ℕ) (e : Residue p (get_or w c 0 % p) x) where
-    pub row-takeable : (x ≡ 0 → ⊥) → CopyReady p k x U copies w
+    pub row-takeable : (x ≡ 0 → ⊥) → GrowMatrixReady p k x U w
     row-takeable some =
-        record {
-          grow = record { formed = h.formed; inside = h.inside; residue = e.below; some = go (ℕ_discrete x 0); room = λ small. bound-room p w k h.few small h.below };
-          copy = h.copy;
-        }
+        record { formed = h.formed; inside = h.inside; residue = e.below; some = go (ℕ_discrete x 0); room = λ small. bound-room p w k h.few small h.below }
       where
         go : Dec (x ≡ 0) → 0 < x
         go (yes z) = absurd (some z)

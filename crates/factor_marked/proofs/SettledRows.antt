@@ -150,12 +150,12 @@ module _ (p r at l next total : ℕ) (touched w lc lv uc uv : List ℕ) (h : Rem
 
 -- ---- the row is gathered first
 
-module _ (p i r at l total : ℕ) (A : Compressed) (columns us place w lc lv uc uv copies : List ℕ) (h : MarkedReady p i r at l total A columns us place w copies (entry_lists_of lc lv uc uv)) where
+module _ (p i r at l total : ℕ) (A : Compressed) (columns us place w lc lv uc uv : List ℕ) (h : MarkedReady p i r at l total A columns us place w (entry_lists_of lc lv uc uv)) where
   abbrev reduction : Reduction
   reduction = reduction_by p (length w) r (take r columns) (cut r at us uc uv) (matrix A i)
 
-  pub row-ready : (touched : List ℕ) → length touched ≡ 129 → MarkedRowFrom p i r at l total A columns us uc uv place touched w lc lv copies
-  row-ready touched e = record { row = h.other.row; placed = h.placed; narrow = h.narrow; blocks = e; copied = h.copied }
+  pub row-ready : (touched : List ℕ) → length touched ≡ 129 → MarkedRowFrom p i r at l total A columns us uc uv place touched w lc lv
+  row-ready touched e = record { row = h.other.row; placed = h.placed; narrow = h.narrow; blocks = e }
 
   module _ (touched lc₁ lv₁ w₁ : List ℕ) (o : Gathered) (g : RowMarked p l total reduction lc lv touched lc₁ lv₁ w₁ o) where
     pub marked-over : o.over ≡ true → (uc' uv' row' : List ℕ) (found at' l' total' : ℕ) → RowFound p at l total reduction (entry_lists_of lc lv uc uv) (entry_lists_of lc₁ lv₁ uc' uv') row' (record { over = true; column = found; at = at'; l = l'; total = total' })

@@ -2,23 +2,21 @@
 --   PivotOf r C j                            j is the column of a pivot, one of C[0] to C[r - 1]
 --   Placed r C place m                       `place` gives each of m columns the number of its pivot, those of C[0] to C[r - 1], and 2048 where it is none
 --   NoteRowReady full k starts cols ..       the columns of row k of a stored matrix can be marked
---   MultipleReady p k c U place ..           a multiple of row k of U, which is 1 at column c, can be taken away, by way of its copy where it has one, and its columns marked
+--   MultipleReady p k c U x place ..         x times row k of U, which is 1 at column c, can be taken away, and its columns marked
 --   PivotStepReady p k c U at limit ..       the same, and the multiple can be stored at place `at`
---   MarkedGatherReady p C U l limit ..       the row can be reduced by all rows of U, as many as there are pivot columns, by way of their copies where they have one, and the multiples stored from place l on
+--   MarkedGatherReady p C U l limit ..       the row can be reduced by all rows of U, as many as there are pivot columns, and the multiples stored from place l on
 --   MarkedRowReady p i l total A C U ..      row i of the matrix can be loaded and reduced so
 --   MarkedRowFrom p i r at l total A ..      the same by r rows of U with `at` entries, of lists that are not cut
 --   SettledPivotReady p c n r at l ..        the settled working row, with n cells that are not 0, is not 0 at column c
 --   RemainderReady p r at l total ..         what remains in the working row can be settled and taken
---   MarkedReady p i r at l total A ..        row i can be reduced by the rows of U, by way of their copies where they have one, and taken; the working row has 2048 cells at most
+--   MarkedReady p i r at l total A ..        row i can be reduced by the rows of U and taken; the working row has 2048 cells at most
 use Rattle.std.specs.Prelude.{ℕ, ◌+◌, ◌*◌, ◌^◌, ◌≤◌, ◌<◌, ◌≡◌, Bool, true, List, length, get_or}
 use Rattle.algebra.specs.Prime.{Prime}
 use Rattle.sparse.specs.Row.{Below}
 use Rattle.sparse.specs.Matrix.{Compressed, form, matrix, row_of}
 use Rattle.sparse.specs.Dense.{nonzeros, scaled}
-use Rattle.factor_copies.specs.Copies.{RowCopy, CopiedRows}
 use Rattle.factor_touch.specs.Touched.{cell_block, Covers, NoteReady}
 use Rattle.factor_reduce.specs.Needs.{RoomTo, GatherReady}
-use Rattle.factor_row.specs.Gathering.{cut}
 use Rattle.factor_row.specs.Entries.{EntryLists}
 use Rattle.factor_row.specs.Needs.{GatherRowReady, GatherReadyFrom, ListsReady, PivotReady, OtherReady}
 use Rattle.factor_marked.specs.Marking.{cell_bound, Marks}
@@ -41,7 +39,7 @@ pub record NoteRowReady (full : Bool) (k : ℕ) (starts cols place touched pendi
   pub lies : (get_or starts k 0 ≤ get_or starts (k + 1) 0) × (get_or starts (k + 1) 0 ≤ length cols)
   pub note : NoteReady full (row_of starts k cols) place touched pending
 
-pub record MultipleReady (p k c : ℕ) (U : Compressed) (place touched pending w copies : List ℕ) (full : Bool) : Type 0 where
+pub record MultipleReady (p k c : ℕ) (U : Compressed) (place touched pending w : List ℕ) (full : Bool) : Type 0 where
   pub positive : 0 < p
   pub formed : form p (length w) U ≡ true
   pub inside : k + 1 < length U.starts
@@ -53,36 +51,32 @@ pub record MultipleReady (p k c : ℕ) (U : Compressed) (place touched pending w
   pub long : length w ≤ length place
   pub places : (j : ℕ) → j < length w → get_or place j 0 ≤ 2048
   pub marks : Marks place touched pending w full
-  pub copy : RowCopy p (length w) (matrix U k) k copies
 
-pub record PivotStepReady (p k c : ℕ) (U : Compressed) (at limit : ℕ) (place touched pending w lc lv copies : List ℕ) (full : Bool) : Type 0 where
-  pub step : MultipleReady p k c U place touched pending w copies full
+pub record PivotStepReady (p k c : ℕ) (U : Compressed) (at limit : ℕ) (place touched pending w lc lv : List ℕ) (full : Bool) : Type 0 where
+  pub step : MultipleReady p k c U place touched pending w full
   pub lists : RoomTo at limit lc lv
 
 -- ---- by all rows of U
 
-pub record MarkedGatherReady (p : ℕ) (C : List ℕ) (U : Compressed) (l limit : ℕ) (place touched pending w lc lv copies : List ℕ) (full : Bool) : Type 0 where
+pub record MarkedGatherReady (p : ℕ) (C : List ℕ) (U : Compressed) (l limit : ℕ) (place touched pending w lc lv : List ℕ) (full : Bool) : Type 0 where
   pub rows : GatherReady p C U l limit w lc lv
   pub placed : Placed (length C) C place (length w)
   pub narrow : length w ≤ 2048
   pub marks : Marks place touched pending w full
-  pub copied : CopiedRows p (length C) (length w) (matrix U) copies
 
 -- ---- a row of the matrix
 
-pub record MarkedRowReady (p i l total : ℕ) (A : Compressed) (C : List ℕ) (U : Compressed) (place touched w lc lv copies : List ℕ) : Type 0 where
+pub record MarkedRowReady (p i l total : ℕ) (A : Compressed) (C : List ℕ) (U : Compressed) (place touched w lc lv : List ℕ) : Type 0 where
   pub row : GatherRowReady p i l total A C U w lc lv
   pub placed : Placed (length C) C place (length w)
   pub narrow : length w ≤ 2048
   pub blocks : length touched ≡ 129
-  pub copied : CopiedRows p (length C) (length w) (matrix U) copies
 
-pub record MarkedRowFrom (p i r at l total : ℕ) (A : Compressed) (columns us uc uv place touched w lc lv copies : List ℕ) : Type 0 where
+pub record MarkedRowFrom (p i r at l total : ℕ) (A : Compressed) (columns us uc uv place touched w lc lv : List ℕ) : Type 0 where
   pub row : GatherReadyFrom p i r at l total A columns us uc uv w lc lv
   pub placed : Placed r columns place (length w)
   pub narrow : length w ≤ 2048
   pub blocks : length touched ≡ 129
-  pub copied : CopiedRows p r (length w) (matrix (cut r at us uc uv)) copies
 
 -- ---- it is taken
 
@@ -99,8 +93,7 @@ pub record RemainderReady (p r at l total : ℕ) (touched w : List ℕ) (e : Ent
   pub covers : Covers cell_block touched w
   pub lists : ListsReady (length w) r at l total e
 
-pub record MarkedReady (p i r at l total : ℕ) (A : Compressed) (columns us place w copies : List ℕ) (e : EntryLists) : Type 0 where
+pub record MarkedReady (p i r at l total : ℕ) (A : Compressed) (columns us place w : List ℕ) (e : EntryLists) : Type 0 where
   pub other : OtherReady p i r at l total A columns us w e
   pub placed : Placed r columns place (length w)
   pub narrow : length w ≤ 2048
-  pub copied : CopiedRows p r (length w) (matrix (cut r at us e.uc e.uv)) copies

@@ -1,5 +1,5 @@
 // A row less multiples of the rows of U, row after row, as `factor_reduce` has it. Pivots at whose columns the row is 0 are passed
-// over, and rows that have a copy are taken away by it.
+// over.
 ghost use Rattle.sparse.specs.Matrix.{matrix};
 ghost use Rattle.sparse.specs.Views.{stored_at, stored_before};
 ghost use Rattle.factor_marked.specs.Marking.{MultipleMarked, PivotMarked, MultiplesMarked};
@@ -7,10 +7,10 @@ ghost use Rattle.factor_marked.specs.Needs.{MultipleReady, PivotStepReady, Marke
 
 use crate::next_pivot::next_pivot;
 use crate::noting::note_stored_row;
-use factor_copies::taking::take_copied;
 use factor_reduce::gather::Gathered;
 use lists::index;
 use residue::Modulus;
+use sparse::growing::grow_list_row;
 
 // A multiple that was taken away, and whether all blocks are marked.
 #[derive(Clone, Copy)]
@@ -41,16 +41,15 @@ fn take_multiple(
     touched: &mut [u8],
     pending: &mut [u8],
     work: &mut [u64],
-    copies: &[u32],
 ) -> Multiple
-    requires { MultipleReady q.p k c (stored_at us.now uc.now uv.now) place.now touched.old pending.old work.old copies.now full }
+    requires { MultipleReady q.p k c (stored_at us.now uc.now uv.now) place.now touched.old pending.old work.old full }
     ensures { MultipleMarked q.p k c (matrix (stored_before us.now uc.now uv.now) k) place.now work.old touched.new pending.new work.new result.x result.full }
 {
     let x = q.reduce_cell(work[c]);
     let mut all = full;
     if x != 0 {
         all = note_stored_row(full, us, uc, k, place, touched, pending);
-        take_copied(q, us, uc, uv, copies, k, x, work);
+        grow_list_row(q, us, uc, uv, k, x, work);
     }
     work[c] = 0;
     Multiple { x: x, full: all }
@@ -73,14 +72,11 @@ fn gather_pivot(
     work: &mut [u64],
     lc: &mut [u32],
     lv: &mut [u32],
-    copies: &[u32],
 ) -> Progress
-    requires { PivotStepReady q.p k c (stored_at us.now uc.now uv.now) at limit place.now touched.old pending.old work.old lc.old lv.old copies.now full }
+    requires { PivotStepReady q.p k c (stored_at us.now uc.now uv.now) at limit place.now touched.old pending.old work.old lc.old lv.old full }
     ensures { PivotMarked q.p k c (matrix (stored_before us.now uc.now uv.now) k) at limit place.now work.old lc.old lv.old touched.new pending.new work.new lc.new lv.new result.over result.next result.full }
 {
-    let t = take_multiple(
-        q, us, uc, uv, k, c, full, place, touched, pending, work, copies,
-    );
+    let t = take_multiple(q, us, uc, uv, k, c, full, place, touched, pending, work);
     let x = t.x;
     let all = t.full;
     if x == 0 {
@@ -124,9 +120,8 @@ pub fn gather_marked(
     work: &mut [u64],
     lc: &mut [u32],
     lv: &mut [u32],
-    copies: &[u32],
 ) -> Gathered
-    requires { MarkedGatherReady q.p co.now (stored_at us.now uc.now uv.now) l limit place.now touched.old pending.old work.old lc.old lv.old copies.now noted }
+    requires { MarkedGatherReady q.p co.now (stored_at us.now uc.now uv.now) l limit place.now touched.old pending.old work.old lc.old lv.old noted }
     ensures { MultiplesMarked q.p co.now (stored_before us.now uc.now uv.now) l limit work.old lc.old lv.old touched.new work.new lc.new lv.new result }
 {
     let mut full = noted;
@@ -135,7 +130,7 @@ pub fn gather_marked(
     while k < co.len() {
         let c = index(co[k]);
         let g = gather_pivot(
-            q, us, uc, uv, k, c, next, limit, full, place, touched, pending, work, lc, lv, copies,
+            q, us, uc, uv, k, c, next, limit, full, place, touched, pending, work, lc, lv,
         );
         if g.over {
             return Gathered {

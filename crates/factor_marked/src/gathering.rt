@@ -32,9 +32,8 @@ fn gather_cut(
     lc: &mut [u32],
     lv: &mut [u32],
     work: &mut [u64],
-    copies: &[u32],
 ) -> Gathered
-    requires { MarkedRowReady q.p i l total (stored_at starts.now cols.now vals.now) co.now (stored_at us.now uc.now uv.now) place.now touched.old work.old lc.old lv.old copies.now }
+    requires { MarkedRowReady q.p i l total (stored_at starts.now cols.now vals.now) co.now (stored_at us.now uc.now uv.now) place.now touched.old work.old lc.old lv.old }
     ensures { RowMarked q.p l total (reduction_by q.p (length work.old) (length co.now) co.now (stored_before us.now uc.now uv.now) (row_before starts.now cols.now vals.now i)) lc.old lv.old touched.new lc.new lv.new work.new result }
 {
     let mut pending = [0u8; 129];
@@ -57,7 +56,6 @@ fn gather_cut(
         work,
         lc,
         lv,
-        copies,
     )
 }
 
@@ -81,9 +79,8 @@ pub fn gather_row(
     lc: &mut [u32],
     lv: &mut [u32],
     work: &mut [u64],
-    copies: &[u32],
 ) -> Gathered
-    requires { MarkedRowFrom q.p i r at l total (stored_at starts.now cols.now vals.now) co.now us.now uc.now uv.now place.now touched.old work.old lc.old lv.old copies.now }
+    requires { MarkedRowFrom q.p i r at l total (stored_at starts.now cols.now vals.now) co.now us.now uc.now uv.now place.now touched.old work.old lc.old lv.old }
     ensures { RowMarked q.p l total (reduction_by q.p (length work.old) r (front_before r co.now) (cut_before r at us.now uc.now uv.now) (row_before starts.now cols.now vals.now i)) lc.old lv.old touched.new lc.new lv.new work.new result }
 {
     gather_cut(
@@ -103,6 +100,5 @@ pub fn gather_row(
         lc,
         lv,
         work,
-        copies,
     )
 }

@@ -67,9 +67,8 @@ pub fn take_marked(
     uc: &mut [u32],
     uv: &mut [u32],
     work: &mut [u64],
-    copies: &[u32],
 ) -> Step
-    requires { MarkedReady q.p i r at l total (stored_at starts.now cols.now vals.now) co.now us.now place.now work.old copies.now (entries_at lc.old lv.old uc.old uv.old) }
+    requires { MarkedReady q.p i r at l total (stored_at starts.now cols.now vals.now) co.now us.now place.now work.old (entries_at lc.old lv.old uc.old uv.old) }
     ensures { RowFound q.p at l total (reduction_by q.p (length work.old) r (front_before r co.now) (cut_before r at us.now uc.old uv.old) (row_before starts.now cols.now vals.now i)) (entries_before lc.old lv.old uc.old uv.old) (entries_after lc.new lv.new uc.new uv.new) work.new result }
 {
     let mut touched = [0u8; 129];
@@ -92,7 +91,6 @@ pub fn take_marked(
         lc,
         lv,
         work,
-        copies,
     );
     if g.over {
         return Step {
