@@ -23,7 +23,7 @@ from worked import EIGHT_LEFT, PLAN_D
 
 PROGRAM = Path(__file__).resolve().parents[2] / "crates" / "case_factoring"
 ARGUMENT = r'b"[^"]*"|[\w:]+'
-CALL = re.compile(rf'\b(show|room|changed)\(\s*(b"[^"]*"(?:,\s*(?:{ARGUMENT}))*),?\s*\);')
+CALL = re.compile(rf'\b(show|room|changed)\(\s*rt,\s*(b"[^"]*"(?:,\s*(?:{ARGUMENT}))*),?\s*\);')
 
 PLAIN_ROOM = 16
 D_LOWER, D_UPPER = 6, 7

@@ -15,7 +15,7 @@ from model.plan_text import read_plan
 from model.refusals import LENGTH, Refusal
 
 PROGRAM = Path(__file__).resolve().parents[2] / "crates" / "case_reading"
-CALL = re.compile(r'\b([a-z]+)_case\(\s*(b"[^"]*")((?:,\s*\d+)*),?\s*\);')
+CALL = re.compile(r'\b([a-z]+)_case\(\s*rt,\s*(b"[^"]*")((?:,\s*\d+)*),?\s*\);')
 
 # The files that name cases, as their cases are run.
 SOURCES = ("main.rt", "owners.rt")
