@@ -17,7 +17,6 @@ use Rattle.sparse.proofs.DenseForm.{compress-form}
 use Rattle.sparse.proofs.Rows.{form-below}
 use Rattle.factor_reduce.specs.Needs.{EchelonReady}
 use Rattle.elimination.specs.Pivots.{Found, columns_of, uppers_of, rank_of, turn}
-use Rattle.elimination.specs.Factoring.{entries}
 use Rattle.elimination.specs.Invariant.{Invariant, Echelon}
 use Rattle.elimination.proofs.Invariant.{uppers-many}
 use Rattle.elimination.proofs.Echelon.{echelon-distinct}
