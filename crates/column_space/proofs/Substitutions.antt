@@ -5,7 +5,7 @@
 --   settle-kept, settle-small, settle-right     s: only the pivot cells are written, residues, U s = t
 use mathlib.Core.Path.{◌≡◌, refl, sym, ap, ap₂, ◌∙◌}
 use mathlib.Core.Logic.{◌≢◌, ◌⊎◌, inl, inr}
-use Prim.Native.Nat.{ℕ, zero, suc, ◌+◌, ◌-◌, ◌*◌, ◌%◌, ◌≤◌, ◌<◌}
+use Prim.Native.Nat.{ℕ, zero, suc, ◌+◌, ◌*◌, ◌%◌, ◌≤◌, ◌<◌}
 use native.Mathlib.Nat.{mod-lt, lt-suc_self, eq-or-lt_of_le}
 use native.Mathlib.Omega.{arith}
 use Rattle.algebra.specs.Congruence.{◌≈⟨◌⟩◌}
