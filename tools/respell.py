@@ -17,7 +17,7 @@ DECLARED = (
     re.compile(r"^(?:(?:abbrev|opaque|unfoldable|pub) )*([a-z_][\w'′-]*)\s*:\s"),
     re.compile(r"^\s+pub ([a-z_][\w'′-]*)\s*:\s"),
     re.compile(r"^(?:(?:abbrev|opaque|unfoldable|pub) )*([a-z_][\w'′-]*)(?: \{[^{}]*\})*\s*:\s"),
-    re.compile(r"^\s+([a-z_][\w'′-]*)\s*:\s"),
+    re.compile(r"^\s+(?:(?:abbrev|pub) )*([a-z_][\w'′-]*)\s*:\s"),
 )
 # Lemmas that a definition would meet in a file: the lemma gets the ending that the library gives to such lemmas.
 TWO = {
@@ -66,8 +66,9 @@ def main():
             continue
         with open(p, encoding="utf-8", errors="surrogateescape") as f:
             old = f.read()
-        new = turn(old, TWO.get(p, {}))
-        new = turn(new, turned)
+        new = turn(old, turned)
+        if new != old:
+            new = turn(turn(old, TWO.get(p, {})), turned)
         if new != old:
             with open(p, "w", encoding="utf-8", errors="surrogateescape") as f:
                 f.write(new)

@@ -25,20 +25,20 @@ use Rattle.text_owners.specs.Ending.{is_last_line, end_in, lines_in, plan_end, p
 
 -- ---- the lines of a plan's text with something after it
 
-abbrev lines_then_lem : List StatedEntry → Pieces → Pieces
-lines_then_lem [] rest = more last_line rest
-lines_then_lem (t ∷ ts) rest = more (triple_text t) (lines_then_lem ts rest)
+abbrev lines_then : List StatedEntry → Pieces → Pieces
+lines_then [] rest = more last_line rest
+lines_then (t ∷ ts) rest = more (triple_text t) (lines_then ts rest)
 
 line-then : (l r foot : List ℕ) → Free 10 l → pieces 10 ((l ++ 10 ∷ r) ++ foot) ≡ more l (pieces 10 (r ++ foot))
 line-then l r foot h = ap (pieces 10) (append_assoc l (10 ∷ r) foot) ∙ pieces-line 10 l (r ++ foot) h
 
-lines_then_lem : (ts : List StatedEntry) (foot : List ℕ) → pieces 10 (joined 10 (triple_lines ts) ++ foot) ≡ lines_then_lem ts (pieces 10 foot)
+lines_then_lem : (ts : List StatedEntry) (foot : List ℕ) → pieces 10 (joined 10 (triple_lines ts) ++ foot) ≡ lines_then ts (pieces 10 foot)
 unfolding triple_lines joined
 lines_then_lem [] foot = line-then last_line [] foot (free-triple _)
 lines_then_lem (t ∷ ts) foot = line-then (triple_text t) (joined 10 (triple_lines ts)) foot (free-triple t) ∙ ap (more (triple_text t)) (lines_then_lem ts foot)
 
 text-then : (s : Sizes) (ts : List StatedEntry) (foot : List ℕ)
-    → pieces 10 (plan_text s ts ++ foot) ≡ more (decimal s.modulus.p) (more (sizes_text s) (lines_then_lem ts (pieces 10 foot)))
+    → pieces 10 (plan_text s ts ++ foot) ≡ more (decimal s.modulus.p) (more (sizes_text s) (lines_then ts (pieces 10 foot)))
 unfolding plan_text joined
 text-then s ts foot =
     line-then (decimal s.modulus.p) (sizes_text s ++ 10 ∷ joined 10 (triple_lines ts)) foot (free-decimal 10 s.modulus.p (omega arith))
@@ -104,14 +104,14 @@ unfolding lines_in
 lines-here t = rw last-is
 
 module _ (s : Sizes) (few : s.n ≤ largest_size) (rest : Pieces) where
-  triples-end : (ts : List StatedEntry) (seen : List Entry) → StandApart s seen ts → end_in (lines_then_lem ts rest) ≡ length (joined 10 (triple_lines ts))
+  triples-end : (ts : List StatedEntry) (seen : List Entry) → StandApart s seen ts → end_in (lines_then ts rest) ≡ length (joined 10 (triple_lines ts))
   unfolding triple_lines joined
   triples-end [] seen h = end-here rest
-  triples-end (t ∷ ts) seen h = end_on (triple_text t) (lines_then_lem ts rest) (joined 10 (triple_lines ts)) (triple-not s seen t few h.0) (triples-end ts _ h.1)
+  triples-end (t ∷ ts) seen h = end_on (triple_text t) (lines_then ts rest) (joined 10 (triple_lines ts)) (triple-not s seen t few h.0) (triples-end ts _ h.1)
 
-  triples-lines : (ts : List StatedEntry) (seen : List Entry) → StandApart s seen ts → lines_in (lines_then_lem ts rest) ≡ length ts + 1
+  triples-lines : (ts : List StatedEntry) (seen : List Entry) → StandApart s seen ts → lines_in (lines_then ts rest) ≡ length ts + 1
   triples-lines [] seen h = lines-here rest
-  triples-lines (t ∷ ts) seen h = lines-on (triple_text t) (lines_then_lem ts rest) (length ts + 1) (triple-not s seen t few h.0) (triples-lines ts _ h.1) ∙ omega arith
+  triples-lines (t ∷ ts) seen h = lines-on (triple_text t) (lines_then ts rest) (length ts + 1) (triple-not s seen t few h.0) (triples-lines ts _ h.1) ∙ omega arith
 
 -- ---- of a text that states a plan, with something after it
 

@@ -23,7 +23,7 @@ use Rattle.text_fields.specs.declared.numbers.Number.{Number}
 use Rattle.text_fields.specs.declared.numbers.Number.TheVariants.{Value, NotNumber}
 use Rattle.text_fields.proofs.Canonical.{number-prints, number-printed}
 use Rattle.text_fields.proofs.Joins.{Free, free-append, free-decimal, pieces-free, pieces-line, joined-pieces}
-use Rattle.text_owners.specs.Owners.{is_owners_word, fields_in, with_number, field_numbers, of_length, after_word, owners_line, all_bytes, OwnersRead, not_read, owned, after_line, on_line_lem, owners_in}
+use Rattle.text_owners.specs.Owners.{is_owners_word, fields_in, with_number, field_numbers, of_length, after_word, owners_line, all_bytes, OwnersRead, not_read, owned, after_line, on_line, owners_in}
 use Rattle.text_owners.specs.Stating.{owner_fields, owners_text, StatesOwners}
 
 -- ---- owners that are bytes
@@ -206,7 +206,7 @@ ends-owned k ws (last []) vs e = (refl, cc)
 ends-owned k ws (last (b ∷ bs)) vs e = not-owned e
 ends-owned k ws (more l t) vs e = not-owned e
 
-on-line-owned : (k : ℕ) (rest : Pieces) (o : Option (List ℕ)) (vs : List ℕ) → on_line_lem k rest o ≡ owned vs → (o ≡ some vs) × (all_bytes vs ≡ true) × (rest ≡ last [])
+on-line-owned : (k : ℕ) (rest : Pieces) (o : Option (List ℕ)) (vs : List ℕ) → on_line k rest o ≡ owned vs → (o ≡ some vs) × (all_bytes vs ≡ true) × (rest ≡ last [])
 on-line-owned k rest none vs e = not-owned e
 on-line-owned k rest (some ws) vs e = go (all_bytes ws) refl e
   where
@@ -254,6 +254,6 @@ foot-refused m k (more l rest) = on_line_lem (owners_line m l)
     bytes true vs = after vs rest
     bytes false vs = inr refl
 
-    on_line_lem : (o : Option (List ℕ)) → FootRefused (on_line_lem k rest o)
+    on_line_lem : (o : Option (List ℕ)) → FootRefused (on_line k rest o)
     on_line_lem none = inl refl
     on_line_lem (some vs) = bytes (all_bytes vs) vs

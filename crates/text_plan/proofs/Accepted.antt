@@ -27,7 +27,7 @@ use Rattle.text_judge.specs.declared.judge.Sizes.{Sizes}
 use Rattle.text_judge.specs.declared.judge.Verdict.{Verdict}
 use Rattle.text_judge.specs.declared.judge.Verdict.TheVariants.{Refused, Last, Entry as AnEntry}
 use Rattle.limits.specs.Limits.{largest_size, largest_text}
-use Rattle.text_judge.specs.Line.{fields_of, line_of, line_in, line_with, header_of, header_in, header_with, is_m_lem}
+use Rattle.text_judge.specs.Line.{fields_of, line_of, line_in, line_with, header_of, header_in, header_with, is_m}
 use Rattle.text_judge.specs.Judge.{may_stand}
 use Rattle.text_opening.specs.Reading.{Entry, refused, accepted, kept, fresh, verdict_on, ending, onward, triples, with_sizes, from_second, with_modulus, from_first, read_by, read_of}
 use Rattle.text_plan.specs.Stating.{StatedEntry, triple_text, sizes_text, triple_lines, plan_text, entry_of, StandApart, States}
@@ -142,7 +142,7 @@ triples-sizes s s' room p k out e = (triples-back s s' room p k [] out zero-le e
 no_header : {A : Type 0} {n m : ℕ} → NotHeader ≡ Given n m → A
 no_header e = let z : ◌≡◌ {A = ℕ} 0 1 = cc in absurd (omega arith)
 
-is_m_lem : (l : List ℕ) → is_m_lem l ≡ true → l ≡ 77 ∷ []
+is_m_lem : (l : List ℕ) → is_m l ≡ true → l ≡ 77 ∷ []
 is_m_lem [] e = false-true e
 is_m_lem (b ∷ []) e = ap (λ (k : ℕ). k ∷ []) (eqb-true b 77 e)
 is_m_lem (b ∷ c ∷ cs) e = false-true e
@@ -162,7 +162,7 @@ header-prints l s e = go (pieces 32 l) refl e
     go (more a (last b)) q x = no_header x
     go (more a (more b (more c t))) q x = no_header x
     go (more a (more b (last c))) q x =
-        let f = header-parts (number_in a) (number_in b) (is_m_lem c) s.n s.m x in
+        let f = header-parts (number_in a) (number_in b) (is_m c) s.n s.m x in
         sym (joined-pieces 32 l) ∙ ap (joined 32) q ∙ rw ((number-prints a s.n f.0).1, (number-prints b s.m f.1).1, is_m_lem c f.2)
 
 -- ---- the whole text
