@@ -34,17 +34,17 @@ use Rattle.ask_lib.specs.Held.{stages_refusal, staged_then}
 -- ---- the refusal that the stages ended with
 
 module _ (s : Stages) where
-  abbrev factoringTold : Outcome
-  factoringTold = counted_from_one 7 s.factored.outcome
+  abbrev factoring_told : Outcome
+  factoring_told = counted_from_one 7 s.factored.outcome
 
   pub refused-reading : {k d : ℕ} → s.reading.outcome ≡ Refused k d → s.reading.outcome ≡ stages_refusal s
   unfolding stages_refusal
-  refused-reading e = stops s.reading.outcome s.reading.outcome factoringTold _ _ e refl
+  refused-reading e = stops s.reading.outcome s.reading.outcome factoring_told _ _ e refl
 
   module _ (done : s.reading.outcome ≡ Passed) where
-    told : factoringTold ≡ stages_refusal s
+    told : factoring_told ≡ stages_refusal s
     unfolding stages_refusal
-    told = sym (after-passed s.reading.outcome factoringTold done)
+    told = sym (after-passed s.reading.outcome factoring_told done)
 
     pub refused-factoring : {k d row : ℕ} → s.factored.outcome ≡ Refused k d → row ≡ detail_from_one 7 k d → Refused k row ≡ stages_refusal s
     refused-factoring {k = k} e q = ap (Refused k) q ∙ ap (counted_from_one 7) (sym e) ∙ told
@@ -54,7 +54,7 @@ module _ (s : Stages) where
 
   pub read_done : stages_refusal s ≡ Passed → s.reading.outcome ≡ Passed
   unfolding stages_refusal
-  read_done e = (both-passed s.reading.outcome factoringTold e).0
+  read_done e = (both-passed s.reading.outcome factoring_told e).0
 
 -- ---- the line
 
@@ -67,7 +67,7 @@ module _ (s : Stages) (o : Outcome) (told_is : o ≡ stages_refusal s) (line : L
   unfolding staged_then stages_refusal
   staged-is =
       ap (λ (u : Outcome). printed u line) told_is
-      ∙ sym (printed-then s.reading.outcome (factoringTold s) line)
+      ∙ sym (printed-then s.reading.outcome (factoring_told s) line)
 
   pub refused-line : (k d : ℕ) → o ≡ Refused k d → refusal_text k d ≡ staged_then s line
   refused-line k d q = ap (λ (u : Outcome). printed u line) (sym q) ∙ staged-is
@@ -86,7 +86,7 @@ module _ (text : List ℕ) (s : Stages) (A : Compressed) (w₀ : List ℕ) (h : 
 
   -- two lines that are the same where the stages passed
   module _ (line line' : List ℕ) (same : s.reading.outcome ≡ Passed → s.factored.outcome ≡ Passed → line ≡ line') where
-    same_after : s.reading.outcome ≡ Passed → printed (factoringTold s) line ≡ printed (counted_from_one 7 f.outcome) line'
+    same_after : s.reading.outcome ≡ Passed → printed (factoring_told s) line ≡ printed (counted_from_one 7 f.outcome) line'
     same_after done = go s.factored.outcome refl ∙ ap (λ (o : Outcome). printed (counted_from_one 7 o) line') (staged.factors done).outcome-is
       where
         go : (o : Outcome) → s.factored.outcome ≡ o → printed (counted_from_one 7 o) line ≡ printed (counted_from_one 7 o) line'
@@ -97,7 +97,7 @@ module _ (text : List ℕ) (s : Stages) (A : Compressed) (w₀ : List ℕ) (h : 
     unfolding staged_then
     same-printed = go s.reading.outcome refl ∙ ap (λ (q : Reading). printed q.outcome (printed (counted_from_one 7 f.outcome) line')) staged.reading-is
       where
-        go : (o : Outcome) → s.reading.outcome ≡ o → printed o (printed (factoringTold s) line) ≡ printed o (printed (counted_from_one 7 f.outcome) line')
+        go : (o : Outcome) → s.reading.outcome ≡ o → printed o (printed (factoring_told s) line) ≡ printed o (printed (counted_from_one 7 f.outcome) line')
         go Passed e = same_after e
         go (Refused k d) e = refl
 

@@ -30,7 +30,7 @@ use Rattle.stages.specs.Staged.{held_set, Staged}
 use Rattle.stages.specs.Meaning.{factors_of}
 use Rattle.stages.specs.declared.Stages.{Stages}
 use Rattle.stages.proofs.Outcomes.{not-passed}
-use Rattle.stages.proofs.ReadText.{outcome-passed, reading-good, firstRow, wholeSet, factored-is}
+use Rattle.stages.proofs.ReadText.{outcome-passed, reading-good, first_row, whole_set, factored-is}
 use Rattle.stages.proofs.Passing.{factors-pass}
 use Rattle.ask_lib.specs.Held.{stages_refusal}
 use Rattle.ask_settings.specs.Held.{KernelReady}
@@ -82,12 +82,12 @@ module _ (text : List ℕ) (states : StatesText largest_entries text) where
       }
 
   pub factored-set : (factored_of (reading text)).outcome ≡ Passed → set_factored (factored_of (reading text)) ≡ set
-  factored-set e = go (firstRow text) refl
+  factored-set e = go (first_row text) refl
     where
-      go : (o : Option ℕ) → firstRow text ≡ o → set_factored (factored_of (reading text)) ≡ set
-      go none q = ap set_factored (factored-is text states ∙ ap (λ (o : Option ℕ). unless_over o (wholeSet text)) q)
+      go : (o : Option ℕ) → first_row text ≡ o → set_factored (factored_of (reading text)) ≡ set
+      go none q = ap set_factored (factored-is text states ∙ ap (λ (o : Option ℕ). unless_over o (whole_set text)) q)
       go (some i) q =
-          absurd (not-passed (ap (λ (f : Factorization). f.outcome) (factored-is text states ∙ ap (λ (o : Option ℕ). unless_over o (wholeSet text)) q)) e)
+          absurd (not-passed (ap (λ (f : Factorization). f.outcome) (factored-is text states ∙ ap (λ (o : Option ℕ). unless_over o (whole_set text)) q)) e)
 
 -- ---- as they stand in the lists
 

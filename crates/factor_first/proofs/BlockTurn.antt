@@ -43,11 +43,11 @@ module _ (p i s first width : ℕ) (js ks : List ℕ) (block : List (List ℕ)) 
   abbrev m : ℕ
   m = length w
 
-  abbrev cutU : Compressed
-  cutU = cut r at U.starts U.cols U.vals
+  abbrev cut_u : Compressed
+  cut_u = cut r at U.starts U.cols U.vals
 
   abbrev reduction : Reduction
-  reduction = reduction_by p m r (take r C) cutU (matrix A i)
+  reduction = reduction_by p m r (take r C) cut_u (matrix A i)
 
   abbrev cs : List ℕ
   cs = reduction.multiples

@@ -60,18 +60,18 @@ module _ (p i : ℕ) (paired : Bool) (A : Compressed) (R C : List ℕ) (L U : Co
   abbrev m : ℕ
   m = length w
 
-  abbrev cutU : Compressed
-  cutU = cut r at U.starts U.cols U.vals
+  abbrev cut_u : Compressed
+  cut_u = cut r at U.starts U.cols U.vals
 
   paired-inside : paired ≡ true → get_or C r 0 < m
   paired-inside e = (h.pair e).column
 
   -- taken as it stands, with column C[r], is taken as a pair
   pub pair_found : paired ≡ true → (c : ℕ) → c ≡ get_or C r 0 → RowFound p at l total (as_it_stands m r c (matrix A i)) (entry_lists_of L.cols L.vals U.cols U.vals) (entry_lists_of lc lv uc uv) work step
-      → RowFound p at l total (turn_reduction p m paired r C cutU (matrix A i)) (entry_lists_of L.cols L.vals U.cols U.vals) (entry_lists_of lc lv uc uv) work step
+      → RowFound p at l total (turn_reduction p m paired r C cut_u (matrix A i)) (entry_lists_of L.cols L.vals U.cols U.vals) (entry_lists_of lc lv uc uv) work step
   pair_found q c ec t = rw (q, sym ec) t
 
-  module _ (t : RowFound p at l total (turn_reduction p m paired r C cutU (matrix A i)) (entry_lists_of L.cols L.vals U.cols U.vals) (entry_lists_of lc lv uc uv) work step) where
+  module _ (t : RowFound p at l total (turn_reduction p m paired r C cut_u (matrix A i)) (entry_lists_of L.cols L.vals U.cols U.vals) (entry_lists_of lc lv uc uv) work step) where
     more : r + d + 1 < length L.starts
     more = omega (arith, h.more, h.lent.L-starts)
 
@@ -165,7 +165,7 @@ module _ (p i : ℕ) (paired : Bool) (A : Compressed) (R C : List ℕ) (L U : Co
             columns = λ q. ap (set C r) (t.column fitted ∙ own q) ∙ set-get_or C r 0;
           }
         where
-          own : paired ≡ true → (turn_reduction p m paired r C cutU (matrix A i)).column ≡ get_or C r 0
+          own : paired ≡ true → (turn_reduction p m paired r C cut_u (matrix A i)).column ≡ get_or C r 0
           own q = rw q
 
     pub settle-ready : (wide : ℕ) → wide ≡ m → SettleReady step from wide R C (compressed L.starts lc lv) U.starts

@@ -33,25 +33,25 @@ use Rattle.factor_turn.proofs.Readiness.{cut-found}
 
 module _ (p m : ℕ) (A : Matrix) (i : ℕ) (paired : Bool) (f : Found) (R C : List ℕ) (L U : Compressed) (r at l total d : ℕ) (s : State f R C L U r at l total d)
     (pair : paired ≡ true → get_or C r 0 < m) where
-  abbrev cutU : Compressed
-  cutU = cut r at U.starts U.cols U.vals
+  abbrev cut_u : Compressed
+  cut_u = cut r at U.starts U.cols U.vals
 
   abbrev reduction : Bool → Reduction
-  reduction b = turn_reduction p m b r C cutU (A i)
+  reduction b = turn_reduction p m b r C cut_u (A i)
 
   -- ---- the reduction by the lists is that by the rows found
 
-  matrices : matrix cutU ≡ upper_of f
+  matrices : matrix cut_u ≡ upper_of f
   matrices = ap matrix (cut-found f R C L U r at l total d s) ∙ (λ t k j. compress-matrix (uppers_of f) k j t)
 
-  reduced-found : (k : ℕ) → reduced p (vector (take r C)) (matrix cutU) k (A i) ≡ reduced_by p f k (A i)
+  reduced-found : (k : ℕ) → reduced p (vector (take r C)) (matrix cut_u) k (A i) ≡ reduced_by p f k (A i)
   reduced-found k t = reduced p (vector (s.columns t)) (matrices t) k (A i)
 
-  multiples-found : (reduction_by p m r (take r C) cutU (A i)).multiples ≡ multiples_by p f (A i)
+  multiples-found : (reduction_by p m r (take r C) cut_u (A i)).multiples ≡ multiples_by p f (A i)
   unfolding multiples multiples_by
   multiples-found t = tabulate (s.rank t) (λ k. reduced p (vector (s.columns t)) (matrices t) k (A i) (vector (s.columns t) k))
 
-  remainder-found : (reduction_by p m r (take r C) cutU (A i)).remainder ≡ reduced_by p f (rank_of f) (A i)
+  remainder-found : (reduction_by p m r (take r C) cut_u (A i)).remainder ≡ reduced_by p f (rank_of f) (A i)
   remainder-found t = reduced p (vector (s.columns t)) (matrices t) (s.rank t) (A i)
 
   -- ---- the turn
@@ -83,7 +83,7 @@ module _ (p m : ℕ) (A : Matrix) (i : ℕ) (paired : Bool) (f : Found) (R C : L
     where
       go : (b : Bool) → (b ≡ true → get_or C r 0 < m) → (reduction b).column ≤ m
       go true h = omega (arith, h refl)
-      go false h = first-most m (λ j. eqb ((reduction_by p m r (take r C) cutU (A i)).remainder j) 0)
+      go false h = first-most m (λ j. eqb ((reduction_by p m r (take r C) cut_u (A i)).remainder j) 0)
 
   pub dependent-is : m ≤ c → found ≡ with_dependent f i cs
   unfolding placed_row

@@ -46,7 +46,7 @@ use Rattle.print_text.proofs.Bytes.{report-bytes, refusal-bytes}
 use Rattle.print_text.proofs.Room.{report-short, refusal-short}
 use Rattle.stages.specs.Stages.{reading, owners_read, factored_of, set_factored}
 use Rattle.stages.specs.Meaning.{factors_of, FitsAll, OverflowsAt}
-use Rattle.stages.proofs.ReadText.{reading-holds, owners-read, reading-good, outcome-passed, reading-numbers, wholeSet, factored-whole, factored-over}
+use Rattle.stages.proofs.ReadText.{reading-holds, owners-read, reading-good, outcome-passed, reading-numbers, whole_set, factored-whole, factored-over}
 use Rattle.stages.proofs.Passing.{factors-sized, factors-pass}
 use Rattle.report_lib.specs.Reporting.{summary_of, open_list_of, report_read_of, report_of, Reports}
 use Rattle.report_lib.specs.Meaning.{ReportsRight}
@@ -138,17 +138,17 @@ module _ (text : List ℕ) where
         ap (take m) (owners-read text states)
         ∙ filled-cut owners_length m states.owners (states.owners-stated.long ∙ sym (reading-holds text states).columns-are)
 
-    report-whole : FitsAll (reading text) → report_of text ≡ report_text (summary_of (reading text) (wholeSet text)) states.owners (open_columns p m set)
+    report-whole : FitsAll (reading text) → report_of text ≡ report_text (summary_of (reading text) (whole_set text)) states.owners (open_columns p m set)
     report-whole fits =
         report-read
         ∙ ap after-reading (factored-whole text states fits)
-        ∙ ap (λ (g : Listed). printed g.outcome (report_text (summary_of (reading text) (wholeSet text)) owners g.list)) (listed-all p n m A set passes)
-        ∙ ap (λ (os : List ℕ). report_text (summary_of (reading text) (wholeSet text)) os (open_columns p m set)) owners-are
+        ∙ ap (λ (g : Listed). printed g.outcome (report_text (summary_of (reading text) (whole_set text)) owners g.list)) (listed-all p n m A set passes)
+        ∙ ap (λ (os : List ℕ). report_text (summary_of (reading text) (whole_set text)) os (open_columns p m set)) owners-are
 
     pub text-right : FitsAll (reading text) → ReportsRight (reading text) states.owners (report_of text)
     text-right fits =
         record {
-          summary = summary_of (reading text) (wholeSet text);
+          summary = summary_of (reading text) (whole_set text);
           marks = open_columns p m set;
           printed-is = report-whole fits;
           modulus-is = refl;
@@ -161,7 +161,7 @@ module _ (text : List ℕ) where
           upper_is = (factors-sized p n m A good).upper-values;
           marks-are = all-marked p n m A set passes;
           last_line =
-              let s = summary_of (reading text) (wholeSet text) in
+              let s = summary_of (reading text) (whole_set text) in
               (other_lines s states.owners (open_columns p m set), report-whole fits ∙ totals-last s states.owners (open_columns p m set));
           open-total = marks-open p n m A (open_columns p m set) (all-marked p n m A set passes);
           closed-total = marks-closed p n m A (open_columns p m set) (all-marked p n m A set passes);

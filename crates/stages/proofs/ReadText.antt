@@ -88,33 +88,33 @@ module _ (text : List ℕ) where
   A = plan_of (reading text)
 
   -- the first row that overflows 16,384 entries of L or of U
-  abbrev pub firstRow : Option ℕ
-  firstRow = over p n m A (lent_for n m)
+  abbrev pub first_row : Option ℕ
+  first_row = over p n m A (lent_for n m)
 
   -- the set of the pivot rules, as factoring gives it
-  abbrev pub wholeSet : Factorization
-  wholeSet = whole p n m A (lent_for n m)
+  abbrev pub whole_set : Factorization
+  whole_set = whole p n m A (lent_for n m)
 
-  pub fits_all : (firstRow ≡ none) ↔ FitsAll (reading text)
+  pub fits_all : (first_row ≡ none) ↔ FitsAll (reading text)
   fits_all = fits-exactly p n m A (lent_for n m)
 
-  pub row-overflows : (i : ℕ) → firstRow ≡ some i → OverflowsAt (reading text) i
+  pub row-overflows : (i : ℕ) → first_row ≡ some i → OverflowsAt (reading text) i
   row-overflows i e = some-overflows p n m (matrix A) (structural A n m) largest_entries largest_entries i e
 
   module _ (states : StatesText largest_entries text) where
-    pub factored-is : factored_of (reading text) ≡ unless_over firstRow wholeSet
+    pub factored-is : factored_of (reading text) ≡ unless_over first_row whole_set
     unfolding factored_of
     factored-is = call-is p n m A (lent_for n m) (lent-passes p n m A (lent_for n m) (reading-good states) (lent-right n m))
 
-    pub factored-whole : FitsAll (reading text) → factored_of (reading text) ≡ wholeSet
-    factored-whole h = factored-is ∙ ap (λ (o : Option ℕ). unless_over o wholeSet) (fits_all.1 h)
+    pub factored-whole : FitsAll (reading text) → factored_of (reading text) ≡ whole_set
+    factored-whole h = factored-is ∙ ap (λ (o : Option ℕ). unless_over o whole_set) (fits_all.1 h)
 
     pub factored-over : ¬ FitsAll (reading text) → (i : ℕ) × ((factored_of (reading text)).outcome ≡ Refused storage_too_short i) × OverflowsAt (reading text) i
-    factored-over f = go firstRow refl
+    factored-over f = go first_row refl
       where
-        go : (o : Option ℕ) → firstRow ≡ o → (i : ℕ) × ((factored_of (reading text)).outcome ≡ Refused storage_too_short i) × OverflowsAt (reading text) i
+        go : (o : Option ℕ) → first_row ≡ o → (i : ℕ) × ((factored_of (reading text)).outcome ≡ Refused storage_too_short i) × OverflowsAt (reading text) i
         go none e = absurd (f (fits_all.0 e))
-        go (some i) e = (i, ap (λ (g : Factorization). g.outcome) (factored-is ∙ ap (λ (o : Option ℕ). unless_over o wholeSet) e), row-overflows i e)
+        go (some i) e = (i, ap (λ (g : Factorization). g.outcome) (factored-is ∙ ap (λ (o : Option ℕ). unless_over o whole_set) e), row-overflows i e)
 
 -- ---- the text of one plan, with the owners vs stated by what follows it
 

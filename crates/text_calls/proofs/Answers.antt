@@ -49,7 +49,7 @@ use Rattle.stages.specs.Stages.{reading, factored_of, set_factored}
 use Rattle.stages.specs.Meaning.{factors_of, FitsAll, OverflowsAt}
 use Rattle.stages.proofs.Outcomes.{not-passed}
 use Rattle.stages.proofs.Passing.{factors-pass}
-use Rattle.stages.proofs.ReadText.{reading-good, outcome-passed, reading-numbers, firstRow, wholeSet, fits_all, row-overflows, factored-is}
+use Rattle.stages.proofs.ReadText.{reading-good, outcome-passed, reading-numbers, first_row, whole_set, fits_all, row-overflows, factored-is}
 use Rattle.answer_lib.specs.Answering.{own_answer, certified_answer, answer_read_of, answer_text_of}
 use Rattle.text_calls.specs.Calls.{packed, verdict_byte, AnswersText}
 use Rattle.text_calls.specs.Meaning.{TextAskable, set_used, VerdictRight, PackedFrom}
@@ -155,12 +155,12 @@ module _ (text y : List ℕ) where
   after-factoring a b f = given_after f.outcome (answer_factors_of (p text) (n text) (m text) (A text) (set_factored f) y a b work_length)
 
   module _ (states : StatesText largest_entries text) where
-    own_is : (a b : ℕ) → answer_text_of text [] y a b ≡ after-factoring a b (unless_over (firstRow text) (wholeSet text))
+    own_is : (a b : ℕ) → answer_text_of text [] y a b ≡ after-factoring a b (unless_over (first_row text) (whole_set text))
     unfolding answer_text_of answer_read_of own_answer
     own_is a b = ap (λ (o : Outcome). given_after o (own_answer (reading text) y a b)) ((outcome-passed text).1 states) ∙ ap (after-factoring a b) (factored-is text states)
 
     pub as-stored : FitsAll (reading text) → (a b : ℕ) → answer_text_of text [] y a b ≡ answer_factors_of (p text) (n text) (m text) (A text) (factors_of (reading text)) y a b work_length
-    as-stored fits a b = own_is a b ∙ ap (λ (o : Option ℕ). after-factoring a b (unless_over o (wholeSet text))) ((fits_all text).1 fits)
+    as-stored fits a b = own_is a b ∙ ap (λ (o : Option ℕ). after-factoring a b (unless_over o (whole_set text))) ((fits_all text).1 fits)
 
     pub as_bytes : (cert : List ℕ) → ¬ (cert ≡ []) → (a b : ℕ) → answer_text_of text cert y a b ≡ answer_certificate_of (p text) (n text) (m text) (A text) cert y a b work_length
     unfolding answer_text_of answer_read_of certified_answer
@@ -187,11 +187,11 @@ module _ (text y : List ℕ) where
 
     stated-numbers : (cert : List ℕ) (a b : ℕ) → RefusedBy later (answer_text_of text cert y a b).outcome
     unfolding among
-    stated-numbers [] a b = go (firstRow text) refl
+    stated-numbers [] a b = go (first_row text) refl
       where
-        go : (o : Option ℕ) → firstRow text ≡ o → RefusedBy later (answer_text_of text [] y a b).outcome
+        go : (o : Option ℕ) → first_row text ≡ o → RefusedBy later (answer_text_of text [] y a b).outcome
         go none e = subst (λ (g : Given). RefusedBy later g.outcome) (sym (as-stored ((fits_all text).0 e) a b)) (stored-numbers a b)
-        go (some i) e = subst (λ (g : Given). RefusedBy later g.outcome) (sym (own_is a b ∙ ap (λ (o : Option ℕ). after-factoring a b (unless_over o (wholeSet text))) e)) refl
+        go (some i) e = subst (λ (g : Given). RefusedBy later g.outcome) (sym (own_is a b ∙ ap (λ (o : Option ℕ). after-factoring a b (unless_over o (whole_set text))) e)) refl
     stated-numbers (c ∷ cs) a b =
         subst (λ (g : Given). RefusedBy later g.outcome) (sym (as_bytes (c ∷ cs) (some_bytes (c ∷ cs) c cs refl) a b)) (bytes-numbers (c ∷ cs) a b)
 
@@ -291,22 +291,22 @@ module _ (text cert y : List ℕ) (q : ℕ) (x₀ x z₀ z : List ℕ) (v : ℕ)
         (as_bytes text y states cert f (length x₀) (length z₀)
         ∙ ap (answer_certificate_of (p text) (n text) (m text) (A text) cert y (length x₀) (length z₀)) (sym (length-zeros work_length))) whole
 
-    row_is : cert ≡ [] → (i : ℕ) → firstRow text ≡ some i → g.outcome ≡ Refused storage_too_short i
+    row_is : cert ≡ [] → (i : ℕ) → first_row text ≡ some i → g.outcome ≡ Refused storage_too_short i
     row_is e i at =
         ap (λ (l : List ℕ). (answer_text_of text l y (length x₀) (length z₀)).outcome) e
-        ∙ ap (λ (t : Given). t.outcome) (own_is text y states (length x₀) (length z₀) ∙ ap (λ (o : Option ℕ). after-factoring text y (length x₀) (length z₀) (unless_over o (wholeSet text))) at)
+        ∙ ap (λ (t : Given). t.outcome) (own_is text y states (length x₀) (length z₀) ∙ ap (λ (o : Option ℕ). after-factoring text y (length x₀) (length z₀) (unless_over o (whole_set text))) at)
 
     fitting : cert ≡ [] → g.outcome ≡ Passed → FitsAll (reading text)
-    fitting e passed = go (firstRow text) refl
+    fitting e passed = go (first_row text) refl
       where
-        go : (o : Option ℕ) → firstRow text ≡ o → FitsAll (reading text)
+        go : (o : Option ℕ) → first_row text ≡ o → FitsAll (reading text)
         go none at = (fits_all text).0 at
         go (some i) at = absurd (not-passed (row_is e i at) passed)
 
     pub answered-storage : cert ≡ [] → ¬ FitsAll (reading text) → (i : ℕ) × (q ≡ storage_too_short + 256 * i) × OverflowsAt (reading text) i
-    answered-storage e f = go (firstRow text) refl
+    answered-storage e f = go (first_row text) refl
       where
-        go : (o : Option ℕ) → firstRow text ≡ o → (i : ℕ) × (q ≡ 7 + 256 * i) × OverflowsAt (reading text) i
+        go : (o : Option ℕ) → first_row text ≡ o → (i : ℕ) × (q ≡ 7 + 256 * i) × OverflowsAt (reading text) i
         go none at = absurd (f ((fits_all text).0 at))
         go (some i) at = (i, call.number ∙ ap packed (row_is e i at), row-overflows text i at)
 

@@ -31,7 +31,7 @@ use Rattle.call_write.specs.Call.{bytes_given}
 use Rattle.factor_all.specs.Factorization.{Factorization, unless_over}
 use Rattle.stages.specs.Stages.{reading, factored_of}
 use Rattle.stages.specs.Meaning.{FitsAll, OverflowsAt}
-use Rattle.stages.proofs.ReadText.{firstRow, wholeSet, factored-is}
+use Rattle.stages.proofs.ReadText.{first_row, whole_set, factored-is}
 use Rattle.report_lib.specs.Reporting.{report_of, report_outcome}
 use Rattle.report_lib.specs.Meaning.{ReportsRight}
 use Rattle.report_lib.proofs.Theorems.{text-right, text-short, text-bytes}
@@ -53,13 +53,13 @@ module _ (text : List ℕ) where
       record {
         later = after-factoring (factored_of (reading text));
         whole = then-after (reading text).result.outcome (factored_of (reading text)).outcome (room_for room (report_of text));
-        after-reading = λ h. ap after-factoring (factored-is text h) ∙ go (firstRow text);
+        after-reading = λ h. ap after-factoring (factored-is text h) ∙ go (first_row text);
       }
     where
       after-factoring : Factorization → Outcome
       after-factoring f = f.outcome ▷ room_for room (report_of text)
 
-      go : (o : Option ℕ) → after-factoring (unless_over o (wholeSet text)) ≡ (storage o ▷ room_for room (report_of text))
+      go : (o : Option ℕ) → after-factoring (unless_over o (whole_set text)) ≡ (storage o ▷ room_for room (report_of text))
       go none = refl
       go (some i) = refl
 

@@ -52,7 +52,7 @@ use Rattle.call_write.proofs.Theorems.{write-room}
 use Rattle.factor_all.specs.Factorization.{Factorization, unless_over}
 use Rattle.stages.specs.Stages.{reading, factored_of, set_factored}
 use Rattle.stages.specs.Meaning.{factors_of, FitsAll, OverflowsAt}
-use Rattle.stages.proofs.ReadText.{reading-good, outcome-passed, reading-numbers, firstRow, wholeSet, factored-is, factored-whole}
+use Rattle.stages.proofs.ReadText.{reading-good, outcome-passed, reading-numbers, first_row, whole_set, factored-is, factored-whole}
 use Rattle.stages.proofs.Passing.{factors-pass}
 use Rattle.text_calls.specs.Calls.{check_read_of, check_text_of, make_read_of, make_text_of, certificate_for, packed, Makes}
 use Rattle.text_calls.specs.Meaning.{own_certificate, Made, TextPasses, PackedFrom}
@@ -154,12 +154,12 @@ module _ (text : List ℕ) where
 
   made-delivers : (room : ℕ) → Delivers text cert₁ room (make_text_of text room)
   unfolding make_text_of make_read_of
-  made-delivers room = record { later = after-factoring (factored_of (reading text)); whole = refl; after-reading = λ h. ap after-factoring (factored-is text h) ∙ go h (firstRow text) }
+  made-delivers room = record { later = after-factoring (factored_of (reading text)); whole = refl; after-reading = λ h. ap after-factoring (factored-is text h) ∙ go h (first_row text) }
     where
       after-factoring : Factorization → Outcome
       after-factoring f = f.outcome ▷ write_outcome p₁ n₁ m₁ x (set_factored f) work_length room
 
-      go : StatesText largest_entries text → (o : Option ℕ) → after-factoring (unless_over o (wholeSet text)) ≡ (storage o ▷ room_for room cert₁)
+      go : StatesText largest_entries text → (o : Option ℕ) → after-factoring (unless_over o (whole_set text)) ≡ (storage o ▷ room_for room cert₁)
       go h none = write-room p₁ n₁ m₁ x (factors_of (reading text)) work_length room ((factors-exactly p₁ n₁ m₁ x (factors_of (reading text)) work_length).1 (factors-pass p₁ n₁ m₁ x (reading-good text h)))
       go h (some i) = refl
 

@@ -31,7 +31,7 @@ use Rattle.text_owners.specs.Stating.{StatesText}
 use Rattle.call_write.specs.Call.{bytes_given}
 use Rattle.stages.specs.Stages.{reading}
 use Rattle.stages.specs.Meaning.{FitsAll, OverflowsAt}
-use Rattle.stages.proofs.ReadText.{outcome-passed, reading-numbers, firstRow, fits_all, row-overflows}
+use Rattle.stages.proofs.ReadText.{outcome-passed, reading-numbers, first_row, fits_all, row-overflows}
 use Rattle.text_calls.specs.Calls.{packed}
 use Rattle.text_calls.specs.Meaning.{Delivered, PackedFrom}
 use Rattle.text_calls.proofs.Numbers.{packed_zero, packed-from, storage, stage-zero, stage-nine, stage-seven, stage-numbers, stage-by}
@@ -40,7 +40,7 @@ use Rattle.text_calls.proofs.Numbers.{packed_zero, packed-from, storage, stage-z
 pub record Delivers (text bytes : List ℕ) (room : ℕ) (o : Outcome) : Type 0 where
   pub later : Outcome
   pub whole : o ≡ ((reading text).result.outcome ▷ later)
-  pub after-reading : StatesText largest_entries text → later ≡ (storage (firstRow text) ▷ room_for room bytes)
+  pub after-reading : StatesText largest_entries text → later ≡ (storage (first_row text) ▷ room_for room bytes)
 
 abbrev pub faults : List ℕ
 faults = text_faults ++ (storage_too_short ∷ wrong_length ∷ [])
@@ -52,7 +52,7 @@ module _ (text bytes : List ℕ) (room : ℕ) (o : Outcome) (d : Delivers text b
       go : (r : Outcome) → (reading text).result.outcome ≡ r → RefusedBy text_faults r → RefusedBy (text_faults ++ (7 ∷ 9 ∷ [])) (r ▷ d.later)
       go Passed e h =
           subst (RefusedBy (text_faults ++ (7 ∷ 9 ∷ []))) (sym (d.after-reading ((outcome-passed text).0 e)))
-          (refused-then text_faults (7 ∷ 9 ∷ []) Passed (storage (firstRow text) ▷ room_for room bytes) tt (stage-by (leb (length bytes) room) (firstRow text)))
+          (refused-then text_faults (7 ∷ 9 ∷ []) Passed (storage (first_row text) ▷ room_for room bytes) tt (stage-by (leb (length bytes) room) (first_row text)))
       go (Refused k i) e h = refused-then text_faults (7 ∷ 9 ∷ []) (Refused k i) Passed h tt
 
   module _ (z : ℕ) (number : z ≡ packed o) where
@@ -75,23 +75,23 @@ module _ (text bytes : List ℕ) (room : ℕ) (o : Outcome) (d : Delivers text b
     zero-states e = (outcome-passed text).0 (both-passed (reading text).result.outcome d.later (sym d.whole ∙ zero-passed.0 e)).0
 
     module _ (states : StatesText largest_entries text) where
-      is : z ≡ packed (storage (firstRow text) ▷ room_for room bytes)
+      is : z ≡ packed (storage (first_row text) ▷ room_for room bytes)
       is =
           number
           ∙ ap packed (d.whole ∙ after-passed (reading text).result.outcome d.later ((outcome-passed text).1 states) ∙ d.after-reading states)
 
       zero-parts : (z ≡ 0) ↔ (FitsAll (reading text) × (length bytes ≤ room))
       zero-parts =
-          let (there, back) = stage-zero (leb (length bytes) room) (firstRow text) in
+          let (there, back) = stage-zero (leb (length bytes) room) (first_row text) in
           ((λ e. let q = there (sym is ∙ e) in ((fits_all text).0 q.0, leb-true (length bytes) room q.1)), λ q. is ∙ back ((fits_all text).1 q.0, le-leb (length bytes) room q.1))
 
       pub nine-exactly : (z ≡ 9) ↔ (FitsAll (reading text) × (room < length bytes))
       nine-exactly =
-          let (there, back) = stage-nine (leb (length bytes) room) (firstRow text) in
+          let (there, back) = stage-nine (leb (length bytes) room) (first_row text) in
           ((λ e. let q = there (sym is ∙ e) in ((fits_all text).0 q.0, leb-false (length bytes) room q.1)), λ q. is ∙ back ((fits_all text).1 q.0, lt-leb (length bytes) room q.1))
 
-      seven_at : (i : ℕ) → (z ≡ 7 + 256 * i) ↔ (firstRow text ≡ some i)
-      seven_at i = let (there, back) = stage-seven (leb (length bytes) room) (firstRow text) i in ((λ e. there (sym is ∙ e)), λ q. is ∙ back q)
+      seven_at : (i : ℕ) → (z ≡ 7 + 256 * i) ↔ (first_row text ≡ some i)
+      seven_at i = let (there, back) = stage-seven (leb (length bytes) room) (first_row text) i in ((λ e. there (sym is ∙ e)), λ q. is ∙ back q)
 
       pub seven-row : (i : ℕ) → z ≡ 7 + 256 * i → OverflowsAt (reading text) i
       seven-row i e = row-overflows text i ((seven_at i).0 e)
@@ -99,15 +99,15 @@ module _ (text bytes : List ℕ) (room : ℕ) (o : Outcome) (d : Delivers text b
       pub seven-exactly : ((i : ℕ) × (z ≡ 7 + 256 * i)) ↔ (¬ FitsAll (reading text))
       seven-exactly = (
         (λ q f. let e = sym ((seven_at q.0).0 q.1) ∙ (fits_all text).1 f in absurd (let t : ◌≡◌ {A = ℕ} 0 1 = cc in omega arith)),
-        λ f. go f (firstRow text) refl,
+        λ f. go f (first_row text) refl,
       )
         where
-          go : (¬ FitsAll (reading text)) → (r : Option ℕ) → (firstRow text) ≡ r → (i : ℕ) × (z ≡ 7 + 256 * i)
+          go : (¬ FitsAll (reading text)) → (r : Option ℕ) → (first_row text) ≡ r → (i : ℕ) × (z ≡ 7 + 256 * i)
           go f none e = absurd (f ((fits_all text).0 e))
           go f (some i) e = (i, (seven_at i).1 e)
 
       pub only-numbers : (z ≡ 0) ⊎ ((z ≡ 9) ⊎ ((i : ℕ) × (z ≡ 7 + 256 * i)))
-      only-numbers = rw is (stage-numbers (leb (length bytes) room) (firstRow text))
+      only-numbers = rw is (stage-numbers (leb (length bytes) room) (first_row text))
 
     pub zero-exactly : (z ≡ 0) ↔ Delivered text bytes room
     zero-exactly = (
