@@ -27,6 +27,8 @@ TWO = {
     "crates/text_owners/proofs/Footing.antt": {"on_line": "on_line_lem"},
     "crates/text_plan/proofs/Accepted.antt": {"is_m": "is_m_lem"},
 }
+# Names of parameters, which stay, though a line that begins with one looks like a declaration.
+PARAMETERS = {"roomL", "roomU"}
 
 
 def files(root):
@@ -50,7 +52,8 @@ def table():
                         m = form.match(line)
                         if m:
                             declared.add(m[1])
-    return {n: snake(n) for n in declared if re.search(r"[a-z0-9][A-Z]", n)}
+    # a goal's name is Rattle's own
+    return {n: snake(n) for n in declared - PARAMETERS if re.search(r"[a-z0-9][A-Z]", n) and not n.startswith("returns-")}
 
 
 def turn(text, turned):
