@@ -3,7 +3,7 @@ use mathlib.Core.Path.{◌≡◌, refl, sym, ap, ◌∙◌, subst}
 use mathlib.Core.Logic.{◌⊎◌, inl, inr}
 use mathlib.Core.List.{List, [], ◌∷◌, ◌++◌}
 use mathlib.Core.Option.{Option, none, some}
-use Prim.Native.Nat.{ℕ, zero, suc, ◌+◌, ◌≤◌, ◌<◌}
+use Prim.Native.Nat.{ℕ, zero, suc, ◌≤◌, ◌<◌}
 use native.Mathlib.Nat.{eq-or-lt_of_le, le_of_suc-le-suc}
 use native.Mathlib.Decide.{dec_lt}
 use native.Mathlib.Omega.{arith}
@@ -24,6 +24,7 @@ use Rattle.factor_order.specs.Search.{row_in, Chosen, ChooseReady, PairsFound}
 -- ---- the pairs of the first columns
 
 in_left : (q : Pair) (xs ys : List Pair) → Member q xs → Member q (xs ++ ys)
+in_left q [] ys x' = elim x' [ ]
 in_left q (x ∷ xs) ys (inl e) = inl e
 in_left q (x ∷ xs) ys (inr m) = inr (in_left q xs ys m)
 
@@ -40,7 +41,9 @@ paired-in : (c i : ℕ) (o : Option ℕ) → o ≡ some i → Member (pair_at i 
 paired-in c i o e = subst (λ (x : Option ℕ). Member (pair_at i c) (paired c x)) (sym e) (inl refl)
 
 in-paired : (c : ℕ) (b : Pair) (o : Option ℕ) → Member b (paired c o) → (o ≡ some b.row) × (b.column ≡ c)
+in-paired c b none x' = elim x' [ ]
 in-paired c b (some i) (inl e) = (ap (λ (q : Pair). some q.row) (sym e), ap (λ (q : Pair). q.column) e)
+in-paired c b (some i) (inr x') = elim x' [ ]
 
 leading-in : (A : Compressed) (n m c i : ℕ) → c < m → chosen A c n ≡ some i → Member (pair_at i c) (leading A n m)
 unfolding leading
@@ -53,6 +56,7 @@ leading-in A n (suc m) c i h e = go (eq-or-lt_of_le (le_of_suc-le-suc h)) (leadi
 
 in-leading : (A : Compressed) (n m : ℕ) (b : Pair) → Member b (leading A n m) → (b.column < m) × (chosen A b.column n ≡ some b.row)
 unfolding leading
+in-leading A n zero b k = elim k [ ]
 in-leading A n (suc m) b k = go (in_either b (leading A n m) (paired m (chosen A m n)) k) (in-leading A n m b)
   where
     go : Member b (leading A n m) ⊎ Member b (paired m (chosen A m n)) → (Member b (leading A n m) → (b.column < m) × (chosen A b.column n ≡ some b.row)) → (b.column < suc m) × (chosen A b.column n ≡ some b.row)
