@@ -68,6 +68,7 @@ sorted-alike n m xs ys p q f g =
 -- ---- the triples that are not 0
 kept_from : (t : Entry) (seen : List Entry) → Member t (kept seen) → Member t seen × (eqb t.value 0 ≡ false)
 unfolding kept
+kept_from t [] m = elim m [ ]
 kept_from t (x ∷ xs) m = go (eqb x.value 0) refl m (kept_from t xs)
   where
     go : (z : Bool) → eqb x.value 0 ≡ z → Member t (cond z (kept xs) (kept xs ++ (x ∷ []))) → (Member t (kept xs) → Member t xs × (eqb t.value 0 ≡ false)) → ((t ≡ x) ⊎ Member t xs) × (eqb t.value 0 ≡ false)
@@ -76,9 +77,11 @@ kept_from t (x ∷ xs) m = go (eqb x.value 0) refl m (kept_from t xs)
       where
         last_one : Member t (x ∷ []) → ((t ≡ x) ⊎ Member t xs) × (eqb t.value 0 ≡ false)
         last_one (inl q) = (inl q, ap (λ (u : Entry). eqb u.value 0) q ∙ e)
+        last_one (inr k) = elim k [ ]
 
 kept_there : (t : Entry) (seen : List Entry) → Member t seen → eqb t.value 0 ≡ false → Member t (kept seen)
 unfolding kept
+kept_there t [] m h = elim m [ ]
 kept_there t (x ∷ xs) (inl e) h =
     let f : eqb x.value 0 ≡ false = ap (λ (u : Entry). eqb u.value 0) (sym e) ∙ h in
     rw f (member_right t (kept xs) (x ∷ []) (inl e))
@@ -103,6 +106,7 @@ module _ (p : ℕ) where
   entries-keep (t ∷ ts) seen e m = entries-keep ts (entry_of p t ∷ seen) e (inr m)
 
   entries-there : (ts : List StatedEntry) (seen : List Entry) (t : StatedEntry) → Member t ts → Member (entry_of p t) (reverse_aux (map (entry_of p) ts) seen)
+  entries-there [] seen t m = elim m [ ]
   entries-there (u ∷ us) seen t (inl e) = entries-keep us (entry_of p u ∷ seen) (entry_of p t) (inl (ap (entry_of p) e))
   entries-there (u ∷ us) seen t (inr m) = entries-there us (entry_of p u ∷ seen) t m
 

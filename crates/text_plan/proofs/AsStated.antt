@@ -133,7 +133,7 @@ module _ (room : ℕ) (s : Sizes) (ts : List StatedEntry) (h : Plan room s ts) w
 
 -- ---- `stated_at` finds each triple: in a plan no two stand at one place
 bounds : (s : Sizes) (seen : List Entry) (xs : List StatedEntry) (t : StatedEntry) (ys : List StatedEntry) → StandApart s seen (xs ++ (t ∷ ys)) → ((1 ≤ t.row) × (t.row ≤ s.n)) × ((1 ≤ t.column) × (t.column ≤ s.m))
-bounds s seen [] t ys r = (within-bounds t.row s.n r.0.row_inside, within-bounds t.column s.m r.0.column-inside)
+bounds s _ [] t ys r = (within-bounds t.row s.n r.0.row_inside, within-bounds t.column s.m r.0.column-inside)
 bounds s seen (x ∷ xs) t ys r = bounds s (entry_of s.modulus.p x ∷ seen) xs t ys r.1
 
 pub stated-inside : (s : Sizes) (seen : List Entry) (xs : List StatedEntry) (t : StatedEntry) (ys : List StatedEntry) → StandApart s seen (xs ++ (t ∷ ys)) → (t.row - 1 < s.n) × (t.column - 1 < s.m)
