@@ -21,7 +21,7 @@ use Rattle.answer_question.proofs.Passed.{question-passed, passed-ready}
 use Rattle.answer_slots.specs.Needs.{SlotsReady}
 use Rattle.answer_slots.specs.Solving.{SlotsAnswered}
 use Rattle.call_check.specs.Calls.{check_factors_of, check_certificate_of, Checks}
-use Rattle.call_check.proofs.Checked.{Checked, SetTest, stored-test, bytes-test}
+use Rattle.call_check.proofs.Checked.{Checked, stored-test, bytes-test}
 use Rattle.call_slots.specs.Calls.{solution_number, solution_detail, solution_of, slot_lengths, slots_after, slots_given, Solves}
 use Rattle.call_slots.specs.Meaning.{Heard}
 use Rattle.call_slots.specs.declared.Solution.{Solution}
