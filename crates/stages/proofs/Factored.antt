@@ -9,7 +9,7 @@ use Rattle.refusals.specs.Refusals.{number_of}
 use Rattle.residue.proofs.Primes.{modulus-prime}
 use Rattle.sparse.specs.Matrix.{Compressed, compressed}
 use Rattle.sparse.specs.Set.{set_of, Storage}
-use Rattle.text_plan.specs.Call.{ReadAnswer, Gives}
+use Rattle.text_plan.specs.Call.{ReadAnswer}
 use Rattle.text_owners.specs.Call.{text_call_of, GivesText}
 use Rattle.text_plan.specs.declared.Reading.{Reading}
 use Rattle.limits.specs.Limits.{largest_entries}
@@ -23,7 +23,7 @@ use Rattle.refusals.specs.declared.Outcome.TheVariants.{Passed, Refused}
 use Rattle.call_factor.specs.Calls.{factor_call_of}
 use Rattle.call_factor.specs.declared.Lent.{Lent}
 use Rattle.stages.specs.declared.Stages.{Stages}
-use Rattle.stages.specs.Stages.{read_text, reading, lent_for, factored_of, set_factored}
+use Rattle.stages.specs.Stages.{read_text, lent_for, factored_of, set_factored}
 use Rattle.text_plan.specs.Held.{held_plan}
 use Rattle.text_owners.proofs.Theorems.{read-good}
 use Rattle.stages.specs.Lists.{SetLists, StageLists, OwnedLists, Held}
