@@ -1,11 +1,10 @@
 -- Questions that add up (document 02, slip 14), asked by the calls with owners: what holds of the calls without them holds of these.
 --   owned-sum            `SumRight`, where the third call has m owners
 --   owned-sum-closed     `SumClosed`, the same
-use mathlib.Core.Path.{◌≡◌, refl, ap}
+use mathlib.Core.Path.{◌≡◌, ap}
 use Prim.Native.Nat.{ℕ}
 use Rattle.call_answer.specs.Calls.{answer_number, Given}
 use Rattle.call_answer.specs.Sums.{Called, AnswersTo, SumRight, SumClosed}
-use Rattle.call_answer.specs.declared.Answer.{Answer}
 use Rattle.call_owned.specs.Owned.{owned_answer}
 use Rattle.call_owned.proofs.Owned.{answers-right, answers-done}
 
