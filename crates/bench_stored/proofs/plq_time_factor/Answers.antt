@@ -1,0 +1,5 @@
+-- `plq_time_factor` meets its contract. Assumes nothing.
+use Rattle.bench_stored.proofs.plq_time_factor.Goals as goal
+
+pub returns : goal.returns
+returns c = record { factored = _; left = c.factor-f.ensures; rank = c.rank_of.ensures }
