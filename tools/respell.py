@@ -17,7 +17,7 @@ DECLARED = (
     re.compile(r"^(?:(?:abbrev|opaque|unfoldable|pub) )*([a-z_][\w'′-]*)\s*:\s"),
     re.compile(r"^\s+pub ([a-z_][\w'′-]*)\s*:\s"),
     re.compile(r"^(?:(?:abbrev|opaque|unfoldable|pub) )*([a-z_][\w'′-]*)(?: \{[^{}]*\})*\s*:\s"),
-    re.compile(r"^\s+(?:(?:abbrev|pub) )*([a-z_][\w'′-]*)\s*:\s"),
+    re.compile(r"^\s+(?:(?:abbrev|opaque|unfoldable|pub) )*([a-z_][\w'′-]*)\s*:\s"),
 )
 # Lemmas that a definition would meet in a file: the lemma gets the ending that the library gives to such lemmas.
 TWO = {
@@ -27,6 +27,8 @@ TWO = {
     "crates/text_owners/proofs/Footing.antt": {"on_line": "on_line_lem"},
     "crates/text_plan/proofs/Accepted.antt": {"is_m": "is_m_lem"},
 }
+# Names that import lines give, and one that a comment alone has.
+ALIASES = {"lowerOf", "plainStored", "plainBytes", "inRange"}
 # Names of parameters, which stay, though a line that begins with one looks like a declaration.
 PARAMETERS = {"roomL", "roomU"}
 
@@ -53,7 +55,7 @@ def table():
                         if m:
                             declared.add(m[1])
     # a goal's name is Rattle's own
-    return {n: snake(n) for n in declared - PARAMETERS if re.search(r"[a-z0-9][A-Z]", n) and not n.startswith("returns-")}
+    return {n: snake(n) for n in (declared | ALIASES) - PARAMETERS if re.search(r"[a-z0-9][A-Z]", n) and "-in-" not in n}
 
 
 def turn(text, turned):

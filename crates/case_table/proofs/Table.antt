@@ -38,7 +38,7 @@ use Rattle.column_space.specs.Slots.{values, gap, position, lowest_gap, setting_
 use Rattle.column_space.specs.declared.SlotVerdict.TheVariants.{Solved, Contradiction}
 use Rattle.elimination.specs.Structural.{leads, prefer, chosen, leading}
 use Rattle.elimination.specs.Chains.{chain, closes}
-use Rattle.elimination.specs.Selection.{pair_at, lower_pair as lowerOf, without, unfit, extended, extendedTo, free, lowest, ordered, selected, structural}
+use Rattle.elimination.specs.Selection.{pair_at, lower_pair as lower_of, without, unfit, extended, extended_to, free, lowest, ordered, selected, structural}
 use Rattle.elimination.specs.Pivots.{columns_of, uppers_of, multiples_by, with_pivot, with_dependent, placed_row, turn, turns}
 use Rattle.lists.specs.Rest.{rest}
 use Rattle.elimination.specs.Factoring.{schedule, rows_of, lowers_of, factored, factor_from, factor}
@@ -136,7 +136,7 @@ unfolding is_prime divided_below
 two = true-prime 2 refl
 
 pub table : Table
-unfolding zeros tabulate all first sum dot δ place reduced inv_mod inverse_below starts_from starts_ok rises_from rows_from values_ok well_formed weigh columns_from nonzeros starts_after all_columns all_values compress among below distinct permutation lower_row lower upper_row upper agrees product_outcome judge_factors judge back_l back_u lowest solve leads prefer chosen leading chain closes lowerOf without unfit extended extendedTo free lowest_of ordered selected structural columns_of uppers_of multiples_by multiples with_pivot with_dependent placed_row turn turns rest schedule rows_of lowers_of factored factor_from factor words bytes mark version factor_numbers numbers_of certificate_of places_of field set_in set_of_certificate begins length_ok sizes_ok header_ok is_prime divided_below is_modulus plan_lengths set_lengths limits_ok plan_outcome certificate_outcome check_certificate_of pieces number_in digits_from forward settle values gap position lowest_gap setting_of left_kernel solve_slots free_columns setting kernel_basis flatten is_owners_word fields_in field_numbers owners_line all_bytes owners_in
+unfolding zeros tabulate all first sum dot δ place reduced inv_mod inverse_below starts_from starts_ok rises_from rows_from values_ok well_formed weigh columns_from nonzeros starts_after all_columns all_values compress among below distinct permutation lower_row lower upper_row upper agrees product_outcome judge_factors judge back_l back_u lowest solve leads prefer chosen leading chain closes lower_of without unfit extended extended_to free lowest_of ordered selected structural columns_of uppers_of multiples_by multiples with_pivot with_dependent placed_row turn turns rest schedule rows_of lowers_of factored factor_from factor words bytes mark version factor_numbers numbers_of certificate_of places_of field set_in set_of_certificate begins length_ok sizes_ok header_ok is_prime divided_below is_modulus plan_lengths set_lengths limits_ok plan_outcome certificate_outcome check_certificate_of pieces number_in digits_from forward settle values gap position lowest_gap setting_of left_kernel solve_slots free_columns setting kernel_basis flatten is_owners_word fields_in field_numbers owners_line all_bytes owners_in
 table =
     record {
       empty-rank = factor-rank 7 0 0 silent seven refl refl;

@@ -19,7 +19,7 @@ use Rattle.elimination.specs.Pairs.{Pairs, pair_rows, pair_columns}
 use Rattle.lists.specs.Members.{Member}
 use Rattle.elimination.proofs.Pairs.{no_pair}
 use Rattle.elimination.specs.Chains.{chain, closes}
-use Rattle.elimination.specs.Selection.{nonzero, pair_at, unfit, extended, extendedTo, Apart}
+use Rattle.elimination.specs.Selection.{nonzero, pair_at, unfit, extended, extended_to, Apart}
 use Rattle.elimination.proofs.Members.{in-snoc, in_place, not_named, apart_snoc, at-apart}
 use Rattle.elimination.proofs.Paths.{chain-join, closes-join, entry-chain}
 
@@ -214,7 +214,7 @@ module _ (has : ℕ → ℕ → Bool) where
       extended-either m ps i (Sound has n m) (λ e. h) (λ e g. h)
       (λ e c b f g. let t = fit ps i c f in added-sound n m ps h i c l b (not_named (λ q. q.row) ps i e) t.entry t.closes_none)
 
-  pub extended_to-sound : (n m : ℕ) (ps : List Pair) (k : ℕ) → k ≤ n → Sound has n m ps → Sound has n m (extendedTo has m ps k)
-  unfolding extendedTo
+  pub extended_to-sound : (n m : ℕ) (ps : List Pair) (k : ℕ) → k ≤ n → Sound has n m ps → Sound has n m (extended_to has m ps k)
+  unfolding extended_to
   extended_to-sound n m ps zero l h = h
-  extended_to-sound n m ps (suc k) l h = extended-sound n m (extendedTo has m ps k) k (omega arith) (extended_to-sound n m ps k (omega arith) h)
+  extended_to-sound n m ps (suc k) l h = extended-sound n m (extended_to has m ps k) k (omega arith) (extended_to-sound n m ps k (omega arith) h)

@@ -14,7 +14,7 @@ use Rattle.elimination.specs.Pairs.{pair_rows, pair_columns}
 use Rattle.lists.specs.Tests.{among}
 use Rattle.lists.specs.Members.{Member}
 use Rattle.elimination.specs.Chains.{closes}
-use Rattle.elimination.specs.Selection.{pair_at, unfit, extended, extendedTo, Takes, NoneLeft}
+use Rattle.elimination.specs.Selection.{pair_at, unfit, extended, extended_to, Takes, NoneLeft}
 use Rattle.elimination.proofs.Members.{in-front, in-last, not_named, named-fewer}
 use Rattle.elimination.proofs.Paths.{closes-back, back-closes, closes-wider}
 use Rattle.elimination.proofs.Kept.{extended-either, fit}
@@ -23,10 +23,10 @@ module _ (has : ℕ → ℕ → Bool) (m : ℕ) where
   pub extended-grows : (ps : List Pair) (i : ℕ) (q : Pair) → Member q ps → Member q (extended has m ps i)
   extended-grows ps i q h = extended-either has m ps i (Member q) (λ e. h) (λ e g. h) (λ e c b f g. in-front ps (pair_at i c ∷ []) q h)
 
-  pub extended_to-grows : (ps : List Pair) (k : ℕ) (q : Pair) → Member q ps → Member q (extendedTo has m ps k)
-  unfolding extendedTo
+  pub extended_to-grows : (ps : List Pair) (k : ℕ) (q : Pair) → Member q ps → Member q (extended_to has m ps k)
+  unfolding extended_to
   extended_to-grows ps zero q h = h
-  extended_to-grows ps (suc k) q h = extended-grows (extendedTo has m ps k) k q (extended_to-grows ps k q h)
+  extended_to-grows ps (suc k) q h = extended-grows (extended_to has m ps k) k q (extended_to-grows ps k q h)
 
   -- row i is left, and each of its entries in an unused column closes a cycle
   abbrev Left : List Pair → ℕ → Type 0
@@ -55,13 +55,13 @@ module _ (has : ℕ → ℕ → Bool) (m : ℕ) where
       closes-wider has ps qs h i j (w (named-fewer (λ q. q.row) ps qs h i r) j l f (named-fewer (λ q. q.column) ps qs h j u))
 
   pub extended_to-most : (ps : List Pair) (k : ℕ) (i : ℕ) → i < k
-      → among i (pair_rows (extendedTo has m ps k)) ≡ false → (j : ℕ) → j < m → has i j ≡ true → among j (pair_columns (extendedTo has m ps k)) ≡ false
-      → closes has (extendedTo has m ps k) i j ≡ true
-  unfolding extendedTo
+      → among i (pair_rows (extended_to has m ps k)) ≡ false → (j : ℕ) → j < m → has i j ≡ true → among j (pair_columns (extended_to has m ps k)) ≡ false
+      → closes has (extended_to has m ps k) i j ≡ true
+  unfolding extended_to
   extended_to-most ps zero i h = absurd (omega arith)
   extended_to-most ps (suc k) i h =
-      below_suc (Left (extended has m (extendedTo has m ps k) k)) k (left-own (extendedTo has m ps k) k)
-      (λ i l. left-wider (extendedTo has m ps k) (extended has m (extendedTo has m ps k) k) (extended-grows (extendedTo has m ps k) k) i (extended_to-most ps k i l)) i h
+      below_suc (Left (extended has m (extended_to has m ps k) k)) k (left-own (extended_to has m ps k) k)
+      (λ i l. left-wider (extended_to has m ps k) (extended has m (extended_to has m ps k) k) (extended-grows (extended_to has m ps k) k) i (extended_to-most ps k i l)) i h
 
   -- ---- one turn
 

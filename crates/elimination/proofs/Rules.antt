@@ -10,7 +10,7 @@ use Rattle.sparse.specs.Matrix.{Compressed, matrix, form}
 use Rattle.elimination.specs.Structural.{Pair}
 use Rattle.elimination.specs.Pairs.{pair_rows}
 use Rattle.lists.specs.Tests.{among}
-use Rattle.elimination.specs.Selection.{nonzero, pair_at, extendedTo, Takes, NoneLeft}
+use Rattle.elimination.specs.Selection.{nonzero, pair_at, extended_to, Takes, NoneLeft}
 use Rattle.elimination.specs.Factoring.{factor}
 use Rattle.elimination.specs.Rules.{pivots_to, FollowsRules}
 use Rattle.elimination.proofs.Most.{extended-rule}
@@ -24,7 +24,7 @@ Turned A n m i qs =
     ⊎ (NoneLeft (nonzero (matrix A)) m (pivots_to A n m i) i × (qs ≡ pivots_to A n m i))
 
 turned : (A : Compressed) (n m i : ℕ) → among i (pair_rows (pivots_to A n m i)) ≡ false → Turned A n m i (pivots_to A n m (suc i))
-unfolding extendedTo
+unfolding extended_to
 turned A n m i e = extended-rule (nonzero (matrix A)) m (pivots_to A n m i) i e
 
 pub follows-rules : (p n m : ℕ) (A : Compressed) → form p m A ≡ true → length A.starts ≡ n + 1 → FollowsRules p n m A

@@ -25,7 +25,7 @@ use Rattle.lists.specs.Tests.{among}
 use Rattle.lists.specs.Members.{Member}
 use Rattle.elimination.proofs.Pairs.{no_pair, leading-pairs}
 use Rattle.elimination.specs.Chains.{Back}
-use Rattle.elimination.specs.Selection.{nonzero, without, extendedTo, Ordering, selected, structural}
+use Rattle.elimination.specs.Selection.{nonzero, without, extended_to, Ordering, selected, structural}
 use Rattle.elimination.proofs.Members.{in-at, named-fewer, apart-at}
 use Rattle.elimination.proofs.Paths.{back-wider, closes-back}
 use Rattle.elimination.proofs.Kept.{Sound, pairs-sound, extended_to-sound}
@@ -137,7 +137,7 @@ module _ (p n m : ℕ) (A : Compressed) (formed : form p m A ≡ true) (many : l
       → has i j ≡ true → Back has (structural A n m) i j
   unfolding selected
   structural-most i j h l r c e =
-      let all : (q : Pair) → Member q (extendedTo has m (leading A n m) n) → Member q (structural A n m) = structural-ordering.all in
+      let all : (q : Pair) → Member q (extended_to has m (leading A n m) n) → Member q (structural A n m) = structural-ordering.all in
       back-wider has (selected A n m) (structural A n m) all i j
       (closes-back has (selected A n m) i j
       (extended_to-most has m (leading A n m) n i h (named-fewer (λ q. q.row) (selected A n m) (structural A n m) all i r) j l e

@@ -24,7 +24,7 @@ use Rattle.elimination.specs.Structural.{Pair}
 use Rattle.elimination.specs.Pairs.{pair_rows}
 use Rattle.lists.specs.Members.{Member}
 use Rattle.elimination.specs.Chains.{Path, one, more, Back, closes}
-use Rattle.elimination.specs.Selection.{pair_at, unfit, extended, without, free, lowest, ordered, leadsTo, degree, Apart}
+use Rattle.elimination.specs.Selection.{pair_at, unfit, extended, without, free, lowest, ordered, leads_to, degree, Apart}
 use Rattle.elimination.proofs.Members.{apart-same}
 use Rattle.elimination.proofs.Paths.{closes-back, back-closes}
 use Rattle.elimination.proofs.Ordering.{Least, Lowest, lowest-right, Ranked, ordered-right, order-only}
@@ -83,7 +83,7 @@ module _ (has : ℕ → ℕ → Bool) where
   -- ---- the counts
 
   pub free-degree : (ws : List Pair) (q : Pair) → free has ws q ≡ eqb (degree has ws q) 0
-  unfolding free degree leadsTo
+  unfolding free degree leads_to
   free-degree [] q = refl
   free-degree (b ∷ bs) q = go (eqb b.row q.row || not (has b.row q.column)) (free-degree bs q)
     where
@@ -96,17 +96,17 @@ module _ (has : ℕ → ℕ → Bool) where
   degree-none i [] q h = refl
   degree-none i (b ∷ bs) q h =
       ap (λ (t : Bool). degree has (cond t (without i bs) (b ∷ without i bs)) q) (ne_eqb b.row i (h b (inl refl)))
-      ∙ ap (λ (d : ℕ). leadsTo has b.row q + d) (degree-none i bs q (λ x m. h x (inr m)))
+      ∙ ap (λ (d : ℕ). leads_to has b.row q + d) (degree-none i bs q (λ x m. h x (inr m)))
 
-  pub degree-without : (ws : List Pair) (a q : Pair) → Apart ws → Member a ws → leadsTo has a.row q + degree has (without a.row ws) q ≡ degree has ws q
+  pub degree-without : (ws : List Pair) (a q : Pair) → Apart ws → Member a ws → leads_to has a.row q + degree has (without a.row ws) q ≡ degree has ws q
   unfolding degree without Apart
   degree-without [] a q h m = absurd m
   degree-without (b ∷ bs) a q h (inl s) =
-      ap (λ (t : Bool). leadsTo has a.row q + degree has (cond t (without a.row bs) (b ∷ without a.row bs)) q) (eq-eqb b.row a.row (ap (λ (x : Pair). x.row) (sym s)))
-      ∙ ap (λ (d : ℕ). leadsTo has a.row q + d) (degree-none a.row bs q (λ x m e. h.0 x m (e ∙ ap (λ (x : Pair). x.row) s)))
-      ∙ ap (λ (x : Pair). leadsTo has x.row q + degree has bs q) s
+      ap (λ (t : Bool). leads_to has a.row q + degree has (cond t (without a.row bs) (b ∷ without a.row bs)) q) (eq-eqb b.row a.row (ap (λ (x : Pair). x.row) (sym s)))
+      ∙ ap (λ (d : ℕ). leads_to has a.row q + d) (degree-none a.row bs q (λ x m e. h.0 x m (e ∙ ap (λ (x : Pair). x.row) s)))
+      ∙ ap (λ (x : Pair). leads_to has x.row q + degree has bs q) s
   degree-without (b ∷ bs) a q h (inr m) =
-      ap (λ (t : Bool). leadsTo has a.row q + degree has (cond t (without a.row bs) (b ∷ without a.row bs)) q) (ne_eqb b.row a.row (λ e. h.0 a m (sym e)))
+      ap (λ (t : Bool). leads_to has a.row q + degree has (cond t (without a.row bs) (b ∷ without a.row bs)) q) (ne_eqb b.row a.row (λ e. h.0 a m (sym e)))
       ∙ omega (arith, degree-without bs a q h.1 m)
 
   -- ---- the order

@@ -14,11 +14,11 @@ use Rattle.elimination.specs.Pairs.{pair_rows, pair_columns}
 use Rattle.lists.specs.Tests.{among}
 use Rattle.lists.specs.Members.{Member}
 use Rattle.elimination.specs.Chains.{Back}
-use Rattle.elimination.specs.Selection.{nonzero, pair_at, extendedTo, selected, structural, Takes, NoneLeft, Ordering}
+use Rattle.elimination.specs.Selection.{nonzero, pair_at, extended_to, selected, structural, Takes, NoneLeft, Ordering}
 use Rattle.elimination.specs.Factoring.{factor}
 
 abbrev pub pivots_to : Compressed → ℕ → ℕ → ℕ → List Pair
-pivots_to A n m i = extendedTo (nonzero (matrix A)) m (leading A n m) i
+pivots_to A n m i = extended_to (nonzero (matrix A)) m (leading A n m) i
 
 pub record FollowsRules (p n m : ℕ) (A : Compressed) : Type 0 where
   pub keeps : (q : Pair) → Member q (leading A n m) → Member q (structural A n m)

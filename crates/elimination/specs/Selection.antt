@@ -3,14 +3,14 @@
 --   pair_at i c               the pair of row i and column c
 --   unfit has ps i j         row i has no entry in column j, or the column is used, or the pair (i, j) closes a cycle
 --   extended has m ps i      ps and row i with its lowest-numbered column that is fit; ps alone where row i is chosen or has no such column
---   extendedTo has m ps n    the same for the rows below n, by number
+--   extended_to has m ps n    the same for the rows below n, by number
 --   selected A n m           the pairs of document 01's rule, and those added
 --   free has waiting q       no other waiting row has an entry in q's column
 --   lower_pair a o            of the pair a and the choice o the one with the lower row
 --   lowest has waiting qs    of the pairs qs that are free the one with the lowest row
 --   without i ps             ps without the pair of row i
 --   ordered has k waiting    k times the lowest-numbered free row, which then waits no more
---   leadsTo has i q          1 where row i is another than q's and has an entry in q's column, else 0
+--   leads_to has i q          1 where row i is another than q's and has an entry in q's column, else 0
 --   degree has waiting q     how many of the waiting rows lead to q: none where q is free
 --   structural A n m         the selected pairs in that order
 --   Takes has ps i c         c is row i's lowest-numbered entry in an unused column whose choice closes no cycle
@@ -55,9 +55,9 @@ module _ (has : ℕ → ℕ → Bool) where
       let c = first m (unfit ps i) in
       cond (among i (pair_rows ps) || leb m c) ps (ps ++ (pair_at i c ∷ []))
 
-  unfoldable pub extendedTo : ℕ → List Pair → ℕ → List Pair
-  extendedTo m ps zero = ps
-  extendedTo m ps (suc i) = extended m (extendedTo m ps i) i
+  unfoldable pub extended_to : ℕ → List Pair → ℕ → List Pair
+  extended_to m ps zero = ps
+  extended_to m ps (suc i) = extended m (extended_to m ps i) i
 
   -- ---- what the choice is asked for
 
@@ -86,12 +86,12 @@ module _ (has : ℕ → ℕ → Bool) where
 
   -- ---- the order by counts
 
-  unfoldable pub leadsTo : ℕ → Pair → ℕ
-  leadsTo i q = cond (eqb i q.row || not (has i q.column)) 0 1
+  unfoldable pub leads_to : ℕ → Pair → ℕ
+  leads_to i q = cond (eqb i q.row || not (has i q.column)) 0 1
 
   unfoldable pub degree : List Pair → Pair → ℕ
   degree [] q = 0
-  degree (b ∷ bs) q = leadsTo b.row q + degree bs q
+  degree (b ∷ bs) q = leads_to b.row q + degree bs q
 
   -- ---- what the order is asked for
 
@@ -120,7 +120,7 @@ pub record Ordering (has : ℕ → ℕ → Bool) (ps qs : List Pair) : Type 0 wh
 -- ---- of a stored matrix
 
 unfoldable pub selected : Compressed → ℕ → ℕ → List Pair
-selected A n m = extendedTo (nonzero (matrix A)) m (leading A n m) n
+selected A n m = extended_to (nonzero (matrix A)) m (leading A n m) n
 
 unfoldable pub structural : Compressed → ℕ → ℕ → List Pair
 structural A n m = ordered (nonzero (matrix A)) (length (selected A n m)) (selected A n m)

@@ -19,7 +19,7 @@ use Rattle.sparse.specs.Matrix.{Compressed, matrix, row_of}
 use Rattle.sparse.proofs.Entries.{rises-apart}
 use Rattle.sparse.proofs.Rows.{form-row}
 use Rattle.elimination.specs.Structural.{Pair}
-use Rattle.elimination.specs.Selection.{nonzero, pair_at, leadsTo, degree}
+use Rattle.elimination.specs.Selection.{nonzero, pair_at, leads_to, degree}
 use Rattle.factor_names.specs.Named.{Named}
 use Rattle.factor_names.specs.Sized.{SmallMatrix}
 use Rattle.factor_names.proofs.RowEntries.{row_inside, row_has, has-row}
@@ -31,33 +31,33 @@ use Rattle.factor_arrange.proofs.Waits.{waiting-more, waiting-same, waiting-shor
 -- ---- whether a row leads to a pair
 
 module _ (has : ℕ → ℕ → Bool) where
-  pub leads-own : (k : ℕ) (q : Pair) → k ≡ q.row → leadsTo has k q ≡ 0
-  unfolding leadsTo
+  pub leads-own : (k : ℕ) (q : Pair) → k ≡ q.row → leads_to has k q ≡ 0
+  unfolding leads_to
   leads-own k q e = ap (λ (t : Bool). cond (t || not (has k q.column)) 0 1) (eq-eqb k q.row e)
 
-  leads-by : (k : ℕ) (q : Pair) → ¬ (k ≡ q.row) → (t : Bool) → has k q.column ≡ t → leadsTo has k q ≡ cond (not t) 0 1
-  unfolding leadsTo
+  leads-by : (k : ℕ) (q : Pair) → ¬ (k ≡ q.row) → (t : Bool) → has k q.column ≡ t → leads_to has k q ≡ cond (not t) 0 1
+  unfolding leads_to
   leads-by k q d t e = ap (λ (b : Bool). cond (b || not (has k q.column)) 0 1) (ne_eqb k q.row d) ∙ ap (λ (b : Bool). cond (not b) 0 1) e
 
-  pub leads-other : (k : ℕ) (q : Pair) → ¬ (k ≡ q.row) → has k q.column ≡ true → leadsTo has k q ≡ 1
+  pub leads-other : (k : ℕ) (q : Pair) → ¬ (k ≡ q.row) → has k q.column ≡ true → leads_to has k q ≡ 1
   leads-other k q d e = leads-by k q d true e
 
-  pub leads-none : (k : ℕ) (q : Pair) → has k q.column ≡ false → leadsTo has k q ≡ 0
+  pub leads-none : (k : ℕ) (q : Pair) → has k q.column ≡ false → leads_to has k q ≡ 0
   leads-none k q e = go (ℕ_discrete k q.row)
     where
-      go : Dec (k ≡ q.row) → leadsTo has k q ≡ 0
+      go : Dec (k ≡ q.row) → leads_to has k q ≡ 0
       go (yes s) = leads-own k q s
       go (no d) = leads-by k q d false e
 
-  leads-most : (k : ℕ) (q : Pair) → leadsTo has k q ≤ 1
-  unfolding leadsTo
+  leads-most : (k : ℕ) (q : Pair) → leads_to has k q ≤ 1
+  unfolding leads_to
   leads-most k q = go (eqb k q.row || not (has k q.column))
     where
       go : (t : Bool) → cond t 0 1 ≤ 1
       go true = omega arith
       go false = omega arith
 
-  pub degree-snoc : (ws : List Pair) (b q : Pair) → degree has (ws ++ (b ∷ [])) q ≡ leadsTo has b.row q + degree has ws q
+  pub degree-snoc : (ws : List Pair) (b q : Pair) → degree has (ws ++ (b ∷ [])) q ≡ leads_to has b.row q + degree has ws q
   unfolding degree
   degree-snoc [] b q = refl
   degree-snoc (a ∷ ws) b q = omega (arith, degree-snoc ws b q)
@@ -71,7 +71,7 @@ module _ (has : ℕ → ℕ → Bool) where
 
 pub record Passed (has : ℕ → ℕ → Bool) (k : ℕ) (w row : List ℕ) (t : ℕ) (low high : List ℕ) : Type 0 where
   pub inside : t ≤ length row
-  pub done : (s i : ℕ) → s < t → get_or w (get_or row s 0) 0 ≡ suc i → get_or high i 0 ≡ leadsTo has k (pair_at i (get_or row s 0)) + get_or low i 0
+  pub done : (s i : ℕ) → s < t → get_or w (get_or row s 0) 0 ≡ suc i → get_or high i 0 ≡ leads_to has k (pair_at i (get_or row s 0)) + get_or low i 0
   pub rest : (c i : ℕ) → get_or w c 0 ≡ suc i → ((s : ℕ) → s < t → ¬ (get_or row s 0 ≡ c)) → get_or high i 0 ≡ get_or low i 0
 
 pub passed-starts : (has : ℕ → ℕ → Bool) (k : ℕ) (w row degrees : List ℕ) → Passed has k w row 0 degrees degrees
@@ -116,7 +116,7 @@ module _ (p n : ℕ) (A : Compressed) (w v : List ℕ) (z : SmallMatrix p n (len
       pub passed_over : ((i : ℕ) → get_or w x 0 ≡ suc i → i ≡ k) → Passed has k w row (t + 1) low high
       passed_over own = record { inside = omega arith; done = λ s i l e. go s i l e (ℕ_discrete s t); rest = λ c i e f. h.rest c i e (λ s l. f s (omega arith)) }
         where
-          go : (s i : ℕ) → s < t + 1 → get_or w (get_or row s 0) 0 ≡ suc i → Dec (s ≡ t) → get_or high i 0 ≡ leadsTo has k (pair_at i (get_or row s 0)) + get_or low i 0
+          go : (s i : ℕ) → s < t + 1 → get_or w (get_or row s 0) 0 ≡ suc i → Dec (s ≡ t) → get_or high i 0 ≡ leads_to has k (pair_at i (get_or row s 0)) + get_or low i 0
           go s i l e (yes r) = omega (arith, passed-new i (here s i r e), leads-own has k (pair_at i (get_or row s 0)) (sym (own i (here s i r e))))
           go s i l e (no r) = h.done s i (omega arith) e
 
@@ -134,7 +134,7 @@ module _ (p n : ℕ) (A : Compressed) (w v : List ℕ) (z : SmallMatrix p n (len
           only : (i c : ℕ) → get_or w c 0 ≡ suc i → i ≡ q → x ≡ c
           only i c e s = omega (arith, named-there x q named, ap (λ (j : ℕ). get_or v j 0) s, named-there c i e)
 
-          go : (s i : ℕ) → s < t + 1 → get_or w (get_or row s 0) 0 ≡ suc i → Dec (s ≡ t) → get_or high' i 0 ≡ leadsTo has k (pair_at i (get_or row s 0)) + get_or low' i 0
+          go : (s i : ℕ) → s < t + 1 → get_or w (get_or row s 0) 0 ≡ suc i → Dec (s ≡ t) → get_or high' i 0 ≡ leads_to has k (pair_at i (get_or row s 0)) + get_or low' i 0
           go s i l e (yes r) =
               let same : i ≡ q = omega (arith, here s i r e) in
               omega (
@@ -146,18 +146,18 @@ module _ (p n : ℕ) (A : Compressed) (w v : List ℕ) (z : SmallMatrix p n (len
               )
           go s i l e (no r) =
               let o = kept i (λ y. new s (omega arith) (sym (only i (get_or row s 0) e y))) in
-              o.1 ∙ h.done s i (omega arith) e ∙ ap (λ (y : ℕ). leadsTo has k (pair_at i (get_or row s 0)) + y) (sym o.0)
+              o.1 ∙ h.done s i (omega arith) e ∙ ap (λ (y : ℕ). leads_to has k (pair_at i (get_or row s 0)) + y) (sym o.0)
 
   -- all columns are passed
   pub passed-ends : (k t : ℕ) (low high : List ℕ) → length (row_of A.starts k A.cols) ≤ t → Passed (nonzero (matrix A)) k w (row_of A.starts k A.cols) t low high
-      → (c i : ℕ) → get_or w c 0 ≡ suc i → get_or high i 0 ≡ leadsTo (nonzero (matrix A)) k (pair_at i c) + get_or low i 0
+      → (c i : ℕ) → get_or w c 0 ≡ suc i → get_or high i 0 ≡ leads_to (nonzero (matrix A)) k (pair_at i c) + get_or low i 0
   passed-ends k t low high l h c i e = go (nonzero (matrix A) k c) refl
     where
-      go : (b : Bool) → nonzero (matrix A) k c ≡ b → get_or high i 0 ≡ leadsTo (nonzero (matrix A)) k (pair_at i c) + get_or low i 0
+      go : (b : Bool) → nonzero (matrix A) k c ≡ b → get_or high i 0 ≡ leads_to (nonzero (matrix A)) k (pair_at i c) + get_or low i 0
       go true f =
           let s = has-row p n (length w) A z k c f in
           h.done s.0 i (omega (arith, s.1)) (ap (λ (j : ℕ). get_or w j 0) s.2 ∙ e)
-          ∙ ap (λ (j : ℕ). leadsTo (nonzero (matrix A)) k (pair_at i j) + get_or low i 0) s.2
+          ∙ ap (λ (j : ℕ). leads_to (nonzero (matrix A)) k (pair_at i j) + get_or low i 0) s.2
       go false f = omega (arith, leads-none (nonzero (matrix A)) k (pair_at i c) f, h.rest c i e (λ s g r. true≢false (sym (row_has p n (length w) A z k s (omega (arith, h.inside))) ∙ ap (nonzero (matrix A) k) r ∙ f)))
 
 -- ---- counting row k
@@ -199,7 +199,7 @@ module _ (p n k : ℕ) (A : Compressed) (w v degrees₀ : List ℕ) (s : DegreeR
       record {
         cells = λ j i e.
             passed-ends p n A w v s.sized s.named k t degrees₀ degrees l h j i e
-            ∙ ap (λ (d : ℕ). leadsTo (nonzero (matrix A)) k (pair_at i j) + d) (s.before.cells j i e)
+            ∙ ap (λ (d : ℕ). leads_to (nonzero (matrix A)) k (pair_at i j) + d) (s.before.cells j i e)
             ∙ sym (degree-snoc (nonzero (matrix A)) (waiting_to v k) (pair_at k c.0) (pair_at i j))
             ∙ ap (λ (ws : List Pair). degree (nonzero (matrix A)) ws (pair_at i j)) (sym (waiting-more v k c.0 c.1));
       }

@@ -11,7 +11,7 @@ use lib.ListN.{length, get_or, set, length-set}
 use lib.Seq.{get_or-set_same, get_or-set_other}
 use Rattle.sparse.specs.Matrix.{Compressed, matrix, row_of}
 use Rattle.elimination.specs.Structural.{Pair}
-use Rattle.elimination.specs.Selection.{nonzero, pair_at, leadsTo, degree}
+use Rattle.elimination.specs.Selection.{nonzero, pair_at, leads_to, degree}
 use Rattle.elimination.proofs.Steps.{degree-without}
 use Rattle.factor_names.proofs.RowEntries.{row_has}
 use Rattle.factor_arrange.specs.Waiting.{waiting, Ready}
@@ -112,12 +112,12 @@ module _ (p n k : ℕ) (A : Compressed) (w v₀ v d₀ s₀ : List ℕ) (r : Rel
       }
 
   -- what a selected pair has of its degree once row k waits no more
-  degree-released : (c i : ℕ) → get_or w c 0 ≡ suc i → get_or d₀ i 0 ≡ leadsTo has k (pair_at i c) + degree has (waiting (set v k 0)) (pair_at i c)
+  degree-released : (c i : ℕ) → get_or w c 0 ≡ suc i → get_or d₀ i 0 ≡ leads_to has k (pair_at i c) + degree has (waiting (set v k 0)) (pair_at i c)
   degree-released c i e =
       let o = named (get_or v k 0) waits.0 in
       r.stage.counted.cells c i e
       ∙ sym (degree-without has (waiting v) (pair_at k o.0) (pair_at i c) (waiting-apart v (length v)) (waiting-in v (length v) k o.0 inside o.1))
-      ∙ ap (λ (ws : List Pair). leadsTo has k (pair_at i c) + degree has ws (pair_at i c)) (sym (waiting-without v k inside))
+      ∙ ap (λ (ws : List Pair). leads_to has k (pair_at i c) + degree has ws (pair_at i c)) (sym (waiting-without v k inside))
 
   module _ (t x : ℕ) (turn : t < length (row_of A.starts k A.cols)) (at : x ≡ get_or (row_of A.starts k A.cols) t 0) (d s : List ℕ) (low : ℕ)
       (h : Releasing k A w (set v k 0) d₀ (set s₀ k 0) d s low t) where

@@ -20,7 +20,7 @@ use Rattle.sparse.specs.Matrix.{Compressed, matrix}
 use Rattle.elimination.specs.Structural.{Pair, leading}
 use Rattle.elimination.specs.Pairs.{pair_rows}
 use Rattle.lists.specs.Tests.{among}
-use Rattle.elimination.specs.Selection.{nonzero, pair_at, unfit, extended, extendedTo}
+use Rattle.elimination.specs.Selection.{nonzero, pair_at, unfit, extended, extended_to}
 use Rattle.elimination.specs.Rules.{pivots_to}
 use Rattle.elimination.proofs.Members.{in-named, none_named}
 use Rattle.elimination.proofs.Steps.{extended-chosen, extended-left, extended-taken}
@@ -53,7 +53,7 @@ module _ (p n i : ℕ) (A : Compressed) (w v stamps₀ queue₀ : List ℕ) (rea
   row-left e = none_named (λ q. q.row) ps i (λ q h r. omega (arith, named.by_row.all q h, ap (λ (t : ℕ). get_or v t 0) r, e))
 
   next : pivots_to A n m (i + 1) ≡ extended has m ps i
-  unfolding extendedTo
+  unfolding extended_to
   next = ap (pivots_to A n m) (add-one i)
 
   stays : extended has m ps i ≡ ps → Named A n m (i + 1) w v
@@ -173,7 +173,7 @@ module _ (p n : ℕ) (A : Compressed) (w₀ v₀ stamps₀ queue₀ : List ℕ) 
 module _ (p n : ℕ) (A : Compressed) (w v₀ v stamps queue : List ℕ) (ready : NameReady p n A w v₀) (long : length v ≡ length v₀) (named : ByRow v (leading A n (length w)))
     (stamps-clear : stamps ≡ zeros (length w)) (queue-clear : queue ≡ zeros (length w)) where
   leading-both : Named A n (length w) 0 w v
-  unfolding extendedTo
+  unfolding extended_to
   leading-both =
       record {
         columns-long = refl;

@@ -1,5 +1,5 @@
 // Standard input and standard output of the programs. A read that fails is no end of the input, and a write that fails is no end of the output:
-// each is said on standard error, and answered. A program has no exit status to say it by.
+// each is said on standard error, and answered. The programs' exit status says nothing of it.
 #![tactic(auto)]
 
 ghost use Rattle.std.specs.Io.{ReadsAtMost};

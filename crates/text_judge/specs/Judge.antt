@@ -1,5 +1,5 @@
 -- What a line is judged to be.
---   inRange v            v lies from -2,147,483,648 to 2,147,483,647
+--   in_range v            v lies from -2,147,483,648 to 2,147,483,647
 --   residue_at p v        v modulo p
 --   is_last i j v         the line is `0 0 0`
 --   is_zero v             v is `0`

@@ -4,7 +4,6 @@ use lib.ListN.{length}
 use Rattle.lists.proofs.Filled.{Clearing}
 use Rattle.lists.proofs.clear.Given as goal
 
--- `clear` meets its contract; the loop's invariant is `Clearing`. Assumes nothing.
 abbrev pub invariant-loop-i : goal.invariant-loop-i
 invariant-loop-i l = Clearing l.initial.list l.list l.i
 

@@ -4,7 +4,6 @@ use lib.ListN.{length}
 use Rattle.lists.proofs.Filled.{Clearing}
 use Rattle.lists.proofs.clear_bytes.Given as goal
 
--- `clear_bytes` meets its contract; the loop's invariant is `Clearing`. Assumes nothing.
 abbrev pub invariant-loop-i : goal.invariant-loop-i
 invariant-loop-i l = Clearing l.initial.bytes l.bytes l.i
 

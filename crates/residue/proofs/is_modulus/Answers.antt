@@ -4,7 +4,6 @@ use Rattle.lists.proofs.Bools.{chain-false, chain-true}
 use Rattle.residue.specs.Range.{is_modulus}
 use Rattle.residue.proofs.is_modulus.Goals as goal
 
--- `is_modulus` meets its contract. Assumes nothing.
 pub returns-then-p-gt-LARGEST_MODULUS : goal.returns-then-p-gt-LARGEST_MODULUS
 unfolding is_modulus
 returns-then-p-gt-LARGEST_MODULUS c = chain-false _ _ (lt-leb _ _ c.if-p-gt-LARGEST_MODULUS.true)

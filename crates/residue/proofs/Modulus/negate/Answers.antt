@@ -5,7 +5,6 @@ use native.Mathlib.Nat.{mod_self, mod-eq_of_lt, sub-zero}
 use native.Mathlib.Omega.{arith}
 use Rattle.residue.proofs.Modulus.negate.Goals as goal
 
--- `Modulus::negate` meets its contract: 0 is its own negative, and p - a is below p otherwise. Assumes nothing.
 pub returns-then-a-eq0 : goal.returns-then-a-eq0
 returns-then-a-eq0 c =
     let p = c.args.self.p in

@@ -4,7 +4,6 @@ use mathlib.Core.Path.{sym, ap, ◌∙◌}
 use native.Mathlib.Nat.{zero-mod}
 use Rattle.residue.proofs.Modulus.reduce_cell.Goals as goal
 
--- `reduce_cell` meets its contract: 0 is its own residue. Assumes nothing.
 pub returns-then-x-eq0 : goal.returns-then-x-eq0
 returns-then-x-eq0 c =
     let p = c.args.self.p in

@@ -5,7 +5,6 @@ use Rattle.residue.proofs.Primes.{not-prime}
 use Rattle.residue.proofs.Table.{failing-composite}
 use Rattle.residue.proofs.prime_test.is_prime.Goals as goal
 
--- `is_prime` meets its contract: the table decides against, or prepares for the odd divisors. Assumes nothing.
 pub returns-then-p-lt2 : goal.returns-then-p-lt2
 returns-then-p-lt2 c = sym (not-prime _ (λ prime. omega (arith, prime.two)))
 

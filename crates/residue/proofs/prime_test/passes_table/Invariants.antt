@@ -6,7 +6,6 @@ use Rattle.residue.specs.Primality.{small_primes}
 use Rattle.residue.proofs.Table.{passes}
 use Rattle.residue.proofs.prime_test.passes_table.Given as goal
 
--- `passes_table` meets its contract. The loop's invariant: the table in the code is the definition's, and p passes the entries below i. Assumes nothing.
 abbrev pub invariant-loop-i : goal.invariant-loop-i
 invariant-loop-i l = (l.primes ≡ small_primes) × (l.i ≤ 54) × ((k : ℕ) → k < l.i → passes l.p k ≡ true)
 
