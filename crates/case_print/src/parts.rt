@@ -1,6 +1,6 @@
 // The first cells of a list.
 ghost use Rattle.std.specs.Prelude.{◌≤◌};
-ghost use Rattle.case_print.specs.Beginning.{IsPrefixLen};
+ghost use Rattle.io.specs.Counts.{IsPrefixLen};
 
 use lists::index;
 

@@ -6,11 +6,11 @@ use native.Mathlib.Decide.{dec_lt}
 use native.Mathlib.Omega.{arith}
 use lib.ListN.{length, get_or}
 use Rattle.algebra.specs.Matrix.{Vector, Matrix}
-use Rattle.factor_copies.specs.Copies.{Copied, CopiedRows, Kept, Keeping}
+use Rattle.factor_copies.specs.Copies.{CopyAt, CopiedRows, CopyKept, Keeping}
 
 -- ---- the same row by another name
 
-pub copied-same : (p m : ℕ) (u v : Vector) (at low : ℕ) (copies : List ℕ) → ((j : ℕ) → u j ≡ v j) → Copied p m u at low copies → Copied p m v at low copies
+pub copied-same : (p m : ℕ) (u v : Vector) (at low : ℕ) (copies : List ℕ) → ((j : ℕ) → u j ≡ v j) → CopyAt p m u at low copies → CopyAt p m v at low copies
 copied-same p m u v at low copies e c = record { small = c.small; wide = c.wide; inside = c.inside; left = λ j h. sym (e j) ∙ c.left j h; right = λ t h. c.right t h ∙ e (low + t) }
 
 pub copied-rows-same : (p r m : ℕ) (U W : Matrix) (copies : List ℕ) → ((k j : ℕ) → k < r → U k j ≡ W k j) → CopiedRows p r m U copies → CopiedRows p r m W copies
@@ -58,6 +58,6 @@ not-held p r found m U fill copies up most many c =
       each = λ k h some. go k h some (dec_lt k r);
     }
   where
-    go : (k : ℕ) → k < found → ¬ (get_or copies k 0 ≡ 0) → Dec (k < r) → Kept p m (U k) (get_or copies k 0) (get_or copies (2048 + k) 0) fill copies
+    go : (k : ℕ) → k < found → ¬ (get_or copies k 0 ≡ 0) → Dec (k < r) → CopyKept p m (U k) (get_or copies k 0) (get_or copies (2048 + k) 0) fill copies
     go k h some (yes q) = c.each k q some
     go k h some (no q) = absurd (some (c.later k (omega arith) (omega arith)))

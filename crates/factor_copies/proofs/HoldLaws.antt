@@ -12,7 +12,7 @@ use Rattle.sparse.specs.Form.{rises_from}
 use Rattle.sparse.specs.Row.{entry, Row}
 use Rattle.sparse.specs.Matrix.{Compressed, row_of}
 use Rattle.sparse.proofs.Entries.{rises-at, rises-apart, entry_absent}
-use Rattle.factor_copies.specs.Copies.{Kept, Keeping, HoldReady, RowHeld}
+use Rattle.factor_copies.specs.Copies.{CopyKept, Keeping, HoldReady, RowHeld}
 use Rattle.factor_copies.specs.Spreading.{SpreadReady, Spread, Worth, CopyRowReady, RowCopied}
 use Rattle.factor_copies.proofs.CopyLaws.{not-held}
 
@@ -36,7 +36,7 @@ module _ (p r m : ℕ) (U : Matrix) (fill : ℕ) (cols vals copies₀ copies : L
   past : (s : ℕ) → m ≤ low + s → entry cols vals (low + s) ≡ 0
   past s h = entry_absent cols vals (low + s) (λ t b e. omega (arith, e, (rises-at m 0 cols ready.rising t b).1))
 
-  new : Kept p m (U r) fill low next copies
+  new : CopyKept p m (U r) fill low next copies
   new =
       record {
         copy = record {
@@ -51,7 +51,7 @@ module _ (p r m : ℕ) (U : Matrix) (fill : ℕ) (cols vals copies₀ copies : L
       }
 
   -- an earlier copy is where it was
-  earlier : (k : ℕ) → k < r → (at wide' : ℕ) → Kept p m (U k) at wide' fill copies₀ → Kept p m (U k) at wide' next copies
+  earlier : (k : ℕ) → k < r → (at wide' : ℕ) → CopyKept p m (U k) at wide' fill copies₀ → CopyKept p m (U k) at wide' next copies
   earlier k h at low' c =
       record {
         copy = record {
@@ -79,7 +79,7 @@ module _ (p r m : ℕ) (U : Matrix) (fill : ℕ) (cols vals copies₀ copies : L
       clear : (i s : ℕ) → fill + s ≡ i → next ≤ i → get_or copies i 0 ≡ 0
       clear i s e h = ap (λ (x : ℕ). get_or copies x 0) (sym e) ∙ done.cells k₀.clear s ∙ past s (omega (arith, done.end, wide))
 
-      each : (k : ℕ) → k < r + 1 → ¬ (get_or copies k 0 ≡ 0) → Dec (k < r) → Kept p m (U k) (get_or copies k 0) (get_or copies (2048 + k) 0) next copies
+      each : (k : ℕ) → k < r + 1 → ¬ (get_or copies k 0 ≡ 0) → Dec (k < r) → CopyKept p m (U k) (get_or copies k 0) (get_or copies (2048 + k) 0) next copies
       each k h some (yes q) =
           let place : get_or copies k 0 ≡ get_or copies₀ k 0 = done.front k (omega (arith, ready.low, ready.row)) (λ (e : k ≡ r). omega arith) (λ (e : k ≡ 2048 + r). omega arith) in
           let column : get_or copies (2048 + k) 0 ≡ get_or copies₀ (2048 + k) 0 =
@@ -87,7 +87,7 @@ module _ (p r m : ℕ) (U : Matrix) (fill : ℕ) (cols vals copies₀ copies : L
           rw (place, column) (earlier k q _ _ (k₀.each k q (λ z. some (place ∙ z))))
       each k h some (no q) = last k (omega arith)
         where
-          last : (x : ℕ) → x ≡ r → Kept p m (U x) (get_or copies x 0) (get_or copies (2048 + x) 0) next copies
+          last : (x : ℕ) → x ≡ r → CopyKept p m (U x) (get_or copies x 0) (get_or copies (2048 + x) 0) next copies
           last x e = rw (e, done.place, done.column) new
 
 -- ---- the steps of copying

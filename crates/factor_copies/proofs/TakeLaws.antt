@@ -12,14 +12,14 @@ use Rattle.sparse.specs.WorkingRow.{GrownBy, growth}
 use Rattle.sparse.specs.Run.{FromReady, AddedFrom}
 use Rattle.sparse.proofs.Rows.{form-below}
 use Rattle.sparse.proofs.AddLaws.{vector-room, vector-grown}
-use Rattle.factor_copies.specs.Copies.{Copied, RowCopy, CopyReady}
+use Rattle.factor_copies.specs.Copies.{CopyAt, RowCopy, CopyTakeReady}
 
 -- a copy where its place and its first column were read
-pub copy_at : (p m : ℕ) (u : Vector) (k : ℕ) (copies : List ℕ) → RowCopy p m u k copies → (at low : ℕ) → at ≡ get_or copies k 0 → low ≡ get_or copies (2048 + k) 0 → ¬ (at ≡ 0) → Copied p m u at low copies
-copy_at p m u k copies h at low ea el some = subst₂ (λ (a b : ℕ). Copied p m u a b copies) (sym ea) (sym el) (h.copy (λ z. some (ea ∙ z)))
+pub copy_at : (p m : ℕ) (u : Vector) (k : ℕ) (copies : List ℕ) → RowCopy p m u k copies → (at low : ℕ) → at ≡ get_or copies k 0 → low ≡ get_or copies (2048 + k) 0 → ¬ (at ≡ 0) → CopyAt p m u at low copies
+copy_at p m u k copies h at low ea el some = subst₂ (λ (a b : ℕ). CopyAt p m u a b copies) (sym ea) (sym el) (h.copy (λ z. some (ea ∙ z)))
 
 -- the copy of row k is the part of the list from place `at` up to `end`, and d = p - c
-module _ (p k c d : ℕ) (M : Compressed) (copies w : List ℕ) (h : CopyReady p k c M copies w) (at low end : ℕ) (copy : Copied p (length w) (matrix M k) at low copies)
+module _ (p k c d : ℕ) (M : Compressed) (copies w : List ℕ) (h : CopyTakeReady p k c M copies w) (at low end : ℕ) (copy : CopyAt p (length w) (matrix M k) at low copies)
     (last : end ≡ at + (length w - low)) (whole : d + c ≡ p) where
   abbrev cells : List ℕ
   cells = slice at end copies

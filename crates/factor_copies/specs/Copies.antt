@@ -1,9 +1,9 @@
 -- Rows of a matrix that are kept once more, cell by cell, in one list of copies.
---   Copied p m u at low copies         the row u of m cells is 0 before column `low`, and its other cells stand in the list from place `at` on; p is below 2 ^ 16
+--   CopyAt p m u at low copies         the row u of m cells is 0 before column `low`, and its other cells stand in the list from place `at` on; p is below 2 ^ 16
 --   RowCopy p m u k copies             so it is of row k, unless place k says that it has no copy
 --   CopiedRows p r m U copies          so it is of the first r rows of U
---   CopyReady p k c M copies w         c times row k of a stored matrix can be taken away, by way of its copy where it has one
---   Kept p m u at low fill copies      a copy that stands before place `fill`
+--   CopyTakeReady p k c M copies w     c times row k of a stored matrix can be taken away, by way of its copy where it has one
+--   CopyKept p m u at low fill copies  a copy that stands before place `fill`
 --   Keeping p r m U fill copies        the first r rows of U are copied before place `fill`, those that are; nothing is after it, and no later row has a copy
 --   HoldReady p r found m fill M ..    row r of a stored matrix can be copied, where it is the last of `found`
 --   RowHeld p r found m fill M ..      then the first `found` rows are kept, before place `next`, where the first r were
@@ -15,7 +15,7 @@ use Rattle.sparse.specs.WorkingRow.{GrowMatrixReady}
 
 -- ---- copies that are read
 
-pub record Copied (p m : ℕ) (u : Vector) (at low : ℕ) (copies : List ℕ) : Type 0 where
+pub record CopyAt (p m : ℕ) (u : Vector) (at low : ℕ) (copies : List ℕ) : Type 0 where
   pub small : p < 65536
   pub wide : low ≤ m
   pub inside : at + (m - low) ≤ length copies
@@ -25,19 +25,19 @@ pub record Copied (p m : ℕ) (u : Vector) (at low : ℕ) (copies : List ℕ) : 
 pub record RowCopy (p m : ℕ) (u : Vector) (k : ℕ) (copies : List ℕ) : Type 0 where
   pub row : k < 2048
   pub long : 4096 ≤ length copies
-  pub copy : ¬ (get_or copies k 0 ≡ 0) → Copied p m u (get_or copies k 0) (get_or copies (2048 + k) 0) copies
+  pub copy : ¬ (get_or copies k 0 ≡ 0) → CopyAt p m u (get_or copies k 0) (get_or copies (2048 + k) 0) copies
 
 abbrev pub CopiedRows : ℕ → ℕ → ℕ → Matrix → List ℕ → Type 0
 CopiedRows p r m U copies = (k : ℕ) → k < r → RowCopy p m (U k) k copies
 
-pub record CopyReady (p k c : ℕ) (M : Compressed) (copies w : List ℕ) : Type 0 where
+pub record CopyTakeReady (p k c : ℕ) (M : Compressed) (copies w : List ℕ) : Type 0 where
   pub grow : GrowMatrixReady p k c M w
   pub copy : RowCopy p (length w) (matrix M k) k copies
 
 -- ---- copies that are made
 
-pub record Kept (p m : ℕ) (u : Vector) (at low fill : ℕ) (copies : List ℕ) : Type 0 where
-  pub copy : Copied p m u at low copies
+pub record CopyKept (p m : ℕ) (u : Vector) (at low fill : ℕ) (copies : List ℕ) : Type 0 where
+  pub copy : CopyAt p m u at low copies
   pub begins : 4096 ≤ at
   pub ends : at + (m - low) ≤ fill
 
@@ -47,7 +47,7 @@ pub record Keeping (p r m : ℕ) (U : Matrix) (fill : ℕ) (copies : List ℕ) :
   pub room : fill ≤ length copies
   pub clear : (i : ℕ) → fill ≤ i → get_or copies i 0 ≡ 0
   pub later : (k : ℕ) → r ≤ k → k < 2048 → get_or copies k 0 ≡ 0
-  pub each : (k : ℕ) → k < r → ¬ (get_or copies k 0 ≡ 0) → Kept p m (U k) (get_or copies k 0) (get_or copies (2048 + k) 0) fill copies
+  pub each : (k : ℕ) → k < r → ¬ (get_or copies k 0 ≡ 0) → CopyKept p m (U k) (get_or copies k 0) (get_or copies (2048 + k) 0) fill copies
 
 pub record HoldReady (p r found m fill : ℕ) (M : Compressed) (copies : List ℕ) : Type 0 where
   pub grown : (r ≤ found) × (found ≤ r + 1)

@@ -3,7 +3,7 @@ ghost use Rattle.std.specs.Prelude.{◌*◌};
 ghost use Rattle.sparse.specs.Matrix.{matrix};
 ghost use Rattle.sparse.specs.WorkingRow.{GrownBy, growth};
 ghost use Rattle.sparse.specs.Views.{stored_at, stored_before};
-ghost use Rattle.factor_copies.specs.Copies.{CopyReady};
+ghost use Rattle.factor_copies.specs.Copies.{CopyTakeReady};
 
 use lists::{index, part};
 use residue::Modulus;
@@ -21,7 +21,7 @@ pub fn take_copied(
     c: u32,
     work: &mut [u64],
 )
-    requires { CopyReady q.p k c (stored_at starts.now cols.now vals.now) copies.now work.old }
+    requires { CopyTakeReady q.p k c (stored_at starts.now cols.now vals.now) copies.now work.old }
     ensures { GrownBy q.p (growth q.p) (λ j. c * matrix (stored_before starts.now cols.now vals.now) k j) work.old work.new }
 {
     let at = index(copies[k]);
