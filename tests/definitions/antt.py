@@ -107,7 +107,11 @@ class Scope:
         """Where that which a word names stands; none for the kit's, and for variables."""
         head, _, rest = word.rstrip(".").partition(".")
         if rest and head in self.modules:
-            return place_of(self.modules[head], rest.split(".")[0])
+            module, (first, *deeper) = self.modules[head], rest.split(".")
+            # a declared type stands in a module of its own: `stored.Compressed.Compressed`
+            if deeper and ".declared" in module:
+                module, first = f"{module}.{first}", deeper[0]
+            return place_of(module, first)
         return self.own.get(head) or self.given.get(head)
 
     def places(self, text):

@@ -237,6 +237,13 @@ class ListedTest(ListTest):
         files = {"base/src/more.rt": more, "base/specs/Laws.antt": laws}
         self.assertEqual(self.types(files), ["base/src/lib Kind", "base/src/more Pair"])
 
+    def test_type_by_the_module_of_its_file(self):
+        laws = "use Rattle.base.specs.declared.more\n\n"
+        laws += "abbrev pub twice : more.Pair.Pair → ℕ\ntwice n = 0\n"
+        more = "pub struct Pair {\n    pub low: u32,\n}\n"
+        files = {"base/src/more.rt": more, "base/specs/Laws.antt": laws}
+        self.assertEqual(self.types(files), ["base/src/more Pair"])
+
     def test_type_of_a_call(self):
         calls = CALLS.replace("\n) -> u32", "\n) -> Kind")
         self.assertEqual(self.types({"calls/src/lib.rt": calls}), ["base/src/lib Kind"])

@@ -68,8 +68,13 @@ def cases():
 CASES = {
     "show": lambda text: Case(literal_eval(text), PLAIN_ROOM, PLAIN_ROOM),
     "room": lambda lower, upper: Case(PLAN_D, int(lower), int(upper)),
-    "changed": lambda of, to: Case(PLAN_D, D_LOWER, D_UPPER, of.removeprefix("change::"), int(to)),
+    "changed": lambda of, to: Case(PLAN_D, D_LOWER, D_UPPER, _part(of), int(to)),
 }
+
+
+def _part(of):
+    """The name of a part: `Part::LStarts` is L_STARTS."""
+    return re.sub(r"(?<!^)(?=[A-Z])", "_", of.removeprefix("Part::")).upper()
 
 
 def handed(case):

@@ -15,7 +15,7 @@ from model.plan_text import read_plan
 from model.refusals import LENGTH, Refusal
 
 PROGRAM = Path(__file__).resolve().parents[2] / "crates" / "case_reading"
-CALL = re.compile(r'\b([a-z]+)_case\(\s*rt,\s*(b"[^"]*")((?:,\s*\d+)*),?\s*\);')
+CALL = re.compile(r'\b([a-z]+)_case\(\s*rt,\s*("[^"]*")((?:,\s*\d+)*),?\s*\);')
 
 # The files that name cases, as their cases are run.
 SOURCES = ("main.rt", "owners.rt")
@@ -37,9 +37,9 @@ def cases():
     """Each case: name, text, lengths, and whether cells are printed."""
     source = "".join((PROGRAM / "src" / name).read_text() for name in SOURCES)
     for kind, case, numbers in CALL.findall(source):
-        name, text = literal_eval(case).split(b"|", 1)
+        name, text = literal_eval(case).split("|", 1)
         lent = LENT[kind](*map(int, re.findall(r"\d+", numbers)))
-        yield name.decode(), text, lent, kind == "cells"
+        yield name, text.encode(), lent, kind == "cells"
     for name, text in long_texts():
         yield name, text, (STARTS, LONG_ROOM, LONG_ROOM, OWNERS), False
 

@@ -77,7 +77,7 @@ marking-starts r C w d =
     }
 
 module _ (r : ℕ) (C w₀ w : List ℕ) (k v : ℕ) (d : MarksReady r C w₀) (h : k < r) (e : v ≡ get_or C k 0) (s : Marking r C w₀ w k) where
-  pub marking-column : v < length w
+  marking-column : v < length w
   marking-column = omega (arith, e, s.long, d.places k (omega (arith, d.order)))
 
   pub marking-turn : Marking r C w₀ (set w v 1) (k + 1)
@@ -90,6 +90,3 @@ module _ (r : ℕ) (C w₀ w : List ℕ) (k v : ℕ) (d : MarksReady r C w₀) (
     where
       one_more : take k C ++ (v ∷ []) ≡ take (k + 1) C
       one_more = ap (λ (x : ℕ). take k C ++ (x ∷ [])) e ∙ sym (take-suc C k 0 (omega (arith, d.order))) ∙ ap (λ (n : ℕ). take n C) (sym (add-one k))
-
-pub marking-ends : (r : ℕ) (C w₀ w : List ℕ) (k : ℕ) → r ≤ k → Marking r C w₀ w k → Marked (take r C) w
-marking-ends r C w₀ w k h s = let q : k ≡ r = omega (arith, s.within) in rw (← q) s.marked

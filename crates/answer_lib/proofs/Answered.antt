@@ -7,24 +7,23 @@ use lib.ListN.{length}
 use Rattle.lists.specs.Filled.{zeros}
 use Rattle.lists.proofs.Filled.{length-zeros, filled_none}
 use Rattle.refusals.specs.Refusals.{◌▷◌}
-use Rattle.refusals.specs.declared.Outcome.{Outcome}
-use Rattle.refusals.specs.declared.Outcome.TheVariants.{Passed, Refused}
-use Rattle.refusals.proofs.Refusals.{both-passed}
+use Rattle.refusals.specs.Outcome.{Outcome}
+use Rattle.refusals.specs.Outcome.{Passed, Refused}
 use Rattle.sparse.specs.Matrix.{Compressed}
 use Rattle.sparse.specs.Set.{Storage}
 use Rattle.limits.specs.Limits.{starts_length, largest_entries, work_length}
 use Rattle.text_plan.specs.Call.{ReadAnswer}
 use Rattle.text_plan.specs.Held.{held_plan, plan_of}
-use Rattle.text_plan.specs.declared.Reading.{Reading}
+use Rattle.text_plan.specs.Call.{Reading}
 use Rattle.text_owners.specs.Call.{owners_length, text_call_of, GivesText}
 use Rattle.factor_all.specs.Factorization.{Factorization}
 use Rattle.call_answer.specs.Calls.{Given, answer_factors_of, answer_certificate_of, Answers}
-use Rattle.call_answer.specs.declared.Answer.{Answer}
+use Rattle.call_answer.specs.Answer.{Answer}
 use Rattle.call_owned.specs.Owned.{given_after}
 use Rattle.stages.specs.Stages.{read_text, reading, factored_of, set_factored}
 use Rattle.stages.specs.Lists.{Held}
-use Rattle.stages.specs.Staged.{Fits, stages_outcome, Staged}
-use Rattle.stages.specs.declared.Stages.{Stages}
+use Rattle.stages.specs.Staged.{stages_outcome, Staged}
+use Rattle.stages.specs.Results.{Stages}
 use Rattle.stages.proofs.Holding.{held, answer-is}
 use Rattle.answer_lib.specs.Answering.{own_answer, certified_answer, answer_read_of, answer_text_of}
 use Rattle.answer_lib.specs.Held.{answer_held_of, answer_staged_of, certified_held_of}
@@ -52,23 +51,19 @@ after_same (Refused k d) g g' f = refl
 
 -- ---- from the engine's own factors
 
-module _ (s : Stages) (A : Compressed) (h : Storage) (d : StagedReady s A h) (o : Outcome) (told : o ≡ stages_outcome s) where
-  pub stages-fit : o ≡ Passed → Fits s A h
-  stages-fit q = d.fits (both-passed s.reading.outcome s.factored.outcome (sym told ∙ q)).0
+module _ (s : Stages) (A : Compressed) (h : Storage) (y x₀ x z₀ z : List ℕ) where
+  abbrev here : Given
+  here = answer_held_of s A h y (length x₀) (length z₀) (length h.work)
 
-  module _ (y x₀ x z₀ z : List ℕ) where
-    abbrev here : Given
-    here = answer_held_of s A h y (length x₀) (length z₀) (length h.work)
+  pub stages-refuse : (k e : ℕ) → Refused k e ≡ stages_outcome s → x ≡ zeros (length x₀) → z ≡ zeros (length z₀) → h.work ≡ zeros (length h.work)
+      → Answers (answer_staged_of s A h y (length x₀) (length z₀) (length h.work)) (Answer.Refused k e) x₀ x z₀ z h.work h.work
+  unfolding answer_staged_of
+  stages-refuse k e q = refuses (stages_outcome s) here x₀ x z₀ z h.work h.work k e (sym q)
 
-    pub stages-refuse : (k e : ℕ) → o ≡ Refused k e → x ≡ zeros (length x₀) → z ≡ zeros (length z₀)
-        → Answers (answer_staged_of s A h y (length x₀) (length z₀) (length h.work)) (Answer.Refused k e) x₀ x z₀ z h.work h.work
-    unfolding answer_staged_of
-    stages-refuse k e q ex ez = refuses (stages_outcome s) here x₀ x z₀ z h.work h.work k e (sym told ∙ q) ex ez d.clear
-
-    pub stages-answer : o ≡ Passed → (r : Answer) (w : List ℕ) → Answers here r x₀ x z₀ z h.work w
-        → Answers (answer_staged_of s A h y (length x₀) (length z₀) (length h.work)) r x₀ x z₀ z h.work w
-    unfolding answer_staged_of
-    stages-answer q r w = passes (stages_outcome s) here x₀ x z₀ z h.work w r (sym told ∙ q)
+  pub stages-answer : stages_outcome s ≡ Passed → (r : Answer) (w : List ℕ) → Answers here r x₀ x z₀ z h.work w
+      → Answers (answer_staged_of s A h y (length x₀) (length z₀) (length h.work)) r x₀ x z₀ z h.work w
+  unfolding answer_staged_of
+  stages-answer q r w = passes (stages_outcome s) here x₀ x z₀ z h.work w r q
 
 module _ (text y : List ℕ) (s : Stages) (A : Compressed) (w₀ : List ℕ) (h : Storage) (staged : Staged text s A w₀ h) (wide : length w₀ ≡ work_length) where
   long : length h.work ≡ length w₀

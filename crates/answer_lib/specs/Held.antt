@@ -6,11 +6,11 @@ use Rattle.std.specs.Prelude.{ℕ, List}
 use Rattle.sparse.specs.Matrix.{Compressed}
 use Rattle.sparse.specs.Set.{Storage}
 use Rattle.text_plan.specs.Held.{held_plan}
-use Rattle.text_plan.specs.declared.Reading.{Reading}
+use Rattle.text_plan.specs.Call.{Reading}
 use Rattle.call_answer.specs.Calls.{Given, answer_factors_of, answer_certificate_of}
 use Rattle.call_owned.specs.Owned.{given_after}
 use Rattle.stages.specs.Staged.{held_set, stages_outcome}
-use Rattle.stages.specs.declared.Stages.{Stages}
+use Rattle.stages.specs.Results.{Stages}
 
 abbrev pub answer_held_of : Stages → Compressed → Storage → (y : List ℕ) → (a b w : ℕ) → Given
 answer_held_of s A h y a b w = let r = s.reading in answer_factors_of r.p r.n r.m (held_plan r A) (held_set s h) y a b w

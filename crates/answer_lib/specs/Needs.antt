@@ -3,12 +3,12 @@
 --   CertifiedReady cert w  a certificate with bytes, and a working row
 use Rattle.std.specs.Prelude.{ℕ, ◌<◌, ◌≡◌, List, length}
 use Rattle.lists.specs.Filled.{zeros}
-use Rattle.refusals.specs.declared.Outcome.TheVariants.{Passed}
+use Rattle.refusals.specs.Outcome.{Passed}
 use Rattle.sparse.specs.Matrix.{Compressed}
 use Rattle.sparse.specs.Set.{Storage}
 use Rattle.limits.specs.Limits.{work_length}
 use Rattle.stages.specs.Staged.{Fits}
-use Rattle.stages.specs.declared.Stages.{Stages}
+use Rattle.stages.specs.Results.{Stages}
 
 pub record StagedReady (s : Stages) (A : Compressed) (h : Storage) : Type 0 where
   pub fits : s.reading.outcome ≡ Passed → Fits s A h

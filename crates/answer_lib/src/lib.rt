@@ -3,10 +3,11 @@
 
 ghost use Rattle.std.specs.Prelude.{ℕ, ◌≡◌, length};
 ghost use Rattle.limits.specs.Limits.{work_length};
-ghost use Rattle.call_answer.specs.Calls.{AnswersIn};
+ghost use Rattle.call_answer.specs.Calls.{AnswersIn, given_answer};
 ghost use Rattle.answer_lib.specs.Answering.{answer_text_of};
 
-use call_answer::Answer;
+use refusals::Refusal;
+use row_space::Verdict;
 
 pub mod certified;
 pub mod own;
@@ -23,11 +24,11 @@ pub fn answer_text(
     x: &mut [u32],
     z: &mut [u32],
     work: &mut [u64],
-) -> Answer
+) -> Result<Verdict, Refusal>
     requires { length work.old ≡ work_length }
-    ensures { AnswersIn (λ (a b w : ℕ). answer_text_of text.now certificate.now y.now a b) result x z work }
+    ensures { AnswersIn (λ (a b w : ℕ). answer_text_of text.now certificate.now y.now a b) (given_answer result) x z work }
 {
-    if certificate.len() == 0 {
+    if certificate.is_empty() {
         own::answer_own(text, y, x, z, work)
     } else {
         certified::answer_certified(text, certificate, y, x, z, work)

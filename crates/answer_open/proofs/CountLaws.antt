@@ -7,7 +7,7 @@ use Prim.Native.Nat.{ℕ, suc, ◌+◌, ◌*◌, ◌≤◌, ◌<◌}
 use native.Mathlib.Omega.{arith}
 use lib.Dec.{eqb, ltb}
 use lib.ListN.{length, get_or, drop}
-use borrow.Author.Tests.{eqb-true, eqb-false, eq-eqb, ne_eqb, ltb-true}
+use borrow.Author.Tests.{eqb-true, eqb-false, ltb-true}
 use Rattle.lists.proofs.Bools.{and_left, and_right}
 use Rattle.lists.proofs.Steps.{drop-step, drop-end}
 use Rattle.algebra.specs.Congruence.{◌≈⟨◌⟩◌}
@@ -20,18 +20,6 @@ use Rattle.sparse.specs.Row.{weigh, entry}
 use Rattle.answer_open.specs.Counting.{closed_at, closed_others}
 
 -- ---- the loop over the columns
-
-pub at_own : (d : ℕ) (o : List ℕ) (c : ℕ) → c ≡ d → 0 ≡ closed_at d o c
-unfolding closed_at
-at_own d o c e = ap (λ (b : Bool). cond b 0 (cond (eqb (get_or o c 0) 0) 1 0)) (sym (eq-eqb c d e))
-
-pub at-shut : (d : ℕ) (o : List ℕ) (c : ℕ) → c ≢ d → get_or o c 0 ≡ 0 → 1 ≡ closed_at d o c
-unfolding closed_at
-at-shut d o c e f = λ i. cond (sym (ne_eqb c d e) i) 0 (cond (sym (eq-eqb (get_or o c 0) 0 f) i) 1 0)
-
-pub at_open : (d : ℕ) (o : List ℕ) (c : ℕ) → c ≢ d → get_or o c 0 ≢ 0 → 0 ≡ closed_at d o c
-unfolding closed_at
-at_open d o c e f = λ i. cond (sym (ne_eqb c d e) i) 0 (cond (sym (ne_eqb (get_or o c 0) 0 f) i) 1 0)
 
 pub at_most : (d : ℕ) (o : List ℕ) (c : ℕ) → closed_at d o c ≤ 1
 unfolding closed_at
@@ -47,9 +35,6 @@ pub record Counting (d : ℕ) (o cs : List ℕ) (found t : ℕ) : Type 0 where
   pub inside : t ≤ length cs
   pub most : found ≤ t
   pub rest : found + closed_others d o (drop t cs) ≡ closed_others d o cs
-
-pub counting-starts : (d : ℕ) (o cs : List ℕ) → Counting d o cs 0 0
-counting-starts d o cs = record { inside = omega arith; most = omega arith; rest = omega arith }
 
 pub counting-turn : (d : ℕ) (o cs : List ℕ) (found t c v : ℕ) → t < length cs → c ≡ get_or cs t 0 → v ≡ closed_at d o c → Counting d o cs found t → Counting d o cs (found + v) (t + 1)
 unfolding closed_others

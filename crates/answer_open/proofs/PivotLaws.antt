@@ -18,7 +18,7 @@ use Rattle.sparse.proofs.Rows.{form-row}
 use Rattle.pluq.proofs.Orders.{permutation-means}
 use Rattle.pluq.proofs.Shapes.{Upper, upper-means}
 use Rattle.answer_open.specs.Counting.{closed_others}
-use Rattle.answer_open.specs.Needs.{CountReady, EchelonPassed, Known, PivotCellReady}
+use Rattle.answer_open.specs.Needs.{EchelonPassed, Known, PivotCellReady}
 use Rattle.answer_open.specs.Opening.{open_cell, PivotCell}
 use Rattle.answer_open.proofs.Kernel.{open-vanishes, vanishes-open, closed-differs, differs-closed}
 use Rattle.answer_open.proofs.CountLaws.{ZeroAtOpen, count_none, count-one}
@@ -80,14 +80,8 @@ module _ (p r : ℕ) (U : Compressed) (C : List ℕ) (m : ℕ) (f : EchelonPasse
 
 -- the same, as `pivot_open` meets them
 module _ (p k r : ℕ) (U : Compressed) (C o w : List ℕ) (d : PivotCellReady p k r U C o w) where
-  pub count-ready : CountReady p k U o
-  count-ready = record { formed = rw d.long d.unit.factor.formed; inside = omega (arith, d.unit.inside, d.unit.factor.rows) }
-
   pub pivot-place : (c : ℕ) → c ≡ get_or C k 0 → c < length o
   pivot-place c e = omega (arith, e, d.long, pivot-inside p r U C (length w) d.unit.factor k d.unit.inside)
-
-  pub pivot-marked : (c : ℕ) → c ≡ get_or C k 0 → (get_or o c 0 ≡ 0 → ⊥) → PivotCell (open_cell p (length w) (vector C) (matrix U) r (get_or C k 0)) 0 w
-  pivot-marked c e nonzero = record { value = sym (d.marked (λ q. nonzero (ap (λ (i : ℕ). get_or o i 0) e ∙ q))); row = d.unit.clear }
 
   module _ (c v : ℕ) (ec : c ≡ get_or C k 0) (ev : v ≡ closed_others c o (row_of U.starts k U.cols)) where
     counted : closed_others (get_or C k 0) o (row_of U.starts k U.cols) ≡ v

@@ -18,7 +18,7 @@ use Rattle.sparse.specs.Matrix.{Compressed, row_of, matrix}
 use Rattle.sparse.proofs.Entries.{row-columns, values-at, entry_at}
 use Rattle.answer_open.specs.Counting.{closed_others}
 use Rattle.answer_open.specs.Opening.{open_cell, Settled, PivotCell}
-use Rattle.answer_open.specs.Needs.{EchelonPassed, Known, PivotCellReady, CountReady}
+use Rattle.answer_open.specs.Needs.{EchelonPassed, Known, PivotCellReady}
 use Rattle.answer_open.proofs.Kernel.{other-closed}
 use Rattle.answer_open.proofs.PivotLaws.{order, shape, pivot-inside, row-of, pivot-none, pivot-one}
 
@@ -122,9 +122,6 @@ module _ (p r : ℕ) (U : Compressed) (C : List ℕ) (m : ℕ) (f : EchelonPasse
 
     pub settled-place : (j : ℕ) → j ≡ get_or C (k - 1) 0 → j < length o
     settled-place j e = omega (arith, e, s.long, pivot-inside p r U C m f (k - 1) inside-at)
-
-    pub settled-count : CountReady p (k - 1) U o
-    settled-count = record { formed = rw s.long f.formed; inside = omega (arith, f.rows, s.inside) }
 
     pub settled-ready : (w : List ℕ) → length w ≡ m → w ≡ zeros (length w) → PivotCellReady p (k - 1) r U C o w
     settled-ready = row-ready o (k - 1) inside-at at

@@ -1,5 +1,5 @@
 -- The unit question of a pivot column, reduced by its row and the rows after it.
-use mathlib.Core.Path.{◌≡◌, refl, sym, ap, ◌∙◌}
+use mathlib.Core.Path.{◌≡◌, sym, ap, ◌∙◌}
 use mathlib.Core.Bool.{Bool, cond}
 use mathlib.Core.List.{List}
 use Prim.Native.Nat.{ℕ, ◌+◌, ◌*◌, ◌%◌, ◌≤◌, ◌<◌}
@@ -23,7 +23,7 @@ use Rattle.row_space.specs.Solve.{lowest_of}
 use Rattle.answer_question.proofs.ReduceLoop.{reducing-turn, residue-cell, lowest-remains}
 use Rattle.answer_question.proofs.AnswerLaws.{unit-cell, cleared}
 use Rattle.answer_open.specs.Opening.{open_cell, PivotCell}
-use Rattle.answer_open.specs.Needs.{ReduceFromReady, UnitReady}
+use Rattle.answer_open.specs.Needs.{EchelonPassed, ReduceFromReady, UnitReady}
 use Rattle.answer_open.proofs.Kernel.{reduced-kept}
 use Rattle.answer_open.proofs.PivotLaws.{order, pivot-inside}
 
@@ -35,9 +35,6 @@ pub record Passing (p r : ℕ) (C : Vector) (U : Matrix) (k : ℕ) (w₀ w : Lis
   pub below : Below (p * p) w
   pub carries : (y : Vector) → Remains p C U k y w₀ → Remains p C U i y w
 
-pub passing-starts : (p r : ℕ) (C : Vector) (U : Matrix) (k : ℕ) (w : List ℕ) → k ≤ r → Below (p * p) w → Passing p r C U k w w k
-passing-starts p r C U k w h b = record { inside = h; long = refl; below = b; carries = λ y s. s }
-
 pub passing-turn : (p r : ℕ) (C : Vector) (U : Compressed) (k : ℕ) (w₀ w w' : List ℕ) (i c v : ℕ) → 0 < p → i < r → c ≡ C i → c < length w
     → Eliminated p U i c w w' v → Passing p r C (matrix U) k w₀ w i → Passing p r C (matrix U) k w₀ w' (i + 1)
 passing-turn p r C U k w₀ w w' i c v pos h ec hc t s =
@@ -46,12 +43,13 @@ passing-turn p r C U k w₀ w w' i c v pos h ec hc t s =
       long = t.taken.long ∙ s.long;
       below = t.taken.below;
       carries = λ y e.
-          (reducing-turn p r C (matrix U) y w₀ w w' i c v pos h ec hc t.value t.taken
-          (record { inside = s.inside; long = s.long; below = s.below; remains = s.carries y e })).remains;
+          (reducing-turn p C (matrix U) y w₀ w w' i c v pos ec hc t.value t.taken
+          (record { long = s.long; below = s.below; remains = s.carries y e })).remains;
     }
 
-pub passing-ends : (p r : ℕ) (C : Vector) (U : Matrix) (k : ℕ) (w₀ w : List ℕ) (i : ℕ) → r ≤ i → Passing p r C U k w₀ w i → (y : Vector) → Remains p C U k y w₀ → Remains p C U r y w
-passing-ends p r C U k w₀ w i h s y e = let q : i ≡ r = omega (arith, s.inside) in rw q at (s.carries y e)
+pub passing-column : (p r : ℕ) (C : List ℕ) (U : Compressed) (k : ℕ) (w₀ w : List ℕ) (i c : ℕ) → EchelonPassed p r U C (length w₀) → i < r → c ≡ get_or C i 0
+    → Passing p r (vector C) (matrix U) k w₀ w i → c < length w
+passing-column p r C U k w₀ w i c f h e s = omega (arith, e, s.long, pivot-inside p r U C (length w₀) f i h)
 
 -- ---- the unit question
 

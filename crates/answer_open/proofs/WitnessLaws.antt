@@ -1,5 +1,5 @@
 -- What a witness marks is closed, and marks on closed columns leave what is settled as it is.
-use mathlib.Core.Path.{◌≡◌, refl, sym, ap, subst, ◌∙◌}
+use mathlib.Core.Path.{◌≡◌, refl, sym, ap, ◌∙◌}
 use mathlib.Core.Logic.{◌≢◌}
 use mathlib.Core.List.{List}
 use Prim.Native.Nat.{ℕ, ◌+◌, ◌^◌, ◌≤◌, ◌<◌}
@@ -17,7 +17,7 @@ use Rattle.pluq.proofs.Orders.{permutation-means}
 use Rattle.row_space.specs.Needs.{UpperReady}
 use Rattle.row_space.specs.Substitution.{back_u, through_u}
 use Rattle.answer_open.specs.Opening.{open_cell, Settled}
-use Rattle.answer_open.specs.Witness.{Chosen, NonzeroAt, NonzeroPivot, ClosedPivot, ChangedOnly, MarkedOne}
+use Rattle.answer_open.specs.Witness.{Chosen, NonzeroPivot, ClosedPivot, ChangedOnly}
 use Rattle.answer_open.specs.Needs.{EchelonPassed, ChooseReady, MarkReady, RoundReady}
 use Rattle.answer_open.proofs.Kernel.{filled-closed}
 use Rattle.answer_open.proofs.PivotLaws.{order, shape}
@@ -68,15 +68,6 @@ module _ (p r : ℕ) (C z₀ : List ℕ) (d : ChooseReady p r C z₀) where
 
 -- ---- lists that differ only where P holds
 
-pub changed-none : (P : ℕ → Type 0) (o : List ℕ) → ChangedOnly P o o
-changed-none P o = record { long = refl; kept = λ c n. refl }
-
-pub changed-at : (P : ℕ → Type 0) (o : List ℕ) (c v : ℕ) → P c → ChangedOnly P o (set o c v)
-changed-at P o c v h = record { long = length-set o c v; kept = λ d n. get_or-set_other o c d v 0 (λ e. n (rw e h)) }
-
-pub changed_then : (P : ℕ → Type 0) (o₀ o₁ o₂ : List ℕ) → ChangedOnly P o₀ o₁ → ChangedOnly P o₁ o₂ → ChangedOnly P o₀ o₂
-changed_then P o₀ o₁ o₂ a b = record { long = b.long ∙ a.long; kept = λ c n. b.kept c n ∙ a.kept c n }
-
 pub changed-by : (P Q : ℕ → Type 0) (o₀ o : List ℕ) → ((c : ℕ) → P c → Q c) → ChangedOnly P o₀ o → ChangedOnly Q o₀ o
 changed-by P Q o₀ o f a = record { long = a.long; kept = λ c n. a.kept c (λ h. n (f c h)) }
 
@@ -86,28 +77,11 @@ pub record Marking (left : ℕ) (C z o₀ o : List ℕ) (found i : ℕ) : Type 0
   pub most : found ≤ i
   pub changed : ChangedOnly (NonzeroPivot left C z) o₀ o
 
-pub marking-starts : (left : ℕ) (C z o : List ℕ) → Marking left C z o o 0 0
-marking-starts left C z o = record { most = omega arith; changed = changed-none (NonzeroPivot left C z) o }
-
-pub marking-turn : (left : ℕ) (C z o₀ o o' : List ℕ) (found i c v : ℕ) → i < left → c ≡ get_or C i 0 → MarkedOne c z o o' v → Marking left C z o₀ o found i
-    → Marking left C z o₀ o' (found + v) (i + 1)
-marking-turn left C z o₀ o o' found i c v h ec a s =
-    record {
-      most = omega (arith, s.most, a.most);
-      changed =
-          changed_then (NonzeroPivot left C z) o₀ o o' s.changed
-          (changed-by (NonzeroAt z c) (NonzeroPivot left C z) o o' (λ d q. record { row = i; inside = h; column = q.column ∙ ec; nonzero = q.nonzero }) a.changed);
-    }
-
 -- ---- one witness
 
 module _ (p r left : ℕ) (U : Compressed) (C z₀ o₀ : List ℕ) (d : RoundReady p r left U C z₀ o₀) where
   abbrev m : ℕ
   m = length o₀
-
-  pub round-chooses : ChooseReady p r C z₀
-  round-chooses =
-      record { two = d.factor.prime.two; columns = d.factor.columns; long = d.factor.long ∙ sym d.long }
 
   places : Below (length o₀) C
   places i h = (order p r U C m d.factor).below i (omega (arith, d.factor.long))
@@ -161,20 +135,6 @@ module _ (p r left : ℕ) (U : Compressed) (C z₀ o₀ : List ℕ) (d : RoundRe
 pub record Witnessing (p r left : ℕ) (U : Compressed) (C z₀ z o₀ o : List ℕ) : Type 0 where
   pub long : length z ≡ length z₀
   pub changed : ChangedOnly (ClosedPivot p (length o₀) (vector C) (matrix U) r left) o₀ o
-
-pub witnessing-starts : (p r left : ℕ) (U : Compressed) (C z o : List ℕ) → Witnessing p r left U C z z o o
-witnessing-starts p r left U C z o = record { long = refl; changed = changed-none _ o }
-
-module _ (p r left : ℕ) (U : Compressed) (C z₀ z o₀ o : List ℕ) (s : Witnessing p r left U C z₀ z o₀ o) where
-  pub witnessing-ready : RoundReady p r left U C z₀ o₀ → RoundReady p r left U C z o
-  witnessing-ready d = record { factor = rw s.changed.long d.factor; inside = d.inside; long = s.long ∙ d.long ∙ sym s.changed.long }
-
-  pub witnessing-turn : (z' o' : List ℕ) → length z' ≡ length z → ChangedOnly (ClosedPivot p (length o) (vector C) (matrix U) r left) o o' → Witnessing p r left U C z₀ z' o₀ o'
-  witnessing-turn z' o' long a =
-      record {
-        long = long ∙ s.long;
-        changed = changed_then _ o₀ o o' s.changed (subst (λ (n : ℕ). ChangedOnly (ClosedPivot p n (vector C) (matrix U) r left) o o') s.changed.long a);
-      }
 
 -- ---- the marks do not change what is settled
 

@@ -1,12 +1,11 @@
 // Values for the columns that are no pivot columns, by a fixed rule that looks like chance. Which ones they are decides only how much a witness
 // shows.
 ghost use Rattle.std.specs.Prelude.{◌≤◌, ◌<◌, ◌^◌};
-ghost use Rattle.sparse.specs.Views.{view_at, view_before};
 ghost use Rattle.answer_open.specs.Witness.{Chosen};
 ghost use Rattle.answer_open.specs.Needs.{ChooseReady};
 
 use lists::{clear, index};
-use sparse::words::word;
+use sparse::words::Words;
 
 // The number after x, in the series that `seed` names. Its high digits look like chance.
 fn next_number(seed: u32, x: u32) -> u32
@@ -27,17 +26,15 @@ fn residue_from(p: u32, x: u32) -> u32
 }
 
 // Gives each column that is no pivot column a residue, and each pivot column 0.
-pub fn choose_values(p: u32, co: &[u32], cob: &[u8], r: usize, seed: u32, values: &mut [u32])
-    requires { ChooseReady p r (view_at co.now cob.now) values.old }
-    ensures { Chosen p r (view_before co.now cob.now) values.new }
+pub fn choose_values(p: u32, co: &Words, r: usize, seed: u32, values: &mut [u32])
+    requires { ChooseReady p r co.now values.old }
+    ensures { Chosen p r co.now values.new }
 {
     clear(values);
     let mut x: u32 = 2147483647; // its residue is not 0, so that there is always a witness
-    let mut i = r;
-    while i < values.len() {
-        let c = index(word(co, cob, i));
+    for i in r..values.len() {
+        let c = index(co.at(i));
         values[c] = residue_from(p, x);
         x = next_number(seed, x);
-        i += 1;
     }
 }

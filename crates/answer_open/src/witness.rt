@@ -1,6 +1,7 @@
 // Witnesses: a vector z with U z = 0 shows that each column at which it is not 0 is closed.
 ghost use Rattle.std.specs.Prelude.{◌<◌, length};
-ghost use Rattle.sparse.specs.Views.{view_at, view_before, viewed_at, vector_before, matrix_before};
+ghost use Rattle.algebra.specs.Matrix.{vector};
+ghost use Rattle.sparse.specs.Matrix.{matrix};
 ghost use Rattle.answer_open.specs.Witness.{NonzeroPivot, ClosedPivot, ChangedOnly, MarkedOne};
 ghost use Rattle.answer_open.specs.Needs.{MarkOneReady, MarkReady, RoundReady, WitnessReady};
 
@@ -9,7 +10,8 @@ use limits::SIZE_CELLS;
 use lists::index;
 use residue::Modulus;
 use row_space::upper::solve_upper;
-use sparse::words::word;
+use sparse::stored::Compressed;
+use sparse::words::Words;
 
 // At so many columns that no witness showed closed, one more takes longer than their reductions.
 const FEW_MISSING: usize = 8;
@@ -30,16 +32,14 @@ fn mark_one(c: usize, values: &[u32], marks: &mut [u32]) -> usize
 }
 
 // Marks the pivot columns of the first `left` rows whose values are not 0; gives how many were not marked before.
-fn mark_nonzero(co: &[u32], cob: &[u8], left: usize, values: &[u32], marks: &mut [u32]) -> usize
-    requires { MarkReady left (view_at co.now cob.now) values.now marks.old }
-    ensures { ChangedOnly (NonzeroPivot left (view_before co.now cob.now) values.now) marks.old marks.new }
+fn mark_nonzero(co: &Words, left: usize, values: &[u32], marks: &mut [u32]) -> usize
+    requires { MarkReady left co.now values.now marks.old }
+    ensures { ChangedOnly (NonzeroPivot left co.now values.now) marks.old marks.new }
 {
     let mut found: usize = 0;
-    let mut i = 0;
-    while i < left {
-        let c = index(word(co, cob, i));
+    for i in 0..left {
+        let c = index(co.at(i));
         found += mark_one(c, values, marks);
-        i += 1;
     }
     found
 }
@@ -47,26 +47,20 @@ fn mark_nonzero(co: &[u32], cob: &[u8], left: usize, values: &[u32], marks: &mut
 // Marks closed pivot columns of the first `left` rows, by one witness; gives how many were not marked before.
 fn mark_round(
     q: Modulus,
-    us: &[u32],
-    usb: &[u8],
-    uc: &[u32],
-    ucb: &[u8],
-    uv: &[u32],
-    uvb: &[u8],
-    co: &[u32],
-    cob: &[u8],
+    u: &Compressed,
+    co: &Words,
     r: usize,
     left: usize,
     seed: u32,
     values: &mut [u32],
     marks: &mut [u32],
 ) -> usize
-    requires { RoundReady q.p r left (viewed_at us.now usb.now uc.now ucb.now uv.now uvb.now) (view_at co.now cob.now) values.old marks.old }
-    ensures { ChangedOnly (ClosedPivot q.p (length marks.old) (vector_before co.now cob.now) (matrix_before us.now usb.now uc.now ucb.now uv.now uvb.now) r left) marks.old marks.new }
+    requires { RoundReady q.p r left u.now co.now values.old marks.old }
+    ensures { ChangedOnly (ClosedPivot q.p (length marks.old) (vector co.now) (matrix u.now) r left) marks.old marks.new }
 {
-    choose_values(q.p, co, cob, r, seed, values);
-    solve_upper(q, us, usb, uc, ucb, uv, uvb, co, cob, r, values);
-    mark_nonzero(co, cob, left, values, marks)
+    choose_values(q.p, co, r, seed, values);
+    solve_upper(q, u, co, r, values);
+    mark_nonzero(co, left, values, marks)
 }
 
 // How many witnesses are worth their time: each misses a closed column once in about p.
@@ -105,69 +99,35 @@ fn rounds_after(rounds: u32, found: usize, missing: usize) -> u32
 // The same by several witnesses.
 fn mark_rounds(
     q: Modulus,
-    us: &[u32],
-    usb: &[u8],
-    uc: &[u32],
-    ucb: &[u8],
-    uv: &[u32],
-    uvb: &[u8],
-    co: &[u32],
-    cob: &[u8],
+    u: &Compressed,
+    co: &Words,
     r: usize,
     left: usize,
     values: &mut [u32],
     marks: &mut [u32],
 )
-    requires { RoundReady q.p r left (viewed_at us.now usb.now uc.now ucb.now uv.now uvb.now) (view_at co.now cob.now) values.old marks.old }
-    ensures { ChangedOnly (ClosedPivot q.p (length marks.old) (vector_before co.now cob.now) (matrix_before us.now usb.now uc.now ucb.now uv.now uvb.now) r left) marks.old marks.new }
+    requires { RoundReady q.p r left u.now co.now values.old marks.old }
+    ensures { ChangedOnly (ClosedPivot q.p (length marks.old) (vector co.now) (matrix u.now) r left) marks.old marks.new }
 {
     let mut missing = left;
     let mut rounds = rounds_for(q.p);
+    // A while: a turn takes off one or half of the rounds.
     while 0 < rounds {
-        let found = mark_round(
-            q, us, usb, uc, ucb, uv, uvb, co, cob, r, left, rounds, values, marks,
-        );
+        let found = mark_round(q, u, co, r, left, rounds, values, marks);
         missing = missing_after(missing, found);
         rounds = rounds_after(rounds, found, missing);
     }
 }
 
 // Marks most closed pivot columns of the first `left` rows, and no open one; all other cells are as before.
-pub fn mark_closed(
-    q: Modulus,
-    us: &[u32],
-    usb: &[u8],
-    uc: &[u32],
-    ucb: &[u8],
-    uv: &[u32],
-    uvb: &[u8],
-    co: &[u32],
-    cob: &[u8],
-    r: usize,
-    left: usize,
-    marks: &mut [u32],
-)
-    requires { WitnessReady q.p r left (viewed_at us.now usb.now uc.now ucb.now uv.now uvb.now) (view_at co.now cob.now) marks.old }
-    ensures { ChangedOnly (ClosedPivot q.p (length marks.old) (vector_before co.now cob.now) (matrix_before us.now usb.now uc.now ucb.now uv.now uvb.now) r left) marks.old marks.new }
+pub fn mark_closed(q: Modulus, u: &Compressed, co: &Words, r: usize, left: usize, marks: &mut [u32])
+    requires { WitnessReady q.p r left u.now co.now marks.old }
+    ensures { ChangedOnly (ClosedPivot q.p (length marks.old) (vector co.now) (matrix u.now) r left) marks.old marks.new }
 {
     if left == 0 {
         return;
     }
     let m = marks.len();
     let mut values = [0u32; SIZE_CELLS];
-    mark_rounds(
-        q,
-        us,
-        usb,
-        uc,
-        ucb,
-        uv,
-        uvb,
-        co,
-        cob,
-        r,
-        left,
-        &mut values[..m],
-        marks,
-    );
+    mark_rounds(q, u, co, r, left, &mut values[..m], marks);
 }

@@ -23,10 +23,10 @@ use Rattle.sparse.proofs.Subtraction.{below_set}
 use Rattle.row_space.specs.Substitution.{back_u, through_l, through_u}
 use Rattle.row_space.specs.Solving.{residues}
 use Rattle.row_space.specs.Solve.{remainder, multiples_of, lowest_of, opened, closed, solve}
-use Rattle.row_space.specs.Needs.{LowerOrder, UpperReady}
+use Rattle.row_space.specs.Needs.{UpperReady}
 use Rattle.row_space.proofs.LowerLoop.{back_l-ext}
 use Rattle.row_space.proofs.UpperLoop.{back_u-ext}
-use Rattle.answer_question.specs.Needs.{MultiplesReady, QuestionReady, OpenReady, ClosedReady}
+use Rattle.answer_question.specs.Needs.{QuestionReady, OpenReady, ClosedReady}
 use Rattle.answer_question.specs.Reducing.{Reduced, QuestionReduced}
 use Rattle.answer_question.proofs.ReduceLoop.{residue-cell, lowest-remains}
 
@@ -99,21 +99,6 @@ module _ (p r : ℕ) (U : Compressed) (C y a w₀ w₁ : List ℕ) (d : Question
   wide : length w₁ ≡ length w₀
   wide = ap length is-question ∙ d.long
 
-  pub question-ready : MultiplesReady p r U C a w₁
-  question-ready =
-      record {
-        ready =
-            record {
-              positive = d.positive;
-              formed = rw wide d.formed;
-              rows = d.rows;
-              order = d.order;
-              places = rw wide d.places;
-              small = rw is-question d.small;
-            };
-        room = d.room;
-      }
-
   pub question-done : (w₂ w₃ a₂ : List ℕ) (j : ℕ) → Reduced p (vector C) (matrix U) r (vector w₁) a₂ w₂ → j ≡ lowest_of (length w₂) (residues p w₂) → w₃ ≡ zeros (length w₂)
       → QuestionReduced p (vector C) (matrix U) r (vector y) a₂ w₃ j
   question-done w₂ w₃ a₂ j t e z =
@@ -139,16 +124,6 @@ module _ (p : ℕ) (L : Compressed) (R x₀ z₀ w₀ w₁ x₁ : List ℕ) (d :
   cells i h =
       residue-cell p (get_or w₁ i 0)
       (rw (ap (λ (l : List ℕ). get_or l i 0) loaded ∙ get_or-take (length w₀) z₀ i 0 (omega (arith, long-w))) (d.small i (omega (arith, long-w))))
-
-  pub open-ready : LowerOrder p L R w₁ x₁
-  open-ready =
-      record {
-        ready = record { prime = d.prime; formed = rw long-w d.formed; rows = omega (arith, long-w, d.rows); shaped = rw long-w d.shaped; below = cells };
-        order = d.order;
-        long = d.long ∙ sym long-x;
-        rank = omega (arith, long-w, long-x, d.rank-rows);
-        clear = cleared x₁ (length x₀) clear;
-      }
 
   pub open_done : (x₂ : List ℕ) → x₂ ≡ through_l p (length x₁) (length w₁) (vector R) (matrix L) (residues p w₁)
       → x₂ ≡ through_l p (length x₀) (length w₀) (vector R) (matrix L) (residues p z₀)

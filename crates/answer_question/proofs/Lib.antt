@@ -1,4 +1,3 @@
-pub mod Loops
 pub mod ReduceLoop
 pub mod AnswerLaws
 pub mod Joined

@@ -17,7 +17,6 @@ use Rattle.sparse.specs.WorkingRow.{Subtracted, MatrixReady}
 use Rattle.pluq.proofs.Orders.{permutation-means}
 use Rattle.row_space.specs.Substitution.{put, back_l, through_l}
 use Rattle.row_space.specs.Solving.{residues}
-use Rattle.row_space.specs.Needs.{LowerOrder}
 use Rattle.row_space.proofs.LowerLoop.{subtracted-less}
 use Rattle.row_space.proofs.UpperLoop.{set-put}
 use Rattle.column_space.specs.Slots.{left_kernel}
@@ -59,23 +58,6 @@ module _ (p i : ℕ) (L : Compressed) (R w work : List ℕ) (d : ContradictReady
   slot-inside t e = omega (arith, e, (permutation-means n R d.long d.order).below i d.inside)
 
   module _ (work₁ : List ℕ) (taken : Subtracted p (λ j. 1 * matrix L i j) work work₁) where
-    pub lower-ready : LowerOrder p L R work₁ w
-    lower-ready =
-        record {
-          ready =
-              record {
-                prime = d.prime;
-                formed = rw taken.long d.formed;
-                rows = omega (arith, taken.long, d.rank, d.rows);
-                shaped = rw taken.long d.shaped;
-                below = taken.below;
-              };
-          order = d.order;
-          long = d.long;
-          rank = omega (arith, taken.long, d.rank);
-          clear = d.clear;
-        }
-
     is-negated : (l : ℕ) → l < r → residues p work₁ l ≡ negated l
     is-negated l h =
         subtracted-less p 1 (matrix L i) work work₁ l (omega (arith, d.prime.two)) h taken

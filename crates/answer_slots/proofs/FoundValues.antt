@@ -1,5 +1,5 @@
 -- The steps of `values_and_gap`: each is ready where it is called, and what they leave.
-use mathlib.Core.Path.{◌≡◌, sym, ap, ◌∙◌}
+use mathlib.Core.Path.{◌≡◌, ap, ◌∙◌}
 use mathlib.Core.List.{List, ◌++◌}
 use Prim.Native.Nat.{ℕ, ◌≤◌, ◌<◌}
 use native.Mathlib.Decide.{ℕ_discrete}
@@ -20,7 +20,7 @@ use Rattle.column_space.specs.Substitution.{lacking, forward}
 use Rattle.column_space.specs.Slots.{in_order}
 use Rattle.column_space.proofs.Substitutions.{forward-small, forward-solves, lacking-none}
 use Rattle.answer_question.proofs.AnswerLaws.{cleared, zeros-take}
-use Rattle.answer_slots.specs.Solving.{gap_from, lowest_position, ValuesFound}
+use Rattle.answer_slots.specs.Solving.{gap_from}
 use Rattle.answer_slots.specs.Needs.{ForwardReady, GapsReady, ValuesReady}
 use Rattle.answer_slots.proofs.SettleLoop.{lacking-eq}
 
@@ -110,12 +110,4 @@ module _ (p r : ℕ) (L : Compressed) (R h w₀ w₁ : List ℕ) (d : ValuesRead
           small-h = d.small;
           small-t = small;
           solved = λ k b. none k (omega (arith, e));
-        }
-
-    pub values-found : (i : ℕ) → i ≡ lowest_position p (length h) (vector R) (matrix L) (vector h) (take r (part ++ drop r w₁))
-        → ValuesFound p r (vector R) (matrix L) (vector h) (part ++ drop r w₁) i
-    values-found i e =
-        record {
-          values = first-cells;
-          lowest = e ∙ ap (λ (n : ℕ). lowest_position p n (vector R) (matrix L) (vector h) (take r (part ++ drop r w₁))) (sym (values-kept ∙ d.room));
         }

@@ -29,13 +29,6 @@ module _ (p : ℕ) (L : Compressed) (R h t : List ℕ) (d : GapsReady p L R h t)
   order : Permutation n (vector R)
   order = permutation-means n R d.long d.order
 
-  pub search-starts : Searching (length h) (vector R) (gap_from p (vector R) (matrix L) (vector h) t) (length t) (length h)
-  search-starts =
-      record {
-        inside = d.rank;
-        lowest = record { within = omega arith; found = λ l. absurd (omega arith); least = λ k l e. absurd (e (d.solved k l)) };
-      }
-
   module _ (i b : ℕ) (over : length h ≤ i) (s : LowestBelow (length h) (vector R) (gap_from p (vector R) (matrix L) (vector h) t) i b) where
     -- a slot that comes before the slot at b has no gap
     none_before : (k : ℕ) → k < n → (b < n → vector R k < vector R b) → g k ≡ 0

@@ -1,4 +1,4 @@
--- One slot of the search for a gap: its row of L can be read, and how it moves the lowest-numbered slot with a gap.
+-- One slot of the search for a gap: it is there, and how it moves the lowest-numbered slot with a gap.
 use mathlib.Core.Path.{◌≡◌}
 use mathlib.Core.Logic.{◌≢◌}
 use mathlib.Core.List.{List}
@@ -10,20 +10,13 @@ use Rattle.algebra.specs.Matrix.{Vector, vector}
 use Rattle.sparse.specs.Matrix.{Compressed, matrix}
 use Rattle.pluq.proofs.Orders.{permutation-means}
 use Rattle.answer_slots.specs.Solving.{SlotAt, gap_from, LowestBelow}
-use Rattle.answer_slots.specs.Needs.{LackingReady, GapReady, BetterReady}
+use Rattle.answer_slots.specs.Needs.{GapReady, BetterReady}
 
 -- ---- a slot and its row
 
 module _ (p i : ℕ) (L : Compressed) (R h t : List ℕ) (d : GapReady p i L R h t) (c : ℕ) (e : c ≡ get_or R i 0) where
   pub slot-inside : c < length h
   slot-inside = omega (arith, e, (permutation-means (length h) R d.ready.long d.ready.order).below i d.inside)
-
-  pub row-ready : LackingReady p i (get_or h c 0) L t
-  row-ready =
-      record {
-        ready = record { positive = d.ready.positive; formed = d.ready.formed; inside = omega (arith, d.inside, d.ready.rows); small = d.ready.small-t };
-        residue = d.ready.small-h c slot-inside;
-      }
 
 -- ---- one position more
 
@@ -46,15 +39,6 @@ module _ (n : ℕ) (R g : Vector) (i b : ℕ) (s : LowestBelow n R g i b) where
   pub slot-passes : g i ≡ 0 → LowestBelow n R g (i + 1) b
   slot-passes z = record { within = s.within; found = earlier; least = last (λ k. g k ≢ 0 → (b < n) × (R b ≤ R k)) s.least (λ e. absurd (e z)) }
 
-  -- the slot at i has a gap and comes first
-  moves : i < n → g i ≢ 0 → (b < n → R i ≤ R b) → LowestBelow n R g (i + 1) i
-  moves h e first =
-      record {
-        within = omega arith;
-        found = λ l. (omega arith, e);
-        least = last (λ k. g k ≢ 0 → (i < n) × (R i ≤ R k)) (λ k l q. (h, let (m, le) = s.least k l q in omega (arith, le, first m))) (λ q. (h, omega arith));
-      }
-
 -- the same by the slots x at b and y at i, where b may be no position
 module _ (p i b : ℕ) (L : Compressed) (R h t : List ℕ) (d : BetterReady p i b L R h t) (x y : ℕ) (at_b : SlotAt R b x) (at_i : SlotAt R i y) where
   long : length R ≡ length h
@@ -75,9 +59,3 @@ module _ (p i b : ℕ) (L : Compressed) (R h t : List ℕ) (d : BetterReady p i 
   slot-stays le =
       stays (length h) (vector R) (gap_from p (vector R) (matrix L) (vector h) t) i b d.lowest (position le)
       (omega (arith, at_b.inside (omega (arith, long, position le)), new.0))
-
-  pub slot-moves : y < x → gap_from p (vector R) (matrix L) (vector h) t i ≢ 0
-      → LowestBelow (length h) (vector R) (gap_from p (vector R) (matrix L) (vector h) t) (i + 1) i
-  slot-moves lt e =
-      moves (length h) (vector R) (gap_from p (vector R) (matrix L) (vector h) t) i b d.lowest d.gap.inside e
-      (λ l. omega (arith, at_b.inside (omega (arith, long)), new.0))

@@ -37,9 +37,6 @@ pub record Settling (p : ℕ) (C : Vector) (U : Matrix) (t s₀ s : List ℕ) (k
   pub small : Below p s
   pub rest : (j : ℕ) → j < length s₀ → settle p (length s₀) C U (vector t) k (vector s) j ≡ settle p (length s₀) C U (vector t) (length t) (vector s₀) j
 
-pub settling-starts : (p : ℕ) (C : Vector) (U : Matrix) (t s : List ℕ) → Below p s → Settling p C U t s s (length t)
-settling-starts p C U t s h = record { inside = omega arith; long = refl; small = h; rest = λ j g. refl }
-
 pub settling-turn : (p : ℕ) (C : Vector) (U : Matrix) (t s₀ s : List ℕ) (k v c : ℕ) → 0 < p → 0 < k → c ≡ C (k - 1) → c < length s
     → v ≡ lacking p (length s) (U (k - 1)) (vector s) (get_or t (k - 1) 0) → Settling p C U t s₀ s k → Settling p C U t s₀ (set s c v) (k - 1)
 unfolding settle

@@ -24,7 +24,7 @@ use Rattle.column_space.specs.declared.SlotVerdict.TheVariants.{Solved, Contradi
 use Rattle.column_space.proofs.Substitutions.{forward-small}
 use Rattle.column_space.proofs.Solutions.{position_at}
 use Rattle.answer_slots.specs.Solving.{lowest_position, left_kernel_from, ValuesFound, SolvedAs, ContradictedAs, SlotsAnswered}
-use Rattle.answer_slots.specs.Needs.{ValuesReady, SolvedReady, ContradictedReady, SlotsReady}
+use Rattle.answer_slots.specs.Needs.{SolvedReady, SlotsReady}
 use Rattle.answer_slots.proofs.Positions.{position-below, lowest-most}
 use Rattle.answer_slots.proofs.ContradictionLaws.{left-kernel-from}
 use Rattle.answer_slots.proofs.FoundValues.{gap-listed}
@@ -95,41 +95,12 @@ module _ (p : ℕ) (s : Set) (h s₀ w₀ work : List ℕ) (d : SlotsReady p s h
   order : Permutation n (vector s.R)
   order = permutation-means n s.R d.set.long-R d.set.rows
 
-  pub slots-begin : ValuesReady p s.r s.L s.R h w₀
-  slots-begin =
-      record {
-        prime = d.set.prime;
-        formed = d.set.L-form;
-        rows = omega (arith, d.set.long_L, d.long);
-        shaped = d.set.L-shape;
-        order = d.set.rows;
-        long = d.set.long-R ∙ sym d.long;
-        room = sym d.long;
-        rank = omega (arith, d.set.rank-rows, d.long);
-        small = d.small;
-      }
-
   module _ (w₁ : List ℕ) (i : ℕ) (long-w : length w₁ ≡ length w₀) (f : ValuesFound p s.r (vector s.R) (matrix s.L) (vector h) w₁ i) where
     is-position : i ≡ position n (vector s.R) (lowest_gap p n s (vector h))
     is-position =
         f.lowest
         ∙ ap (λ (k : ℕ). lowest_position p k (vector s.R) (matrix s.L) (vector h) (take s.r w₁)) long-w
         ∙ lowest-listed p s (vector h) (take s.r w₁) f.values n
-
-    pub slots-contradict : i < length h → ContradictedReady p s.r i s.L s.R w₁ work
-    slots-contradict b =
-        record {
-          prime = d.set.prime;
-          formed = d.set.L-form;
-          rows = omega (arith, d.set.long_L, long-w);
-          shaped = d.set.L-shape;
-          order = d.set.rows;
-          long = d.set.long-R ∙ sym long-w;
-          rank = omega (arith, d.set.rank-rows, long-w);
-          inside = omega (arith, long-w, d.long);
-          room = omega (arith, d.set.rank-rows, d.room);
-          clear = d.clear;
-        }
 
     pub slots-contradicted : (s₂ w₂ work₂ : List ℕ) → i < length h → length s₂ ≡ length s₀
         → ContradictedAs (left_kernel_from p (length w₁) s.r (vector s.R) (matrix s.L) i) s₂ w₂ work₂

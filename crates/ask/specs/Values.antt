@@ -8,18 +8,16 @@
 --   FieldReady ..        what adding such a value needs
 --   question_in l         the question that a text says whose last byte is a line feed: the values before it, or none where nothing stands there
 --   Added y₀ k y r vs    the contract of adding values to the first k of a question: as many are kept as its list has room for
-use Rattle.std.specs.Prelude.{ℕ, ◌+◌, ◌-◌, ◌≤◌, ◌<◌, ◌≡◌, Bool, cond, ◌||◌, List, [], ◌∷◌, ◌++◌, eqb, ltb, length, get_or, take}
+use Rattle.std.specs.Prelude.{ℕ, ◌+◌, ◌-◌, ◌≤◌, ◌<◌, ◌≡◌, Bool, cond, ◌||◌, List, [], ◌∷◌, ◌++◌, eqb, ltb, length, get_or, take, Option, Some, None}
 use Rattle.std.proofs.Math.Seq.{slice}
 use Rattle.text_fields.specs.Number.{number_in}
-use Rattle.text_fields.specs.declared.numbers.Number.{Number}
-use Rattle.text_fields.specs.declared.numbers.Number.TheVariants.{Value, NotNumber}
 
 abbrev pub no_residue : ℕ
 no_residue = 4294967295
 
-abbrev pub value_read : Number → ℕ
-value_read (Value v) = cond (ltb v 4294967296) v no_residue
-value_read NotNumber = no_residue
+abbrev pub value_read : Option ℕ → ℕ
+value_read (Some v) = cond (ltb v 4294967296) v no_residue
+value_read None = no_residue
 
 unfoldable pub is_separator : ℕ → Bool
 is_separator b = eqb b 32 || eqb b 10

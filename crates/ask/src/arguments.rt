@@ -9,20 +9,14 @@ use std::rt::Env;
 
 // Whether there is an i-th argument; the 0-th is the program's name.
 pub fn has(rt: &impl Env, i: usize) -> bool {
-    match rt.arg(i, &mut []) {
-        Err(FillError::NotPresent) => false,
-        _ => true,
-    }
+    !matches!(rt.arg(i, &mut []), Err(FillError::NotPresent))
 }
 
 // Puts an argument at the start of a buffer; how many bytes it has, 0 where there is none or it does not fit.
 fn fill(rt: &impl Env, i: usize, field: &mut [u8]) -> usize
     ensures { result ≤ length field.new }
 {
-    match rt.arg(i, field) {
-        Ok(size) => size,
-        Err(_) => 0,
-    }
+    rt.arg(i, field).unwrap_or(0)
 }
 
 // Whether an argument is the verb `words`.

@@ -1,27 +1,31 @@
 // An input that was cut off: its last line has no line feed.
-ghost use Rattle.std.specs.Prelude.{◌≡◌, ◌+◌, ◌≤◌, ◌<◌, ◌^◌, length};
+ghost use Rattle.std.specs.Prelude.{◌≡◌, ◌==◌, ◌+◌, ◌≤◌, ◌<◌, ◌^◌, length, count_by};
 ghost use Rattle.limits.specs.Limits.{print_room};
 ghost use Rattle.byte_buffer.specs.Fills.{Fills};
+ghost use Rattle.text_plan.specs.Call.{reading_of};
 ghost use Rattle.stages.specs.Stages.{reading};
 ghost use Rattle.ask.specs.Cut.{is_cut, last_line_number, cut_line};
 
 use limits::{ENTRY_CELLS, SIZE_CELLS, START_CELLS};
 use print_text::report::write_refusal;
-use refusals::Outcome;
-use refusals::numbers::MALFORMED;
+use refusals::{Fault, Refusal};
 use text_owners::read;
+use text_plan::Stated;
 
-const LINE_FEED: u8 = 10;
+const LINE_FEED: u8 = b'\n';
 
 // Whether values are cut off.
+#[tactic(auto, unfolding(crate::specs::Cut::is_cut))]
 pub fn is_cut(text: &[u8]) -> bool
     ensures { result ≡ is_cut text.now }
 {
-    let size = text.len();
-    if size == 0 {
-        return false;
-    }
-    text[size - 1] != LINE_FEED
+    text.last().is_some_and(|b| *b != LINE_FEED)
+}
+
+fn line_feeds(text: &[u8]) -> usize
+    ensures { result ≡ count_by (λ b. b == 10) text.now }
+{
+    text.iter().filter(|b| **b == LINE_FEED).count()
 }
 
 // The number of a text's last line.
@@ -29,27 +33,18 @@ pub fn last_line(text: &[u8]) -> u32
     requires { length text.now + 1 < 2 ^ 32 }
     ensures { result ≡ last_line_number text.now }
 {
-    let mut line = 1;
-    let mut i = 0;
-    while i < text.len() {
-        if text[i] == LINE_FEED {
-            line += 1;
-        }
-        i += 1;
-    }
-    line
+    line_feeds(text) as u32 + 1
 }
 
 // What reading a plan's text comes to.
-fn plan_outcome(plan: &[u8]) -> Outcome
-    ensures { result ≡ (reading plan.now).result.outcome }
+fn read_plan(plan: &[u8]) -> Result<Stated, Refusal>
+    ensures { (reading_of result).outcome ≡ (reading plan.now).result.outcome }
 {
     let mut starts = [0u32; START_CELLS];
     let mut cols = [0u32; ENTRY_CELLS];
     let mut vals = [0u32; ENTRY_CELLS];
     let mut owners = [0u8; SIZE_CELLS];
-    let r = read(plan, &mut starts, &mut cols, &mut vals, &mut owners);
-    r.outcome
+    read(plan, &mut starts, &mut cols, &mut vals, &mut owners)
 }
 
 // Writes the refusal of a text whose values are cut off in its last line: that of the plan before them, where it is refused.
@@ -57,9 +52,14 @@ pub fn write_cut_line(plan: &[u8], line: u32, out: &mut [u8]) -> usize
     requires { print_room ≤ length out.old }
     ensures { Fills out.old out.new result (cut_line plan.now line) }
 {
-    let outcome = plan_outcome(plan);
-    match outcome {
-        Outcome::Refused(number, detail) => write_refusal(number, detail, out),
-        Outcome::Passed => write_refusal(MALFORMED, line, out),
+    match read_plan(plan) {
+        Err(refusal) => write_refusal(refusal, out),
+        Ok(_) => {
+            let refusal = Refusal {
+                fault: Fault::Malformed,
+                detail: line,
+            };
+            write_refusal(refusal, out)
+        }
     }
 }

@@ -21,14 +21,11 @@ fn print_lines(
 )
     requires { LinesReady g co.now (stored_at us.now uc.now uv.now) marks.now out.old }
 {
-    let columns = g.columns as usize;
-    let mut c = 0;
-    while c < columns {
+    for c in 0..g.columns as usize {
         let size = setting_line(g, co, us, uc, uv, marks, c, out);
         if !print(rt, errors, &out[..size]) {
             return;
         }
-        c += 1;
     }
     end(rt, errors);
 }

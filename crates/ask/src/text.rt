@@ -6,7 +6,7 @@ use text_fields::pieces::piece;
 use text_owners::ending::end_in;
 use text_owners::line::begins_owners;
 
-const LINE_FEED: u8 = 10;
+const LINE_FEED: u8 = b'\n';
 
 // How many bytes from a place on belong to the plan: those of a line of owners, with its line feed where it has one.
 fn owners_end(text: &[u8], at: usize) -> usize

@@ -10,7 +10,7 @@ use lib.Seq.{length-take-le, take_at}
 use Rattle.lists.specs.Filled.{filled}
 use Rattle.lists.specs.Tabulate.{tabulate}
 use Rattle.refusals.specs.Refusals.{detail_of}
-use Rattle.refusals.specs.declared.Outcome.{Outcome}
+use Rattle.refusals.specs.Outcome.{Outcome}
 use Rattle.lists.proofs.Filled.{length-zeros, filled-whole}
 use Rattle.lists.proofs.Tabulate.{length-tabulate}
 use Rattle.algebra.specs.Sum.{δ, place}
@@ -23,11 +23,11 @@ use Rattle.row_space.specs.declared.Verdict.{Verdict}
 use Rattle.limits.specs.Limits.{work_length}
 use Rattle.call_check.specs.Calls.{check_factors_of}
 use Rattle.call_answer.specs.Calls.{Given, answer_of, question_after, given, answer_factors_of, Answers}
-use Rattle.call_answer.specs.declared.Answer.{Answer}
+use Rattle.call_answer.specs.Answer.{Answer}
 use Rattle.print_text.specs.Answer.{answer_line, answer_text}
 use Rattle.text_plan.specs.Held.{held_plan}
 use Rattle.stages.specs.Staged.{held_set}
-use Rattle.stages.specs.declared.Stages.{Stages}
+use Rattle.stages.specs.Results.{Stages}
 use Rattle.ask_lib.specs.Asking.{is_open_answer, given_line}
 use Rattle.ask_lib.specs.Held.{answer_line_of, held_answer, AnswerHeld}
 use Rattle.ask_lib.specs.Needs.{Answerable}

@@ -1,22 +1,27 @@
 -- A line that follows the stages: the line of the refusal that they ended with, or whatever is printed once they passed.
---   refused-reading ..    the refusal that the stages ended with, by each way out of `refusal`
+--   refused-reading ..    the refusal that the stages ended with, by the stage that refused
 --   refused-line          where there is one, its line is printed
 --   passed-line           where there is none, the given line
 --   text-line             what is printed of stages that a text came to is what is printed of the text
 --   text-refused ..       what is printed of a text: of one that states no plan, of a plan whose factors overflow, of a plan whose factors fit
-use mathlib.Core.Path.{◌≡◌, refl, sym, ap, ◌∙◌}
+use Rattle.std.specs.Prelude.{Err}
+use mathlib.Core.Path.{◌≡◌, refl, sym, ap, subst, ◌∙◌}
 use mathlib.Core.List.{List}
-use Prim.Native.Nat.{ℕ, ◌+◌}
+use Prim.Native.Nat.{ℕ, ◌+◌, ◌<◌}
+use native.Mathlib.Omega.{arith}
 use lib.ListN.{length}
 use Rattle.lists.proofs.Filled.{length-zeros}
 use Rattle.refusals.specs.Table.{text_faults, storage_too_short}
 use Rattle.refusals.specs.Refusals.{◌▷◌}
-use Rattle.refusals.specs.declared.Outcome.{Outcome}
-use Rattle.refusals.specs.declared.Outcome.TheVariants.{Passed, Refused}
-use Rattle.refusals.proofs.Refusals.{refused as stops, both-passed, after-passed}
+use Rattle.refusals.specs.Outcome.{Outcome}
+use Rattle.refusals.specs.Outcome.{Passed, Refused}
+use Rattle.refusals.specs.Outcome.{outcome_of}
+use Rattle.refusals.specs.Faults.{number}
+use Rattle.refusals.specs.declared.Refusal.{Refusal}
 use Rattle.sparse.specs.Matrix.{Compressed}
 use Rattle.sparse.specs.Set.{Storage}
-use Rattle.text_plan.specs.declared.Reading.{Reading}
+use Rattle.text_plan.specs.Call.{Reading}
+use Rattle.text_plan.specs.declared.Stated.{Stated}
 use Rattle.text_owners.specs.Stating.{StatesText}
 use Rattle.factor_all.specs.Factorization.{Factorization}
 use Rattle.limits.specs.Limits.{largest_entries}
@@ -26,41 +31,40 @@ use Rattle.print_text.proofs.Shown.{first-refusal}
 use Rattle.stages.specs.Stages.{reading, factored_of}
 use Rattle.stages.specs.Staged.{Staged}
 use Rattle.stages.specs.Meaning.{FitsAll, OverflowsAt}
-use Rattle.stages.specs.declared.Stages.{Stages}
+use Rattle.stages.specs.Results.{Stages, stages_of}
+use Rattle.stages.specs.declared.Stopped.{Stopped}
+use Rattle.stages.specs.declared.Stopped.TheVariants.{InReading, InFactoring}
 use Rattle.stages.proofs.ReadText.{outcome-passed, reading-numbers, factored-over}
 use Rattle.ask_lib.specs.Asking.{after_stages}
 use Rattle.ask_lib.specs.Held.{stages_refusal, staged_then}
+use Rattle.ask_lib.specs.Needs.{RowCountable}
 
 -- ---- the refusal that the stages ended with
 
-module _ (s : Stages) where
-  abbrev factoring_told : Outcome
-  factoring_told = counted_from_one 7 s.factored.outcome
-
-  pub refused-reading : {k d : ℕ} → s.reading.outcome ≡ Refused k d → s.reading.outcome ≡ stages_refusal s
+module _ (s : Stopped) where
+  pub refused-reading : (r : Refusal) → s ≡ InReading r → outcome_of (Err r) ≡ stages_refusal (stages_of (Err s))
   unfolding stages_refusal
-  refused-reading e = stops s.reading.outcome s.reading.outcome factoring_told _ _ e refl
+  refused-reading r is t = stages_refusal (stages_of (Err (sym is t)))
 
-  module _ (done : s.reading.outcome ≡ Passed) where
-    told : factoring_told ≡ stages_refusal s
+  -- the row is counted from 1
+  module _ (stated : Stated) (r : Refusal) (is : s ≡ InFactoring stated r) where
+    pub row-counts : RowCountable (stages_of (Err s)) → r.detail < 4294967295
+    row-counts c = let few = subst (λ (x : Stopped). RowCountable (stages_of (Err x))) is c in omega (arith, few.detail-small refl)
+
+    pub refused-factoring : (told : Refusal) → told ≡ record { fault = r.fault; detail = detail_from_one 7 (number r.fault) r.detail }
+        → outcome_of (Err told) ≡ stages_refusal (stages_of (Err s))
     unfolding stages_refusal
-    told = sym (after-passed s.reading.outcome factoring_told done)
-
-    pub refused-factoring : {k d row : ℕ} → s.factored.outcome ≡ Refused k d → row ≡ detail_from_one 7 k d → Refused k row ≡ stages_refusal s
-    refused-factoring {k = k} e q = ap (Refused k) q ∙ ap (counted_from_one 7) (sym e) ∙ told
-
-    pub refused-nothing : s.factored.outcome ≡ Passed → s.factored.outcome ≡ stages_refusal s
-    refused-nothing e = e ∙ ap (counted_from_one 7) (sym e) ∙ told
-
-  pub read_done : stages_refusal s ≡ Passed → s.reading.outcome ≡ Passed
-  unfolding stages_refusal
-  read_done e = (both-passed s.reading.outcome factoring_told e).0
+    refused-factoring told e = ap (λ (x : Refusal). Refused (number x.fault) x.detail) e ∙ (λ t. stages_refusal (stages_of (Err (sym is t))))
 
 -- ---- the line
 
 printed-then : (o next : Outcome) (text : List ℕ) → printed o (printed next text) ≡ printed (o ▷ next) text
 printed-then Passed next text = refl
 printed-then (Refused k d) next text = refl
+
+module _ (s : Stages) where
+  abbrev factoring_told : Outcome
+  factoring_told = counted_from_one 7 s.factored.outcome
 
 module _ (s : Stages) (o : Outcome) (told_is : o ≡ stages_refusal s) (line : List ℕ) where
   staged-is : printed o line ≡ staged_then s line

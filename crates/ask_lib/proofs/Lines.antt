@@ -1,13 +1,17 @@
--- The line of an answer: it fits, and one law for each kind of answer.
-use mathlib.Core.Path.{◌≡◌, sym, ap, ◌∙◌, subst}
-use mathlib.Core.Bool.{Bool, true, false}
+-- The line of an answer: it fits, and that of a refusal is the line.
+use Rattle.std.specs.Prelude.{Result, Err}
+use mathlib.Core.Path.{◌≡◌, sym, ◌∙◌, subst}
+use mathlib.Core.Bool.{Bool}
 use mathlib.Core.List.{List}
 use Prim.Native.Nat.{ℕ, ◌≤◌, ◌<◌}
 use native.Mathlib.Omega.{arith}
 use lib.ListN.{length, take}
 use lib.Seq.{length-take-le}
 use Rattle.byte_buffer.specs.Fills.{Fills}
-use Rattle.call_answer.specs.declared.Answer.{Answer}
+use Rattle.refusals.specs.Faults.{number}
+use Rattle.refusals.specs.declared.Refusal.{Refusal}
+use Rattle.row_space.specs.declared.Verdict.{Verdict}
+use Rattle.call_answer.specs.Calls.{given_answer}
 use Rattle.print_text.specs.Answer.{answer_line}
 use Rattle.print_text.specs.Report.{refusal_text}
 use Rattle.print_text.specs.Printed.{detail_from_one}
@@ -40,13 +44,8 @@ module _ (detail n m : ℕ) (x z out : List ℕ) (d : LineReady detail n m x z o
   pub z-line-fits : (t : Bool) → length (answer_line t (take m z)) ≤ length out
   z-line-fits t = answer-room t (take m z) out (omega (arith, z-part, d.z-few)) d.room
 
--- what was written is the line
-module _ (a : Answer) (x z out out' : List ℕ) (size : ℕ) where
-  pub line_refused : (k e counted : ℕ) → a ≡ Answer.Refused k e → counted ≡ detail_from_one 15 k e → Fills out out' size (refusal_text k counted) → Fills out out' size (answer_line_of a x z)
-  line_refused k e counted h c f = subst (Fills out out' size) (ap (refusal_text k) c ∙ ap (λ (b : Answer). answer_line_of b x z) (sym h)) f
-
-  pub line-open : a ≡ Answer.Open → Fills out out' size (answer_line true x) → Fills out out' size (answer_line_of a x z)
-  line-open h f = subst (Fills out out' size) (ap (λ (b : Answer). answer_line_of b x z) (sym h)) f
-
-  pub line-closed : a ≡ Answer.Closed → Fills out out' size (answer_line false z) → Fills out out' size (answer_line_of a x z)
-  line-closed h f = subst (Fills out out' size) (ap (λ (b : Answer). answer_line_of b x z) (sym h)) f
+-- what was written for a refusal is its line
+module _ (a : Result Verdict Refusal) (x z out out' : List ℕ) (size : ℕ) where
+  pub line_refused : (r counted : Refusal) → a ≡ Err r → counted ≡ record { fault = r.fault; detail = detail_from_one 15 (number r.fault) r.detail }
+      → Fills out out' size (refusal_text (number counted.fault) counted.detail) → Fills out out' size (answer_line_of (given_answer a) x z)
+  line_refused r counted h c f = subst (Fills out out' size) ((λ t. refusal_text (number (c t).fault) (c t).detail) ∙ (λ t. answer_line_of (given_answer (sym h t)) x z)) f

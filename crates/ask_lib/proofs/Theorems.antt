@@ -17,8 +17,8 @@ use Rattle.lists.specs.Filled.{zeros, filled}
 use Rattle.lists.specs.Tests.{first}
 use Rattle.refusals.specs.Table.{text_faults, storage_too_short, wrong_length, question_too_large}
 use Rattle.refusals.specs.Refusals.{unless, number_of, detail_of}
-use Rattle.refusals.specs.declared.Outcome.{Outcome}
-use Rattle.refusals.specs.declared.Outcome.TheVariants.{Passed, Refused}
+use Rattle.refusals.specs.Outcome.{Outcome}
+use Rattle.refusals.specs.Outcome.{Passed, Refused}
 use Rattle.lists.proofs.Filled.{length-zeros, filled-whole}
 use Rattle.lists.proofs.Tests.{first-before, first-here}
 use Rattle.algebra.specs.Matrix.{vector}

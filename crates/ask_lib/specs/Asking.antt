@@ -15,7 +15,7 @@ use Rattle.text_plan.specs.Call.{ReadAnswer}
 use Rattle.limits.specs.Limits.{work_length, starts_length, print_room}
 use Rattle.factor_all.specs.Factorization.{Factorization}
 use Rattle.call_answer.specs.Calls.{Given, answer_factors_of}
-use Rattle.call_answer.specs.declared.Answer.{Answer}
+use Rattle.call_answer.specs.Answer.{Answer}
 use Rattle.print_text.specs.Answer.{answer_text}
 use Rattle.print_text.specs.Printed.{counted_from_one, printed}
 use Rattle.stages.specs.Stages.{reading, factored_of, set_factored}

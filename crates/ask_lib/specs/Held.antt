@@ -9,18 +9,18 @@ use Rattle.std.specs.Prelude.{ℕ, ◌≤◌, ◌≡◌, true, false, List, leng
 use Rattle.lists.specs.Filled.{zeros}
 use Rattle.refusals.specs.Table.{storage_too_short, question_too_large}
 use Rattle.refusals.specs.Refusals.{◌▷◌}
-use Rattle.refusals.specs.declared.Outcome.{Outcome}
+use Rattle.refusals.specs.Outcome.{Outcome}
 use Rattle.sparse.specs.Matrix.{Compressed}
 use Rattle.sparse.specs.Set.{Storage}
 use Rattle.limits.specs.Limits.{work_length, starts_length}
 use Rattle.call_answer.specs.Calls.{Given, answer_detail, answer_factors_of}
-use Rattle.call_answer.specs.declared.Answer.{Answer}
+use Rattle.call_answer.specs.Answer.{Answer}
 use Rattle.print_text.specs.Answer.{answer_line}
 use Rattle.print_text.specs.Report.{refusal_text}
 use Rattle.print_text.specs.Printed.{detail_from_one, counted_from_one, printed}
 use Rattle.text_plan.specs.Held.{held_plan}
 use Rattle.stages.specs.Staged.{held_set}
-use Rattle.stages.specs.declared.Stages.{Stages}
+use Rattle.stages.specs.Results.{Stages}
 use Rattle.ask_lib.specs.Asking.{given_line}
 
 -- ---- the line

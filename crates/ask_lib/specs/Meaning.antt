@@ -5,7 +5,7 @@ use Rattle.std.specs.Prelude.{◌≡◌, List, ℕ, ◌≤◌, ◌<◌, length, 
 use Rattle.text_plan.specs.Call.{ReadAnswer}
 use Rattle.text_plan.specs.Held.{plan_of}
 use Rattle.call_answer.specs.Meaning.{AnswersRight}
-use Rattle.call_answer.specs.declared.Answer.{Answer}
+use Rattle.call_answer.specs.Answer.{Answer}
 use Rattle.print_text.specs.Answer.{answer_text}
 use Rattle.stages.specs.Meaning.{factors_of}
 use Rattle.ask_lib.specs.Asking.{is_open_answer}

@@ -6,12 +6,12 @@
 use Rattle.std.specs.Prelude.{ℕ, ◌≤◌, ◌≡◌, List, length}
 use Rattle.lists.specs.Filled.{zeros}
 use Rattle.refusals.specs.Refusals.{detail_of}
-use Rattle.refusals.specs.declared.Outcome.TheVariants.{Passed}
+use Rattle.refusals.specs.Outcome.{Passed}
 use Rattle.sparse.specs.Matrix.{Compressed}
 use Rattle.sparse.specs.Set.{Storage}
 use Rattle.limits.specs.Limits.{largest_size, work_length, starts_length, print_room}
 use Rattle.stages.specs.Staged.{Fits}
-use Rattle.stages.specs.declared.Stages.{Stages}
+use Rattle.stages.specs.Results.{Stages}
 use Rattle.ask_lib.specs.Asking.{AskLists}
 
 pub record LineReady (detail n m : ℕ) (x z out : List ℕ) : Type 0 where

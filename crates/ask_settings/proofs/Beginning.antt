@@ -8,8 +8,8 @@ use native.Mathlib.Omega.{arith}
 use lib.ListN.{length, take}
 use lib.Seq.{length-take-le}
 use Rattle.lists.specs.Filled.{zeros}
-use Rattle.refusals.specs.declared.Outcome.{Outcome}
-use Rattle.refusals.specs.declared.Outcome.TheVariants.{Passed, Refused}
+use Rattle.refusals.specs.Outcome.{Outcome}
+use Rattle.refusals.specs.Outcome.{Passed, Refused}
 use Rattle.sparse.specs.Matrix.{Compressed}
 use Rattle.sparse.specs.Set.{Storage}
 use Rattle.answer_kernel.specs.Filling.{Marked}
@@ -21,7 +21,7 @@ use Rattle.stages.specs.Stages.{reading, set_factored}
 use Rattle.stages.specs.Lists.{Largest}
 use Rattle.stages.specs.Staged.{held_set, Staged}
 use Rattle.stages.specs.Meaning.{factors_of}
-use Rattle.stages.specs.declared.Stages.{Stages}
+use Rattle.stages.specs.Results.{Stages}
 use Rattle.ask_lib.specs.Held.{stages_refusal, staged_then}
 use Rattle.ask_lib.proofs.Following.{refused-line, passed-line, work-length, text-line}
 use Rattle.ask_settings.specs.declared.Begun.{Begun}

@@ -9,8 +9,8 @@ use mathlib.Core.List.{List}
 use mathlib.Core.Option.{Option, none, some}
 use Prim.Native.Nat.{ℕ}
 use native.Mathlib.Omega.{arith}
-use Rattle.refusals.specs.declared.Outcome.{Outcome}
-use Rattle.refusals.specs.declared.Outcome.TheVariants.{Passed, Refused}
+use Rattle.refusals.specs.Outcome.{Outcome}
+use Rattle.refusals.specs.Outcome.{Passed, Refused}
 use Rattle.refusals.proofs.Refusals.{both-passed}
 use Rattle.sparse.specs.Matrix.{Compressed}
 use Rattle.sparse.specs.Set.{Set, Storage}
@@ -19,7 +19,7 @@ use Rattle.answer_question.specs.Needs.{SetReady}
 use Rattle.answer_question.proofs.Passed.{passed-ready}
 use Rattle.limits.specs.Limits.{largest_entries, work_length}
 use Rattle.text_plan.specs.Held.{plan_of}
-use Rattle.text_plan.specs.declared.Reading.{Reading}
+use Rattle.text_plan.specs.Call.{Reading}
 use Rattle.text_owners.specs.Stating.{StatesText}
 use Rattle.factor_all.specs.Factorization.{Factorization, unless_over}
 use Rattle.call_check.proofs.Checked.{Checked, factors-checked}
@@ -28,7 +28,7 @@ use Rattle.print_text.specs.Printed.{counted_from_one}
 use Rattle.stages.specs.Stages.{reading, factored_of, set_factored}
 use Rattle.stages.specs.Staged.{held_set, Staged}
 use Rattle.stages.specs.Meaning.{factors_of}
-use Rattle.stages.specs.declared.Stages.{Stages}
+use Rattle.stages.specs.Results.{Stages}
 use Rattle.stages.proofs.Outcomes.{not-passed}
 use Rattle.stages.proofs.ReadText.{outcome-passed, reading-good, first_row, whole_set, factored-is}
 use Rattle.stages.proofs.Passing.{factors-pass}

@@ -1,5 +1,4 @@
 -- The line of one column, from C and U in their lists.
---   ready-lists, filled-lists    lists with no bytes beside them are the lists themselves
 --   closed-ready ..              the line of a column that is free
 --   pivot-line, column-line      the line of a column, by its mark
 use mathlib.Core.Path.{◌≡◌, sym, ap, subst, ◌∙◌}
@@ -18,7 +17,6 @@ use Rattle.sparse.specs.Words.{view}
 use Rattle.sparse.specs.Matrix.{Compressed, compressed, viewed, matrix}
 use Rattle.sparse.specs.Set.{Set}
 use Rattle.sparse.proofs.WordLaws.{view-list}
-use Rattle.call_plan.proofs.Lists.{viewed-lists}
 use Rattle.row_space.specs.Substitution.{through_u}
 use Rattle.row_space.specs.Kernel.{setting}
 use Rattle.answer_question.specs.Needs.{ClosedReady}
@@ -32,18 +30,6 @@ use Rattle.ask_settings.specs.declared.Begun.{Begun}
 use Rattle.ask_settings.specs.Settings.{setting_line_at}
 use Rattle.ask_settings.specs.Held.{held_upper}
 use Rattle.ask_settings.specs.Needs.{FreeLineReady, ColumnLineReady}
-
--- ---- lists with no bytes beside them
-
-module _ (p r c : ℕ) (C us uc uv : List ℕ) where
-  pub ready-lists : (z : List ℕ) → ClosedReady p r c (compressed us uc uv) C z → ClosedReady p r c (viewed us [] uc [] uv []) (view C []) z
-  ready-lists z h =
-      subst (λ (D : List ℕ). ClosedReady p r c (viewed us [] uc [] uv []) D z) (sym (view-list C))
-      (subst (λ (U : Compressed). ClosedReady p r c U C z) (sym (viewed-lists us uc uv)) h)
-
-  pub filled-lists : (m : ℕ) (z : List ℕ) → z ≡ through_u p m r (vector (view C [])) (matrix (viewed us [] uc [] uv [])) (δ c)
-      → z ≡ through_u p m r (vector C) (matrix (compressed us uc uv)) (δ c)
-  filled-lists m z e = e ∙ (λ j. through_u p m r (vector (view-list C j)) (matrix (viewed-lists us uc uv j)) (δ c))
 
 -- ---- a column that is free
 

@@ -7,8 +7,8 @@
 --   BeginsSettings text g C U w b₀ b     the contract: the first line of the text is in the buffer; what is printed for the text is that line and then the lines of the
 --                                columns, as they are made from the lists, each of them the line of that column for the plan that was read
 use Rattle.std.specs.Prelude.{ℕ, ◌+◌, ◌-◌, ◌≤◌, ◌<◌, ◌≡◌, true, List, [], ◌++◌, length, take}
-use Rattle.refusals.specs.declared.Outcome.{Outcome}
-use Rattle.refusals.specs.declared.Outcome.TheVariants.{Passed, Refused}
+use Rattle.refusals.specs.Outcome.{Outcome}
+use Rattle.refusals.specs.Outcome.{Passed, Refused}
 use Rattle.algebra.specs.Prime.{Prime}
 use Rattle.sparse.specs.Row.{Below}
 use Rattle.sparse.specs.Matrix.{Compressed, compressed, form}
@@ -19,7 +19,7 @@ use Rattle.byte_buffer.specs.Fills.{Fills}
 use Rattle.print_text.specs.Settings.{free_line}
 use Rattle.stages.specs.Stages.{reading}
 use Rattle.stages.specs.Meaning.{factors_of}
-use Rattle.stages.specs.declared.Stages.{Stages}
+use Rattle.stages.specs.Results.{Stages}
 use Rattle.ask_lib.specs.Held.{stages_refusal, staged_then}
 use Rattle.ask_settings.specs.declared.Begun.{Begun}
 use Rattle.ask_settings.specs.Settings.{setting_line_at, setting_lines, settings_of, first_line_of}

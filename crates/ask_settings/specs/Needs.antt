@@ -4,12 +4,12 @@
 --   BeginStagedReady s C out w    the first line of what the stages came to
 --   BeginLists C U out w          the first line of a text: lists of the largest lengths, a buffer that holds any line, and a working row
 use Rattle.std.specs.Prelude.{ℕ, ◌≤◌, ◌<◌, ◌≡◌, List, length, take}
-use Rattle.refusals.specs.declared.Outcome.TheVariants.{Passed}
+use Rattle.refusals.specs.Outcome.{Passed}
 use Rattle.sparse.specs.Matrix.{Compressed}
 use Rattle.answer_kernel.specs.Needs.{MarksReady}
 use Rattle.limits.specs.Limits.{largest_size, work_length, print_room}
 use Rattle.stages.specs.Lists.{Largest}
-use Rattle.stages.specs.declared.Stages.{Stages}
+use Rattle.stages.specs.Results.{Stages}
 use Rattle.ask_lib.specs.Held.{stages_refusal}
 use Rattle.ask_lib.specs.Needs.{RowCountable}
 use Rattle.ask_settings.specs.declared.Begun.{Begun}

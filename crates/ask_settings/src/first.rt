@@ -1,5 +1,6 @@
 // The first line, and what the others are made from.
 ghost use Rattle.sparse.specs.Views.{stored_at, stored_after};
+ghost use Rattle.stages.specs.Results.{stages_of};
 ghost use Rattle.ask_settings.specs.Held.{BegunFrom, BeginsSettings};
 ghost use Rattle.ask_settings.specs.Needs.{BeginStagedReady, BeginLists};
 
@@ -9,36 +10,43 @@ use ask_lib::refusal;
 use limits::{ENTRY_CELLS, SIZE_CELLS, START_CELLS};
 use print_text::report::write_refusal;
 use print_text::settings::write_free;
-use refusals::Outcome;
-use stages::{Stages, factor_text};
+use sparse::words::Words;
+use stages::{FactoredPlan, Stopped, factor_text};
 
 // Writes the line of the refusal that the stages ended with, or how many columns are free, and marks the pivot columns in the working row.
-fn begin_staged(s: Stages, co: &[u32], out: &mut [u8], work: &mut [u64]) -> Begun
-    requires { BeginStagedReady s co.now out.old work.old }
-    ensures { BegunFrom s result co.now out.old out.new work.new }
+fn begin_staged(
+    staged: Result<FactoredPlan, Stopped>,
+    co: &[u32],
+    out: &mut [u8],
+    work: &mut [u64],
+) -> Begun
+    requires { BeginStagedReady (stages_of staged) co.now out.old work.old }
+    ensures { BegunFrom (stages_of staged) result co.now out.old out.new work.new }
 {
-    let refused = refusal(s);
-    if let Outcome::Refused(number, detail) = refused {
-        let size = write_refusal(number, detail, out);
-        return Begun {
-            size,
-            p: 0,
-            columns: 0,
-            rank: 0,
-            upper: 0,
-        };
-    }
-    let m = s.reading.m;
-    let rank = s.factored.rank;
-    let none: &[u8] = b"";
-    mark_pivots(&co[..m as usize], none, rank as usize, work);
+    let plan = match staged {
+        Ok(plan) => plan,
+        Err(stopped) => {
+            let size = write_refusal(refusal(stopped), out);
+            return Begun {
+                size,
+                p: 0,
+                columns: 0,
+                rank: 0,
+                upper: 0,
+            };
+        }
+    };
+    let m = plan.stated.m;
+    let rank = plan.ranks.rank;
+    let order = Words::stored(&co[..m as usize]);
+    mark_pivots(&order, rank as usize, work);
     let size = write_free(m - rank, out);
     Begun {
         size,
-        p: s.reading.p,
+        p: plan.stated.p,
         columns: m,
         rank,
-        upper: s.upper,
+        upper: plan.upper,
     }
 }
 
@@ -66,7 +74,7 @@ pub fn begin(
     let mut ls = [0u32; START_CELLS];
     let mut lc = [0u32; ENTRY_CELLS];
     let mut lv = [0u32; ENTRY_CELLS];
-    let s = factor_text(
+    let staged = factor_text(
         text,
         &mut starts,
         &mut cols,
@@ -81,5 +89,5 @@ pub fn begin(
         uv,
         work,
     );
-    begin_staged(s, co, out, work)
+    begin_staged(staged, co, out, work)
 }

@@ -10,7 +10,7 @@ mod line;
 
 // What `begin` returns: the length of the first line, and what the lines of the columns are made from, the modulus, the number of columns, which
 // is 0 after a refusal, the rank, and the entry count of U.
-#[derive(Clone, Copy)]
+#[derive(Clone, Copy, Debug, PartialEq, Eq)]
 pub struct Begun {
     pub size: usize,
     pub p: u32,

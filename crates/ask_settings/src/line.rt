@@ -19,6 +19,8 @@ use limits::SIZE_CELLS;
 use lists::clear_bytes;
 use print_text::settings::write_setting;
 use residue::Modulus;
+use sparse::stored::Compressed;
+use sparse::words::Words;
 
 // The setting of the column c, which is free.
 fn fill_setting(
@@ -34,8 +36,9 @@ fn fill_setting(
     requires { ClosedReady q.p r c (stored_at us.now uc.now uv.now) co.now z.old }
     ensures { z.new ≡ through_u q.p (length z.old) r (vector co.now) (matrix (stored_before us.now uc.now uv.now)) (δ c) }
 {
-    let none: &[u8] = b"";
-    kernel_vector(q, us, none, uc, none, uv, none, co, none, r, c, z);
+    let u = Compressed::stored(us, uc, uv);
+    let order = Words::stored(co);
+    kernel_vector(q, &u, &order, r, c, z);
 }
 
 // The line of the column c, which is free.

@@ -9,7 +9,7 @@ use lib.Seq.{length-take-le, take_at}
 use Rattle.lists.specs.Filled.{filled}
 use Rattle.lists.proofs.Filled.{filled-whole}
 use Rattle.refusals.specs.Refusals.{detail_of}
-use Rattle.refusals.specs.declared.Outcome.{Outcome}
+use Rattle.refusals.specs.Outcome.{Outcome}
 use Rattle.algebra.specs.Matrix.{vector}
 use Rattle.sparse.specs.Matrix.{Compressed}
 use Rattle.sparse.specs.Set.{Set, Storage}
@@ -19,11 +19,11 @@ use Rattle.column_space.proofs.Solutions.{solve-slots-lengths}
 use Rattle.limits.specs.Limits.{work_length}
 use Rattle.call_check.specs.Calls.{check_factors_of}
 use Rattle.call_slots.specs.Calls.{SlotsGiven, solution_of, slots_after, slots_given, slots_factors_of, Solves}
-use Rattle.call_slots.specs.declared.Solution.{Solution}
+use Rattle.call_slots.specs.Solution.{Solution}
 use Rattle.print_text.specs.Answer.{slots_line, slots_text}
 use Rattle.text_plan.specs.Held.{held_plan}
 use Rattle.stages.specs.Staged.{held_set}
-use Rattle.stages.specs.declared.Stages.{Stages}
+use Rattle.stages.specs.Results.{Stages}
 use Rattle.ask_lib.proofs.Answered.{x-part, z-part}
 use Rattle.ask_words.specs.Solving.{is_solved, solution_line}
 use Rattle.ask_words.specs.Held.{solution_line_of, held_slots, SlotsHeld}

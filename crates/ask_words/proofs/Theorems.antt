@@ -13,8 +13,8 @@ use Rattle.lists.specs.Filled.{zeros, filled}
 use Rattle.lists.proofs.Filled.{length-zeros, filled-whole}
 use Rattle.refusals.specs.Table.{text_faults, storage_too_short, wrong_length, question_too_large}
 use Rattle.refusals.specs.Refusals.{number_of, detail_of}
-use Rattle.refusals.specs.declared.Outcome.{Outcome}
-use Rattle.refusals.specs.declared.Outcome.TheVariants.{Passed, Refused}
+use Rattle.refusals.specs.Outcome.{Outcome}
+use Rattle.refusals.specs.Outcome.{Passed, Refused}
 use Rattle.algebra.specs.Matrix.{vector}
 use Rattle.sparse.specs.Row.{Below}
 use Rattle.sparse.specs.Matrix.{Compressed}

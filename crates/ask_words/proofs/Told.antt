@@ -12,7 +12,7 @@ use Rattle.call_slots.specs.Calls.{slots_factors_of}
 use Rattle.print_text.specs.Printed.{Prints}
 use Rattle.stages.specs.Stages.{reading}
 use Rattle.stages.specs.Staged.{Staged, StagedOwned}
-use Rattle.stages.specs.declared.Stages.{Stages}
+use Rattle.stages.specs.Results.{Stages}
 use Rattle.ask_lib.specs.Asking.{AskLists}
 use Rattle.ask_lib.proofs.Following.{work-length, text-line}
 use Rattle.ask_lib.proofs.Asked.{staged_ready}

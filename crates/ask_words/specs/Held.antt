@@ -10,13 +10,13 @@ use Rattle.sparse.specs.Matrix.{Compressed}
 use Rattle.sparse.specs.Set.{Storage}
 use Rattle.limits.specs.Limits.{work_length, starts_length}
 use Rattle.call_slots.specs.Calls.{SlotsGiven, solution_detail, slots_factors_of}
-use Rattle.call_slots.specs.declared.Solution.{Solution}
+use Rattle.call_slots.specs.Solution.{Solution}
 use Rattle.print_text.specs.Answer.{slots_line}
 use Rattle.print_text.specs.Report.{refusal_text}
 use Rattle.print_text.specs.Printed.{detail_from_one}
 use Rattle.text_plan.specs.Held.{held_plan}
 use Rattle.stages.specs.Staged.{held_set}
-use Rattle.stages.specs.declared.Stages.{Stages}
+use Rattle.stages.specs.Results.{Stages}
 use Rattle.ask_lib.specs.Held.{staged_then}
 use Rattle.ask_words.specs.Solving.{solution_line}
 

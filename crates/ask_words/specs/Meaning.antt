@@ -5,7 +5,7 @@ use Rattle.std.specs.Prelude.{◌≡◌, List, ℕ}
 use Rattle.text_plan.specs.Call.{ReadAnswer}
 use Rattle.text_plan.specs.Held.{plan_of}
 use Rattle.call_slots.specs.Meaning.{SolvesRight}
-use Rattle.call_slots.specs.declared.Solution.{Solution}
+use Rattle.call_slots.specs.Solution.{Solution}
 use Rattle.print_text.specs.Answer.{slots_text}
 use Rattle.stages.specs.Meaning.{factors_of}
 use Rattle.ask_words.specs.Solving.{is_solved}

@@ -5,7 +5,7 @@ use Rattle.std.specs.Prelude.{ℕ, ◌≡◌, List, length}
 use Rattle.sparse.specs.Matrix.{Compressed}
 use Rattle.sparse.specs.Set.{Storage}
 use Rattle.limits.specs.Limits.{largest_size}
-use Rattle.stages.specs.declared.Stages.{Stages}
+use Rattle.stages.specs.Results.{Stages}
 use Rattle.ask_lib.specs.Needs.{Answerable, AskStagedReady}
 
 pub record Solvable (s : Stages) (A : Compressed) (ow : List ℕ) (l : Storage) (h st w : List ℕ) : Type 0 where

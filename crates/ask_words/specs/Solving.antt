@@ -15,7 +15,7 @@ use Rattle.text_plan.specs.Held.{plan_of}
 use Rattle.limits.specs.Limits.{work_length}
 use Rattle.factor_all.specs.Factorization.{Factorization}
 use Rattle.call_slots.specs.Calls.{SlotsGiven, slots_factors_of}
-use Rattle.call_slots.specs.declared.Solution.{Solution}
+use Rattle.call_slots.specs.Solution.{Solution}
 use Rattle.print_text.specs.Answer.{slots_text}
 use Rattle.print_text.specs.Printed.{counted_from_one, printed}
 use Rattle.stages.specs.Stages.{reading, set_factored}

@@ -1,9 +1,9 @@
 // The words that give slot values, from a plan's text; or the contradiction between them.
 #![tactic(auto)]
 
-ghost use Rattle.std.specs.Prelude.{◌≡◌, take};
+ghost use Rattle.std.specs.Prelude.{◌≡◌, Ok, take};
 ghost use Rattle.byte_buffer.specs.Fills.{Fills};
-ghost use Rattle.call_slots.specs.Calls.{solution_detail};
+ghost use Rattle.call_slots.specs.Calls.{solution_detail, given_solution};
 ghost use Rattle.print_text.specs.Printed.{Prints};
 ghost use Rattle.ask_lib.specs.Asking.{AskLists};
 ghost use Rattle.ask_lib.specs.Needs.{LineReady};
@@ -11,38 +11,40 @@ ghost use Rattle.ask_words.specs.Solving.{TellsWords};
 ghost use Rattle.ask_words.specs.Held.{solution_line_of, held_slots, SlotsHeld, staged_words};
 ghost use Rattle.ask_words.specs.Needs.{Solvable, WordsStagedReady};
 ghost use Rattle.sparse.specs.Views.{stored_at, stored_before, storage_at, storage_before};
+ghost use Rattle.stages.specs.Results.{stages_of};
 
 use ask_lib::refusal;
-use call_slots::Solution;
 use call_slots::from_factors::solve_slots_from_factors;
+use column_space::SlotVerdict;
 use limits::{ENTRY_CELLS, SIZE_CELLS, START_CELLS};
 use print_text::answer::write_slots;
 use print_text::report::{from_one, write_refusal};
-use refusals::Outcome;
-use refusals::numbers::QUESTION_TOO_LARGE;
-use stages::{Stages, factor_owned};
+use refusals::{Fault, Refusal};
+use stages::{FactoredPlan, Stopped, factor_owned};
 
 // Writes the line of an answer: of a refusal, whose index counts from 1 in print, or `words` with the m values of the setting, or
 // `contradiction` with the n values of the combination.
-fn write_line(answer: Solution, n: u32, m: u32, ss: &[u32], ws: &[u32], out: &mut [u8]) -> usize
-    requires { LineReady (solution_detail answer) n m ws.now ss.now out.old }
-    ensures { Fills out.old out.new result (solution_line_of answer (take m ss.now) (take n ws.now)) }
+fn write_line(
+    answer: Result<SlotVerdict, Refusal>,
+    n: u32,
+    m: u32,
+    ss: &[u32],
+    ws: &[u32],
+    out: &mut [u8],
+) -> usize
+    requires { LineReady (solution_detail (given_solution answer)) n m ws.now ss.now out.old }
+    ensures { Fills out.old out.new result (solution_line_of (given_solution answer) (take m ss.now) (take n ws.now)) }
 {
-    let s = &ss[..m as usize];
-    let w = &ws[..n as usize];
     match answer {
-        Solution::Refused(number, detail) => {
-            let counted = from_one(QUESTION_TOO_LARGE, number, detail);
-            write_refusal(number, counted, out)
-        }
-        Solution::Solved => write_slots(true, s, out),
-        Solution::Contradiction => write_slots(false, w, out),
+        Err(refusal) => write_refusal(from_one(Fault::QuestionTooLarge, refusal), out),
+        Ok(SlotVerdict::Solved) => write_slots(true, &ss[..m as usize], out),
+        Ok(SlotVerdict::Contradiction) => write_slots(false, &ws[..n as usize], out),
     }
 }
 
 // Solves from the plan, its owners and the set that the stages left in lists.
 fn solve_held(
-    s: Stages,
+    plan: FactoredPlan,
     starts: &[u32],
     cols: &[u32],
     vals: &[u32],
@@ -59,25 +61,26 @@ fn solve_held(
     setting: &mut [u32],
     combination: &mut [u32],
     work: &mut [u64],
-) -> Solution
-    requires { Solvable s (stored_at starts.now cols.now vals.now) owners.now (storage_at ro.now co.now ls.now lc.now lv.now us.now uc.now uv.now work.old) h.now setting.old combination.old }
-    ensures { SlotsHeld (held_slots s (stored_before starts.now cols.now vals.now) (storage_before ro.now co.now ls.now lc.now lv.now us.now uc.now uv.now work.old) h.now) result s.reading.n s.reading.m setting.new combination.new work.old work.new }
+) -> Result<SlotVerdict, Refusal>
+    requires { Solvable (stages_of (Ok plan)) (stored_at starts.now cols.now vals.now) owners.now (storage_at ro.now co.now ls.now lc.now lv.now us.now uc.now uv.now work.old) h.now setting.old combination.old }
+    ensures { SlotsHeld (held_slots (stages_of (Ok plan)) (stored_before starts.now cols.now vals.now) (storage_before ro.now co.now ls.now lc.now lv.now us.now uc.now uv.now work.old) h.now) (given_solution result) plan.stated.n plan.stated.m setting.new combination.new work.old work.new }
 {
-    let n = s.reading.n as usize;
-    let m = s.reading.m as usize;
-    let count = s.reading.count as usize;
-    let rank = s.factored.rank as usize;
-    let lower = s.lower as usize;
-    let upper = s.upper as usize;
+    let stated = plan.stated;
+    let n = stated.n as usize;
+    let m = stated.m as usize;
+    let count = stated.count as usize;
+    let rank = plan.ranks.rank as usize;
+    let lower = plan.lower as usize;
+    let upper = plan.upper as usize;
     solve_slots_from_factors(
-        s.reading.p,
-        s.reading.n,
-        s.reading.m,
+        stated.p,
+        stated.n,
+        stated.m,
         &starts[..n + 1],
         &cols[..count],
         &vals[..count],
         &owners[..m],
-        s.factored.rank,
+        plan.ranks.rank,
         &ro[..n],
         &co[..m],
         &ls[..n + 1],
@@ -95,7 +98,7 @@ fn solve_held(
 
 // Writes the line of what the stages came to: of the refusal that they ended with, or of the answer.
 fn words_staged(
-    s: Stages,
+    staged: Result<FactoredPlan, Stopped>,
     starts: &[u32],
     cols: &[u32],
     vals: &[u32],
@@ -112,17 +115,17 @@ fn words_staged(
     out: &mut [u8],
     work: &mut [u64],
 ) -> usize
-    requires { WordsStagedReady s (stored_at starts.now cols.now vals.now) owners.now (storage_at ro.now co.now ls.now lc.now lv.now us.now uc.now uv.now work.old) h.now out.old }
-    ensures { Prints (staged_words s (stored_before starts.now cols.now vals.now) (storage_before ro.now co.now ls.now lc.now lv.now us.now uc.now uv.now work.old) h.now) result out.old out.new work.old work.new }
+    requires { WordsStagedReady (stages_of staged) (stored_at starts.now cols.now vals.now) owners.now (storage_at ro.now co.now ls.now lc.now lv.now us.now uc.now uv.now work.old) h.now out.old }
+    ensures { Prints (staged_words (stages_of staged) (stored_before starts.now cols.now vals.now) (storage_before ro.now co.now ls.now lc.now lv.now us.now uc.now uv.now work.old) h.now) result out.old out.new work.old work.new }
 {
-    let refused = refusal(s);
-    if let Outcome::Refused(number, detail) = refused {
-        return write_refusal(number, detail, out);
-    }
+    let plan = match staged {
+        Ok(plan) => plan,
+        Err(stopped) => return write_refusal(refusal(stopped), out),
+    };
     let mut setting = [0u32; SIZE_CELLS];
     let mut combination = [0u32; SIZE_CELLS];
     let answer = solve_held(
-        s,
+        plan,
         starts,
         cols,
         vals,
@@ -142,8 +145,8 @@ fn words_staged(
     );
     write_line(
         answer,
-        s.reading.n,
-        s.reading.m,
+        plan.stated.n,
+        plan.stated.m,
         &setting,
         &combination,
         out,
@@ -170,7 +173,7 @@ pub fn words(text: &[u8], h: &[u32], out: &mut [u8], work: &mut [u64]) -> usize
     let mut us = [0u32; START_CELLS];
     let mut uc = [0u32; ENTRY_CELLS];
     let mut uv = [0u32; ENTRY_CELLS];
-    let s = factor_owned(
+    let staged = factor_owned(
         text,
         &mut starts,
         &mut cols,
@@ -187,6 +190,7 @@ pub fn words(text: &[u8], h: &[u32], out: &mut [u8], work: &mut [u64]) -> usize
         work,
     );
     words_staged(
-        s, &starts, &cols, &vals, &owners, &ro, &co, &ls, &lc, &lv, &us, &uc, &uv, h, out, work,
+        staged, &starts, &cols, &vals, &owners, &ro, &co, &ls, &lc, &lv, &us, &uc, &uv, h, out,
+        work,
     )
 }

@@ -1,40 +1,23 @@
 -- The rank that the stages of a text found: one law for each way out, and what it is by the text.
-use mathlib.Core.Path.{◌≡◌, refl, sym, ap, ◌∙◌}
+use mathlib.Core.Path.{◌≡◌, refl, ap, ◌∙◌}
 use mathlib.Core.List.{List}
 use Prim.Native.Nat.{ℕ}
 use Rattle.refusals.specs.Refusals.{◌▷◌}
-use Rattle.refusals.specs.declared.Outcome.{Outcome}
-use Rattle.refusals.specs.declared.Outcome.TheVariants.{Passed, Refused}
+use Rattle.refusals.specs.Outcome.{Outcome}
+use Rattle.refusals.specs.Outcome.{Passed, Refused}
 use Rattle.sparse.specs.Matrix.{Compressed}
 use Rattle.sparse.specs.Set.{Storage}
 use Rattle.text_plan.specs.Call.{ReadAnswer}
-use Rattle.text_plan.specs.declared.Reading.{Reading}
-use Rattle.stages.specs.declared.Stages.{Stages}
+use Rattle.text_plan.specs.Call.{Reading}
+use Rattle.stages.specs.Results.{Stages}
 use Rattle.stages.specs.Stages.{reading, factored_of}
-use Rattle.stages.specs.Staged.{FactorsHeld, Staged}
+use Rattle.stages.specs.Staged.{stages_outcome, FactorsHeld, Staged}
 use Rattle.bench_calls.specs.Timed.{if_passed, held_rank, timed_rank}
 
-module _ (s : Stages) where
-  abbrev after-reading : Outcome → ℕ
-  after-reading o = if_passed (o ▷ s.factored.outcome) s.factored.rank
-
-  abbrev after-factoring : Outcome → ℕ
-  after-factoring o = if_passed o s.factored.rank
-
-  pub read-refused : {k d : ℕ} → s.reading.outcome ≡ Refused k d → 0 ≡ held_rank s
-  unfolding held_rank
-  read-refused e = ap after-reading (sym e)
-
-  module _ (passed : s.reading.outcome ≡ Passed) where
-    read_done : after-factoring s.factored.outcome ≡ held_rank s
-    unfolding held_rank
-    read_done = ap after-reading (sym passed)
-
-    pub factor-refused : {k d : ℕ} → s.factored.outcome ≡ Refused k d → 0 ≡ held_rank s
-    factor-refused e = ap after-factoring (sym e) ∙ read_done
-
-    pub factored : s.factored.outcome ≡ Passed → s.factored.rank ≡ held_rank s
-    factored e = ap after-factoring (sym e) ∙ read_done
+-- a refusal of a stage has no rank
+pub refused-rank : (s : Stages) {k d : ℕ} → Refused k d ≡ stages_outcome s → 0 ≡ held_rank s
+unfolding held_rank
+refused-rank s = ap (λ (o : Outcome). if_passed o s.factored.rank)
 
 -- ---- the stages of a text
 

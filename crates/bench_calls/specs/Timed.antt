@@ -6,9 +6,9 @@
 use Rattle.std.specs.Prelude.{ℕ, cond, List, [], ltb, length}
 use Rattle.limits.specs.Limits.{print_room, starts_length}
 use Rattle.refusals.specs.Refusals.{◌▷◌}
-use Rattle.refusals.specs.declared.Outcome.{Outcome}
-use Rattle.refusals.specs.declared.Outcome.TheVariants.{Passed, Refused}
-use Rattle.stages.specs.declared.Stages.{Stages}
+use Rattle.refusals.specs.Outcome.{Outcome}
+use Rattle.refusals.specs.Outcome.{Passed, Refused}
+use Rattle.stages.specs.Results.{Stages}
 use Rattle.stages.specs.Stages.{reading, factored_of}
 use Rattle.ask_words.specs.Solving.{words_of}
 

@@ -4,29 +4,22 @@
 
 ghost use Rattle.std.specs.Prelude.{◌≡◌, length};
 ghost use Rattle.byte_buffer.specs.Fills.{Fills};
+ghost use Rattle.stages.specs.Results.{stages_of};
 ghost use Rattle.bench_calls.specs.Timed.{held_rank, timed_rank, timed_words};
 
 use ask_words::words;
 use limits::{ENTRY_CELLS, PRINT_ROOM, SIZE_CELLS, START_CELLS, WORK_CELLS};
 use lists::clear_bytes;
-use refusals::Outcome;
-use stages::{Stages, factor_text};
+use stages::{FactoredPlan, Stopped, factor_text};
 
 // The rank that the stages found, 0 where one of them refused.
-fn rank_staged(s: Stages) -> u64
-    ensures { result ≡ held_rank s }
+fn rank_staged(staged: Result<FactoredPlan, Stopped>) -> u64
+    ensures { result ≡ held_rank (stages_of staged) }
 {
-    let r = s.reading;
-    let f = s.factored;
-    let reading = r.outcome;
-    let Outcome::Passed = reading else {
-        return 0;
-    };
-    let factoring = f.outcome;
-    let Outcome::Passed = factoring else {
-        return 0;
-    };
-    f.rank as u64
+    match staged {
+        Ok(plan) => plan.ranks.rank as u64,
+        Err(_) => 0,
+    }
 }
 
 // Reads a plan's text and factors the plan.
@@ -49,7 +42,7 @@ pub extern "C" fn plq_time_factoring(text: &[u8]) -> u64
     let mut uc = [0u32; ENTRY_CELLS];
     let mut uv = [0u32; ENTRY_CELLS];
     let mut work = [0u64; WORK_CELLS];
-    let s = factor_text(
+    let staged = factor_text(
         text,
         &mut starts,
         &mut cols,
@@ -64,7 +57,7 @@ pub extern "C" fn plq_time_factoring(text: &[u8]) -> u64
         &mut uv,
         &mut work,
     );
-    rank_staged(s)
+    rank_staged(staged)
 }
 
 // Writes the line of the words that give slot values: what the question program prints for a text with the verb `words`, refusals too.

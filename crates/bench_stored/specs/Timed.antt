@@ -4,13 +4,13 @@
 --   CheckTimed g z work        z is the number of the outcome that g makes from the working row's length, and the row is all zero
 --   OpenTimed g z marks work   the same of a listing, and the list is left as g says
 use Rattle.std.specs.Prelude.{ℕ, ◌≡◌}
-use Rattle.refusals.specs.declared.Outcome.{Outcome}
-use Rattle.refusals.specs.declared.Outcome.TheVariants.{Passed, Refused}
+use Rattle.refusals.specs.Outcome.{Outcome}
+use Rattle.refusals.specs.Outcome.{Passed, Refused}
 use Rattle.refusals.specs.Refusals.{number_of}
 use Rattle.sparse.specs.Set.{Storage}
 use Rattle.sparse.specs.Views.{LentList}
 use Rattle.factor_all.specs.Factorization.{Factorization, Leaves}
-use Rattle.factor_all.specs.declared.factor.Factored.{Factored}
+use Rattle.factor_all.specs.Factored.{Factored}
 use Rattle.call_check.specs.Calls.{ChecksIn}
 use Rattle.call_open.specs.Calls.{Listed, ListsIn}
 

@@ -3,7 +3,9 @@
 #![tactic(auto)]
 
 ghost use Rattle.std.specs.Prelude.{◌≡◌};
+ghost use Rattle.refusals.specs.Outcome.{outcome_of};
 ghost use Rattle.refusals.specs.Refusals.{number_of};
+ghost use Rattle.factor_all.specs.Factored.{factored_of};
 ghost use Rattle.call_factor.specs.Lengths.{lent_of};
 ghost use Rattle.call_factor.specs.Calls.{factor_call_of};
 ghost use Rattle.call_check.specs.Calls.{check_factors_of};
@@ -14,27 +16,26 @@ ghost use Rattle.sparse.specs.Views.{stored_before, set_before, storage_before, 
 use call_check::from_factors::check_factors;
 use call_factor::factor;
 use call_open::from_factors::open_columns_from_factors;
-use factor_all::factor::Factored;
-use refusals::Outcome;
+use factor_all::factor::Ranks;
+use refusals::Refusal;
 
 // The number of document 01's table, 0 where the call passed.
-fn number_of(o: Outcome) -> u64
-    ensures { result ≡ number_of o }
+fn number_of(tested: Result<(), Refusal>) -> u64
+    ensures { result ≡ number_of (outcome_of tested) }
 {
-    match o {
-        Outcome::Passed => 0,
-        Outcome::Refused(number, _) => number as u64,
+    match tested {
+        Ok(()) => 0,
+        Err(refusal) => u32::from(refusal.fault) as u64,
     }
 }
 
 // The rank, 0 where factoring was refused.
-fn rank_of(f: Factored) -> u64
-    ensures { result ≡ rank_if_passed f.outcome f.rank }
+fn rank_of(factored: Result<Ranks, Refusal>) -> u64
+    ensures { let f = factored_of factored in result ≡ rank_if_passed f.outcome f.rank }
 {
-    let outcome = f.outcome;
-    match outcome {
-        Outcome::Passed => f.rank as u64,
-        Outcome::Refused(_, _) => 0,
+    match factored {
+        Ok(ranks) => ranks.rank as u64,
+        Err(_) => 0,
     }
 }
 
@@ -61,10 +62,10 @@ pub extern "C" fn plq_time_factor(
 ) -> u64
     ensures { FactorTimed (factor_call_of p n m (stored_before starts.now cols.now vals.now) (lent_of (storage_before ro.old co.old ls.old lc.old lv.old us.old uc.old uv.old work.old))) result (storage_after ro.new co.new ls.new lc.new lv.new us.new uc.new uv.new work.new) }
 {
-    let f = factor(
+    let factored = factor(
         p, n, m, starts, cols, vals, ro, co, ls, lc, lv, us, uc, uv, work,
     );
-    rank_of(f)
+    rank_of(factored)
 }
 
 // Checks stored factors: the library's `check_factors` without owners.
@@ -91,10 +92,10 @@ pub extern "C" fn plq_time_check(
 ) -> u64
     ensures { CheckTimed (check_factors_of p n m (stored_before starts.now cols.now vals.now) (set_before r ro.now co.now ls.now lc.now lv.now us.now uc.now uv.now)) result work }
 {
-    let outcome = check_factors(
+    let checked = check_factors(
         p, n, m, starts, cols, vals, r, ro, co, ls, lc, lv, us, uc, uv, work,
     );
-    number_of(outcome)
+    number_of(checked)
 }
 
 // Checks stored factors and lists the open columns: the library's `open_columns_from_factors` without owners.
@@ -122,8 +123,8 @@ pub extern "C" fn plq_time_open(
 ) -> u64
     ensures { OpenTimed (open_factors_of p n m (stored_before starts.now cols.now vals.now) (set_before r ro.now co.now ls.now lc.now lv.now us.now uc.now uv.now)) result marks work }
 {
-    let outcome = open_columns_from_factors(
+    let listed = open_columns_from_factors(
         p, n, m, starts, cols, vals, r, ro, co, ls, lc, lv, us, uc, uv, marks, work,
     );
-    number_of(outcome)
+    number_of(listed)
 }

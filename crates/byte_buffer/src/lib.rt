@@ -9,12 +9,7 @@ pub fn put_bytes(list: &[u8], buffer: &mut [u8], at: usize) -> usize
     requires { at + length list.now ≤ length buffer.old }
     ensures { Stored buffer.old buffer.new at result list.now }
 {
-    let mut next = at;
-    let mut i = 0;
-    while i < list.len() {
-        buffer[next] = list[i];
-        next += 1;
-        i += 1;
-    }
+    let next = at + list.len();
+    buffer[at..next].copy_from_slice(list);
     next
 }

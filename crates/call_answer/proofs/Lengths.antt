@@ -9,7 +9,7 @@ use borrow.Author.Tests.{eqb-true, eq-eqb, ne_eqb}
 use Rattle.lists.proofs.Bools.{and_left, and_right, chain-false, chain-true}
 use Rattle.call_answer.specs.Calls.{question_lengths}
 
--- ---- one law for each way out of the test
+-- ---- how the test comes out
 
 module _ (n m : ℕ) (y : List ℕ) (a b : ℕ) where
   pub values-differ : (length y ≡ m → ⊥) → false ≡ question_lengths n m y a b
@@ -17,10 +17,6 @@ module _ (n m : ℕ) (y : List ℕ) (a b : ℕ) where
   values-differ h = chain-false (eqb (length y) m) (eqb a n && eqb b m) (ne_eqb (length y) m h)
 
   module _ (values : length y ≡ m) where
-    pub rows-differ : (a ≡ n → ⊥) → false ≡ question_lengths n m y a b
-    unfolding question_lengths
-    rows-differ h = chain-true (eqb (length y) m) (eqb a n && eqb b m) false (eq-eqb (length y) m values) (chain-false (eqb a n) (eqb b m) (ne_eqb a n h))
-
     pub columns-tested : a ≡ n → eqb b m ≡ question_lengths n m y a b
     unfolding question_lengths
     columns-tested rows = chain-true (eqb (length y) m) (eqb a n && eqb b m) (eqb b m) (eq-eqb (length y) m values) (chain-true (eqb a n) (eqb b m) (eqb b m) (eq-eqb a n rows) refl)

@@ -21,7 +21,7 @@ use Rattle.certificate.specs.Reading.{set_of_certificate}
 use Rattle.call_check.specs.Passing.{StoredPasses, CertificatePasses}
 use Rattle.call_check.proofs.Theorems.{factors-exactly, certificate-exactly}
 use Rattle.call_check.proofs.Checked.{Checked, factors-checked, certificate-checked}
-use Rattle.call_answer.specs.declared.Answer.{Answer}
+use Rattle.call_answer.specs.Answer.{Answer}
 use Rattle.call_answer.proofs.Theorems.{SolvedFrom}
 
 -- ---- a set that passes a check

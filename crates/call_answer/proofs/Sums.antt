@@ -22,7 +22,7 @@ use Rattle.certificate.specs.Reading.{set_of_certificate}
 use Rattle.call_answer.specs.Calls.{answer_number, answer_of, Given, answer_factors_of, answer_certificate_of}
 use Rattle.call_answer.specs.Meaning.{Askable}
 use Rattle.call_answer.specs.Sums.{Called, AnswersTo, LentFits, Returns, SumRight, SumClosed}
-use Rattle.call_answer.specs.declared.Answer.{Answer}
+use Rattle.call_answer.specs.Answer.{Answer}
 use Rattle.call_answer.proofs.Theorems.{SolvedFrom, stored-answered, stored-solved, bytes-answered, bytes-solved}
 
 -- ---- the calls of one kind, with one plan and one set: g y is what is given for the question y

@@ -21,7 +21,7 @@ use Rattle.lists.specs.Tests.{among, first}
 use Rattle.refusals.specs.Table.{plan_faults, set_faults, wrong_length, question_too_large}
 use Rattle.lists.specs.Filled.{zeros, filled}
 use Rattle.refusals.specs.Refusals.{◌▷◌, unless, number_of, NumberFrom}
-use Rattle.refusals.specs.declared.Outcome.{Outcome}
+use Rattle.refusals.specs.Outcome.{Outcome}
 use Rattle.lists.proofs.Bools.{and_both}
 use Rattle.lists.proofs.Tests.{first-all}
 use Rattle.lists.proofs.Filled.{length-zeros, filled_none, filled-whole}
@@ -50,7 +50,7 @@ use Rattle.call_check.specs.Passing.{StoredPasses, CertificatePasses}
 use Rattle.call_check.proofs.Theorems.{factors-none, certificate-none, stored-passes, bytes-pass}
 use Rattle.call_answer.specs.Calls.{answer_number, answer_of, question_lengths, question_after, given, answer_factors_of, answer_certificate_of, Answers}
 use Rattle.call_answer.specs.Meaning.{Askable, LeftOpen, LeftClosed, AnswersRight, AnswerOf, from_stored, from_bytes}
-use Rattle.call_answer.specs.declared.Answer.{Answer}
+use Rattle.call_answer.specs.Answer.{Answer}
 use Rattle.call_check.proofs.Checked.{Checked, SetTest, stored-test, bytes-test}
 use Rattle.call_answer.proofs.Ways.{asked-parts}
 

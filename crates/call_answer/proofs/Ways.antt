@@ -7,7 +7,7 @@ use native.Mathlib.Omega.{arith}
 use lib.ListN.{length}
 use Rattle.lists.specs.Filled.{zeros, filled}
 use Rattle.refusals.specs.Refusals.{◌▷◌, number_of, detail_of}
-use Rattle.refusals.specs.declared.Outcome.{Outcome}
+use Rattle.refusals.specs.Outcome.{Outcome}
 use Rattle.lists.proofs.Filled.{length-zeros, filled_none, filled-whole}
 use Rattle.refusals.proofs.Refusals.{fails, holds, refused, passed, both-passed, unless-passed}
 use Rattle.answer_question.proofs.Passed.{question-passed, passed-ready}
@@ -22,7 +22,7 @@ use Rattle.answer_question.specs.Answering.{Answered}
 use Rattle.call_check.specs.Calls.{Checks}
 use Rattle.call_answer.specs.Calls.{answer_number, answer_detail, answer_of, question_lengths, question_after, given, Answers}
 use Rattle.call_answer.specs.Meaning.{Askable}
-use Rattle.call_answer.specs.declared.Answer.{Answer}
+use Rattle.call_answer.specs.Answer.{Answer}
 use Rattle.call_check.proofs.Checked.{Checked}
 use Rattle.call_answer.proofs.Lengths.{lengths-are}
 
@@ -68,10 +68,6 @@ answer-ready p n m A s y x z w width l c clear =
     }
 
 -- ---- the result
-
--- the answer from a set is the answer from an equal set
-pub from-set : (p a b : ℕ) (s s' : Set) (y : List ℕ) (v : Verdict) (x z w : List ℕ) → s ≡ s' → Answered (solve p a b s (vector y)) v x z w → Answered (solve p a b s' (vector y)) v x z w
-from-set p a b s s' y v x z w e h = subst (λ (t : Set). Answered (solve p a b t (vector y)) v x z w) e h
 
 pub answered-number : (v : Verdict) → answer_number (answer_of v) ≡ 0
 answered-number Verdict.Open = refl

@@ -1,6 +1,7 @@
 -- The calls that answer a question, in document 01's order of refusals: 9, 1, 2, 8, 10, 11 to 14, then 15.
 --   answer_number, answer_detail    document 01's number of an answer, 0 where it is open or closed, and its detail
 --   answer_of v                    the answer with the verdict v
+--   given_answer r                 the answer that a call's result is
 --   question_lengths n m y a b     a question y of m values, with a = n cells for x and b = m cells for z
 --   question_after check ..        the outcome of a call with a question: 9 for its lists, the check of the set, then 15
 --   Given                         what a call with a question gives: its outcome, the answer, and the lists that go to x and z
@@ -9,11 +10,13 @@
 --   answer_certificate_of ..        the answer from a certificate
 --   Answers g r x₀ x z₀ z w₀ w    the contract of such a call: its result, every cell of x and z, and the working row left all zero
 --   AnswersIn g r x z work        the same of lent lists, where g makes what is given from their lengths
-use Rattle.std.specs.Prelude.{ℕ, ◌≡◌, Bool, ◌&&◌, List, [], eqb, length}
+use Rattle.std.specs.Prelude.{ℕ, ◌≡◌, Bool, ◌&&◌, List, [], Result, Ok, Err, eqb, length}
 use Rattle.lists.specs.Filled.{zeros, filled}
 use Rattle.refusals.specs.Table.{wrong_length}
+use Rattle.refusals.specs.declared.Refusal.{Refusal}
+use Rattle.refusals.specs.Faults.{number}
 use Rattle.refusals.specs.Refusals.{◌▷◌, unless, number_of, detail_of}
-use Rattle.refusals.specs.declared.Outcome.{Outcome}
+use Rattle.refusals.specs.Outcome.{Outcome}
 use Rattle.algebra.specs.Matrix.{vector}
 use Rattle.sparse.specs.Matrix.{Compressed}
 use Rattle.sparse.specs.Set.{Set}
@@ -23,7 +26,7 @@ use Rattle.row_space.specs.Question.{question_outcome}
 use Rattle.row_space.specs.declared.Verdict.{Verdict}
 use Rattle.certificate.specs.Reading.{set_of_certificate}
 use Rattle.call_check.specs.Calls.{check_factors_of, check_certificate_of}
-use Rattle.call_answer.specs.declared.Answer.{Answer}
+use Rattle.call_answer.specs.Answer.{Answer}
 
 -- ---- the answer
 
@@ -40,6 +43,10 @@ answer_detail Answer.Closed = 0
 abbrev pub answer_of : Verdict → Answer
 answer_of Verdict.Open = Answer.Open
 answer_of Verdict.Closed = Answer.Closed
+
+abbrev pub given_answer : Result Verdict Refusal → Answer
+given_answer (Ok v) = answer_of v
+given_answer (Err r) = Answer.Refused (number r.fault) r.detail
 
 -- ---- a question
 

@@ -23,7 +23,7 @@ use Rattle.sparse.specs.Matrix.{Compressed, matrix}
 use Rattle.sparse.specs.Set.{Set}
 use Rattle.row_space.specs.Solve.{remainder, lowest_of}
 use Rattle.call_answer.specs.Calls.{answer_number, answer_factors_of, answer_certificate_of, Answers}
-use Rattle.call_answer.specs.declared.Answer.{Answer}
+use Rattle.call_answer.specs.Answer.{Answer}
 
 pub record Askable (p n m : ℕ) (y : List ℕ) (a b : ℕ) : Type 0 where
   pub values : length y ≡ m

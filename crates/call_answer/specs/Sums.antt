@@ -15,7 +15,7 @@ use Rattle.algebra.specs.Congruence.{◌≈⟨◌⟩◌}
 use Rattle.algebra.specs.Mixed.{mixed_list}
 use Rattle.limits.specs.Limits.{work_length}
 use Rattle.call_answer.specs.Calls.{answer_number, Given, Answers}
-use Rattle.call_answer.specs.declared.Answer.{Answer}
+use Rattle.call_answer.specs.Answer.{Answer}
 
 pub record Called : Type 0 where
   pub x₀ : List ℕ

@@ -5,19 +5,18 @@ ghost use Rattle.row_space.specs.Solve.{solve};
 ghost use Rattle.answer_question.specs.Answering.{Answered};
 ghost use Rattle.certificate.specs.Reading.{set_of_certificate};
 ghost use Rattle.call_check.specs.Calls.{check_certificate_of, Checks};
-ghost use Rattle.call_answer.specs.Calls.{question_after, answer_certificate_of, AnswersIn};
+ghost use Rattle.refusals.specs.Outcome.{outcome_of};
+ghost use Rattle.call_answer.specs.Calls.{given_answer, question_after, answer_certificate_of, AnswersIn};
 ghost use Rattle.call_answer.specs.Needs.{AnswerPartsReady};
 ghost use Rattle.sparse.specs.Views.{stored_before};
 
 use crate::question::question_lengths;
-use crate::{Answer, answer_of};
 use answer_question::answer::answer;
 use answer_question::question::question_ok;
 use call_check::from_certificate::check_bytes;
-use certificate::parts::{number, places_in};
+use certificate::parts::set_of_certificate;
 use lists::{clear, clear_row};
-use refusals::Outcome;
-use refusals::numbers::WRONG_LENGTH;
+use refusals::{Fault, Refusal};
 use residue::Modulus;
 use row_space::Verdict;
 
@@ -34,17 +33,14 @@ fn asked_of_certificate(
     xlen: usize,
     zlen: usize,
     work: &mut [u64],
-) -> Outcome
-    ensures { Checks (question_after (check_certificate_of q.p n m (stored_before starts.now cols.now vals.now) cert.now (length work.old)) q.p n m y.now xlen zlen) result work.old work.new }
+) -> Result<(), Refusal>
+    ensures { Checks (question_after (check_certificate_of q.p n m (stored_before starts.now cols.now vals.now) cert.now (length work.old)) q.p n m y.now xlen zlen) (outcome_of result) work.old work.new }
 {
     if !question_lengths(n, m, y, xlen, zlen) {
         clear_row(work);
-        return Outcome::Refused(WRONG_LENGTH, 0);
+        return Err(Fault::WrongLength.into());
     }
-    let checked = check_bytes(q, n, m, starts, cols, vals, cert, work);
-    let Outcome::Passed = checked else {
-        return checked;
-    };
+    check_bytes(q, n, m, starts, cols, vals, cert, work)?;
     question_ok(y, q.p)
 }
 
@@ -62,42 +58,8 @@ fn answer_parts(
     requires { AnswerPartsReady q.p n m cert.now y.now x.old z.old work.old }
     ensures { Answered (solve q.p (length x.old) (length z.old) (set_of_certificate n m cert.now) (vector y.now)) result x.new z.new work.new }
 {
-    let places = places_in(cert, n, m);
-    let r = number(cert, 3);
-    let ro = places.ro;
-    let co = places.co;
-    let ls = places.ls;
-    let lc = places.lc;
-    let lv = places.lv;
-    let us = places.us;
-    let uc = places.uc;
-    let uv = places.uv;
-    let end = places.end;
-    let none: &[u32] = &[];
-    answer(
-        q,
-        none,
-        &cert[ro..co],
-        none,
-        &cert[co..ls],
-        none,
-        &cert[ls..lc],
-        none,
-        &cert[lc..lv],
-        none,
-        &cert[lv..us],
-        none,
-        &cert[us..uc],
-        none,
-        &cert[uc..uv],
-        none,
-        &cert[uv..end],
-        r as usize,
-        y,
-        x,
-        z,
-        work,
-    )
+    let set = set_of_certificate(cert, n, m);
+    answer(q, &set, y, x, z, work)
 }
 
 // Answers a question from a certificate, which is read from its own bytes.
@@ -117,16 +79,15 @@ pub fn answer_from_certificate(
     x: &mut [u32],
     z: &mut [u32],
     work: &mut [u64],
-) -> Answer
-    ensures { AnswersIn (answer_certificate_of p n m (stored_before starts.now cols.now vals.now) cert.now y.now) result x z work }
+) -> Result<Verdict, Refusal>
+    ensures { AnswersIn (answer_certificate_of p n m (stored_before starts.now cols.now vals.now) cert.now y.now) (given_answer result) x z work }
 {
     let q = Modulus { p };
     let asked = asked_of_certificate(q, n, m, starts, cols, vals, cert, y, x.len(), z.len(), work);
-    if let Outcome::Refused(number, detail) = asked {
+    if let Err(refusal) = asked {
         clear(x);
         clear(z);
-        return Answer::Refused(number, detail);
+        return Err(refusal);
     }
-    let verdict = answer_parts(q, n, m, cert, y, x, z, work);
-    answer_of(verdict)
+    Ok(answer_parts(q, n, m, cert, y, x, z, work))
 }

@@ -5,17 +5,16 @@ ghost use Rattle.row_space.specs.Solve.{solve};
 ghost use Rattle.answer_question.specs.Needs.{AnswerReady};
 ghost use Rattle.answer_question.specs.Answering.{Answered};
 ghost use Rattle.call_check.specs.Calls.{check_factors_of, Checks};
-ghost use Rattle.call_answer.specs.Calls.{question_after, answer_factors_of, AnswersIn};
+ghost use Rattle.refusals.specs.Outcome.{outcome_of};
+ghost use Rattle.call_answer.specs.Calls.{given_answer, question_after, answer_factors_of, AnswersIn};
 ghost use Rattle.sparse.specs.Views.{stored_before, set_at, set_before};
 
 use crate::question::question_lengths;
-use crate::{Answer, answer_of};
 use answer_question::answer::answer;
 use answer_question::question::question_ok;
-use call_check::from_factors::check_stored;
+use call_check::from_factors::{check_stored, stored_set};
 use lists::{clear, clear_row};
-use refusals::Outcome;
-use refusals::numbers::WRONG_LENGTH;
+use refusals::{Fault, Refusal};
 use residue::Modulus;
 use row_space::Verdict;
 
@@ -40,19 +39,16 @@ fn asked_of_factors(
     xlen: usize,
     zlen: usize,
     work: &mut [u64],
-) -> Outcome
-    ensures { Checks (question_after (check_factors_of q.p n m (stored_before starts.now cols.now vals.now) (set_before r ro.now co.now ls.now lc.now lv.now us.now uc.now uv.now) (length work.old)) q.p n m y.now xlen zlen) result work.old work.new }
+) -> Result<(), Refusal>
+    ensures { Checks (question_after (check_factors_of q.p n m (stored_before starts.now cols.now vals.now) (set_before r ro.now co.now ls.now lc.now lv.now us.now uc.now uv.now) (length work.old)) q.p n m y.now xlen zlen) (outcome_of result) work.old work.new }
 {
     if !question_lengths(n, m, y, xlen, zlen) {
         clear_row(work);
-        return Outcome::Refused(WRONG_LENGTH, 0);
+        return Err(Fault::WrongLength.into());
     }
-    let checked = check_stored(
+    check_stored(
         q, n, m, starts, cols, vals, r, ro, co, ls, lc, lv, us, uc, uv, work,
-    );
-    let Outcome::Passed = checked else {
-        return checked;
-    };
+    )?;
     question_ok(y, q.p)
 }
 
@@ -76,11 +72,8 @@ fn answer_stored(
     requires { AnswerReady q.p (set_at r ro.now co.now ls.now lc.now lv.now us.now uc.now uv.now) y.now x.old z.old work.old }
     ensures { Answered (solve q.p (length x.old) (length z.old) (set_before r ro.now co.now ls.now lc.now lv.now us.now uc.now uv.now) (vector y.now)) result x.new z.new work.new }
 {
-    let none: &[u8] = b"";
-    answer(
-        q, ro, none, co, none, ls, none, lc, none, lv, none, us, none, uc, none, uv, none,
-        r as usize, y, x, z, work,
-    )
+    let set = stored_set(r, ro, co, ls, lc, lv, us, uc, uv);
+    answer(q, &set, y, x, z, work)
 }
 
 // Answers a question from stored factors.
@@ -109,8 +102,8 @@ pub fn answer_from_factors(
     x: &mut [u32],
     z: &mut [u32],
     work: &mut [u64],
-) -> Answer
-    ensures { AnswersIn (answer_factors_of p n m (stored_before starts.now cols.now vals.now) (set_before r ro.now co.now ls.now lc.now lv.now us.now uc.now uv.now) y.now) result x z work }
+) -> Result<Verdict, Refusal>
+    ensures { AnswersIn (answer_factors_of p n m (stored_before starts.now cols.now vals.now) (set_before r ro.now co.now ls.now lc.now lv.now us.now uc.now uv.now) y.now) (given_answer result) x z work }
 {
     let q = Modulus { p };
     let asked = asked_of_factors(
@@ -134,11 +127,10 @@ pub fn answer_from_factors(
         z.len(),
         work,
     );
-    if let Outcome::Refused(number, detail) = asked {
+    if let Err(refusal) = asked {
         clear(x);
         clear(z);
-        return Answer::Refused(number, detail);
+        return Err(refusal);
     }
-    let verdict = answer_stored(q, r, ro, co, ls, lc, lv, us, uc, uv, y, x, z, work);
-    answer_of(verdict)
+    Ok(answer_stored(q, r, ro, co, ls, lc, lv, us, uc, uv, y, x, z, work))
 }

@@ -13,8 +13,8 @@ use mathlib.Core.List.{List, ◌++◌}
 use Prim.Native.Nat.{ℕ, ◌≤◌}
 use native.Mathlib.Omega.{arith}
 use Rattle.refusals.specs.Table.{plan_faults, set_faults}
-use Rattle.refusals.specs.declared.Outcome.{Outcome}
-use Rattle.refusals.specs.declared.Outcome.TheVariants.{Passed}
+use Rattle.refusals.specs.Outcome.{Outcome}
+use Rattle.refusals.specs.Outcome.{Passed}
 use Rattle.refusals.proofs.Refusals.{RefusedBy, both-passed}
 use Rattle.algebra.specs.Prime.{Prime}
 use Rattle.residue.proofs.Primes.{modulus-prime}

@@ -1,5 +1,4 @@
 pub mod Tested
-pub mod Stored
 pub mod Outcomes
 pub mod Numbers
 pub mod Theorems

@@ -5,7 +5,7 @@ use Prim.Native.Nat.{ℕ}
 use lib.ListN.{length}
 use Rattle.lists.specs.Filled.{zeros}
 use Rattle.refusals.specs.Refusals.{number_of, detail_of}
-use Rattle.refusals.specs.declared.Outcome.{Outcome}
+use Rattle.refusals.specs.Outcome.{Outcome}
 use Rattle.call_check.specs.Calls.{Checks}
 
 pub checks : (o r : Outcome) (w₀ w : List ℕ) → r ≡ o → w ≡ zeros (length w₀) → Checks o r w₀ w

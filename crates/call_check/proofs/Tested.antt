@@ -1,80 +1,28 @@
--- One law for each way out of the tests that come before the set, and what a plan that passed them is.
-use mathlib.Core.Path.{◌≡◌, refl, sym, subst, ap, ◌∙◌}
-use mathlib.Core.Bool.{Bool, true, false, ◌&&◌}
+-- What a plan and a set are that passed the tests before the judge.
+use mathlib.Core.Path.{◌≡◌, refl, sym}
+use mathlib.Core.Bool.{true, ◌&&◌}
 use mathlib.Core.List.{List}
 use Prim.Native.Nat.{ℕ, ◌+◌}
 use native.Mathlib.Omega.{arith}
 use lib.Dec.{eqb}
 use lib.ListN.{length}
-use borrow.Author.Tests.{eqb-true, eq-eqb, ne_eqb}
+use borrow.Author.Tests.{eqb-true}
 use Rattle.lists.specs.Filled.{zeros}
 use Rattle.refusals.specs.Refusals.{◌▷◌, unless}
-use Rattle.refusals.specs.declared.Outcome.{Outcome}
-use Rattle.refusals.specs.declared.Outcome.TheVariants.{Passed, Refused}
-use Rattle.lists.proofs.Bools.{and_left, and_right, chain-false, and_both}
-use Rattle.refusals.proofs.Refusals.{passed, unless-true}
+use Rattle.refusals.specs.Outcome.{Outcome}
+use Rattle.refusals.specs.Outcome.{Passed, Refused}
+use Rattle.lists.proofs.Bools.{and_left, and_right}
+use Rattle.refusals.proofs.Refusals.{unless-true}
 use Rattle.sparse.specs.Matrix.{Compressed}
 use Rattle.sparse.specs.Set.{Set}
 use Rattle.check_set.specs.Needs.{Checkable}
 use Rattle.certificate.specs.Reading.{header_ok}
 use Rattle.certificate.specs.Layout.{Sized}
 use Rattle.limits.specs.Limits.{work_length}
-use Rattle.call_plan.specs.Tests.{paired_lengths, plan_lengths, set_lengths, plan_outcome, call_outcome}
+use Rattle.call_plan.specs.Tests.{paired_lengths, plan_lengths, set_lengths, call_outcome}
 use Rattle.call_plan.specs.Accepted.{GoodPlan}
-use Rattle.call_plan.proofs.Outcomes.{plan-length, other_length, plan-next}
 use Rattle.call_plan.proofs.Plans.{good-plan, good-positive}
 use Rattle.call_check.specs.Calls.{factors_outcome, certificate_outcome}
-
--- ---- the lengths
-
-both_false : (a b : Bool) → a ≡ true → b ≡ false → (a && b) ≡ false
-both_false a b e f = ap (λ (t : Bool). t && b) e ∙ f
-
-module _ (p n m : ℕ) (A : Compressed) (s : Set) (w : ℕ) where
-  abbrev lengths : Bool
-  lengths = set_lengths n m s && eqb w work_length
-
-  pub factors-plan : plan_lengths n A ≡ false → Refused 9 0 ≡ factors_outcome p n m A s w
-  unfolding factors_outcome
-  factors-plan = plan-length p n m A lengths
-
-  pub factors-set : plan_lengths n A ≡ true → set_lengths n m s ≡ false → Refused 9 0 ≡ factors_outcome p n m A s w
-  unfolding factors_outcome
-  factors-set e f = other_length p n m A lengths e (sym (chain-false (set_lengths n m s) (eqb w work_length) f))
-
-  pub factors-work : plan_lengths n A ≡ true → set_lengths n m s ≡ true → (w ≡ work_length → ⊥) → Refused 9 0 ≡ factors_outcome p n m A s w
-  unfolding factors_outcome
-  factors-work e f h = other_length p n m A lengths e (both_false (set_lengths n m s) (eqb w work_length) f (ne_eqb w work_length h))
-
-  pub factors-next : plan_lengths n A ≡ true → set_lengths n m s ≡ true → w ≡ work_length → (o : Outcome) → o ≡ plan_outcome p n m A → o ≡ factors_outcome p n m A s w
-  unfolding factors_outcome
-  factors-next e f h = plan-next p n m A lengths e (and_both (set_lengths n m s) (eqb w work_length) f (eq-eqb w work_length h))
-
--- ---- the header
-
-module _ (p n m : ℕ) (A : Compressed) (cert : List ℕ) (w : ℕ) where
-  abbrev header : Outcome
-  header = unless (header_ok p n m cert) 10 0
-
-  abbrev plan : Outcome
-  plan = call_outcome (eqb w work_length) p n m A
-
-  -- a refusal before the header is the refusal of the whole
-  pub certificate-refused : (o : Outcome) (k d : ℕ) → o ≡ Refused k d → o ≡ plan → o ≡ certificate_outcome p n m A cert w
-  unfolding certificate_outcome
-  certificate-refused o k d f e = f ∙ sym (ap (λ (u : Outcome). u ▷ header) (sym e ∙ f))
-
-  pub certificate-work : plan_lengths n A ≡ true → (w ≡ work_length → ⊥) → Refused 9 0 ≡ plan
-  certificate-work e h = other_length p n m A (eqb w work_length) e (ne_eqb w work_length h)
-
-  pub certificate-plan : plan_lengths n A ≡ true → w ≡ work_length → (o : Outcome) → o ≡ plan_outcome p n m A → o ≡ plan
-  certificate-plan e h = plan-next p n m A (eqb w work_length) e (eq-eqb w work_length h)
-
-  pub certificate-header : (o : Outcome) → o ≡ Passed → o ≡ plan → (x : Outcome) → x ≡ header → x ≡ certificate_outcome p n m A cert w
-  unfolding certificate_outcome
-  certificate-header o f e x q = passed o plan header x f e q
-
--- ---- a plan and a set that passed
 
 -- the lengths of a set's lists, as they are tested
 pub set-sized : (n m : ℕ) (s : Set) → set_lengths n m s ≡ true → Sized n m s
@@ -108,10 +56,6 @@ checkable p n m A s w g z wide clear =
       columns-fit = omega (arith, g.few-columns);
       cleared = clear;
     }
-
--- a set that is equal to such
-pub checkable-as : (p n m : ℕ) (A : Compressed) (s s' : Set) (w : List ℕ) → s ≡ s' → Checkable p n m A s' w → Checkable p n m A s w
-checkable-as p n m A s s' w e h = subst (λ (t : Set). Checkable p n m A t w) (sym e) h
 
 pub factors-good : (p n m : ℕ) (A : Compressed) (s : Set) (w : ℕ) → factors_outcome p n m A s w ≡ Passed → GoodPlan p n m A × Sized n m s × (w ≡ work_length)
 unfolding factors_outcome

@@ -20,8 +20,8 @@ use borrow.Author.Tests.{eq-eqb}
 use Rattle.lists.specs.Tests.{among}
 use Rattle.refusals.specs.Table.{plan_faults, set_faults}
 use Rattle.refusals.specs.Refusals.{◌▷◌, unless, number_of, NumberFrom}
-use Rattle.refusals.specs.declared.Outcome.{Outcome}
-use Rattle.refusals.specs.declared.Outcome.TheVariants.{Passed}
+use Rattle.refusals.specs.Outcome.{Outcome}
+use Rattle.refusals.specs.Outcome.{Passed}
 use Rattle.lists.proofs.Bools.{and_both}
 use Rattle.refusals.proofs.Refusals.{RefusedBy, number-from, both-passed, unless-passed, unless_holds, after-passed, then-after, then-nothing, refused-next, refused-then, zero-passed, none-among}
 use Rattle.algebra.specs.Matrix.{vector}

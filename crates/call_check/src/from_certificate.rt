@@ -1,17 +1,18 @@
 // The call that checks a certificate against a stored plan. Any content of the working row is accepted.
 ghost use Rattle.std.specs.Prelude.{◌≡◌};
 ghost use Rattle.call_check.specs.Calls.{certificate_outcome, check_certificate_of, ChecksIn};
+ghost use Rattle.refusals.specs.Outcome.{outcome_of};
 ghost use Rattle.sparse.specs.Views.{stored_before};
 
 use call_plan::{plan_lengths, plan_outcome};
 use certificate::header::header_ok;
-use certificate::parts::{number, places_in};
+use certificate::parts::set_of_certificate;
 use check_set::check;
 use limits::WORK_CELLS;
 use lists::clear_row;
-use refusals::Outcome;
-use refusals::numbers::{BAD_HEADER, WRONG_LENGTH};
+use refusals::{Fault, Refusal, demand};
 use residue::Modulus;
+use sparse::stored::Compressed;
 
 // The lengths, the plan and the header of a call with a certificate: 9, 1, 2, 8, 10.
 fn certificate_outcome(
@@ -23,23 +24,13 @@ fn certificate_outcome(
     vals: &[u32],
     cert: &[u8],
     width: usize,
-) -> Outcome
-    ensures { result ≡ certificate_outcome p n m (stored_before starts.now cols.now vals.now) cert.now width }
+) -> Result<(), Refusal>
+    ensures { outcome_of result ≡ certificate_outcome p n m (stored_before starts.now cols.now vals.now) cert.now width }
 {
-    if !plan_lengths(n, starts, cols, vals) {
-        return Outcome::Refused(WRONG_LENGTH, 0);
-    }
-    if width != WORK_CELLS {
-        return Outcome::Refused(WRONG_LENGTH, 0);
-    }
-    let plan = plan_outcome(p, n, m, starts, cols, vals);
-    let Outcome::Passed = plan else {
-        return plan;
-    };
-    if !header_ok(cert, p, n, m) {
-        return Outcome::Refused(BAD_HEADER, 0);
-    }
-    Outcome::Passed
+    let lengths = plan_lengths(n, starts, cols, vals) && width == WORK_CELLS;
+    demand(lengths, Fault::WrongLength)?;
+    plan_outcome(p, n, m, starts, cols, vals)?;
+    demand(header_ok(cert, p, n, m), Fault::BadHeader)
 }
 
 // The check of a certificate for a call that has made its modulus: the other calls on a certificate begin with it.
@@ -52,52 +43,14 @@ pub fn check_bytes(
     vals: &[u32],
     cert: &[u8],
     work: &mut [u64],
-) -> Outcome
-    ensures { ChecksIn (check_certificate_of q.p n m (stored_before starts.now cols.now vals.now) cert.now) result work }
+) -> Result<(), Refusal>
+    ensures { ChecksIn (check_certificate_of q.p n m (stored_before starts.now cols.now vals.now) cert.now) (outcome_of result) work }
 {
     clear_row(work);
-    let tested = certificate_outcome(q.p, n, m, starts, cols, vals, cert, work.len());
-    let Outcome::Passed = tested else {
-        return tested;
-    };
-    let places = places_in(cert, n, m);
-    let r = number(cert, 3);
-    let ro = places.ro;
-    let co = places.co;
-    let ls = places.ls;
-    let lc = places.lc;
-    let lv = places.lv;
-    let us = places.us;
-    let uc = places.uc;
-    let uv = places.uv;
-    let end = places.end;
-    let empty: &[u32] = &[];
-    check(
-        q,
-        starts,
-        cols,
-        vals,
-        empty,
-        &cert[ro..co],
-        empty,
-        &cert[co..ls],
-        empty,
-        &cert[ls..lc],
-        empty,
-        &cert[lc..lv],
-        empty,
-        &cert[lv..us],
-        empty,
-        &cert[us..uc],
-        empty,
-        &cert[uc..uv],
-        empty,
-        &cert[uv..end],
-        n,
-        m,
-        r,
-        work,
-    )
+    certificate_outcome(q.p, n, m, starts, cols, vals, cert, work.len())?;
+    let plan = Compressed::stored(starts, cols, vals);
+    let set = set_of_certificate(cert, n, m);
+    check(q, &plan, &set, n, m, work)
 }
 
 // Checks a certificate, which is read from its own bytes.
@@ -114,8 +67,8 @@ pub fn check_certificate(
     vals: &[u32],
     cert: &[u8],
     work: &mut [u64],
-) -> Outcome
-    ensures { ChecksIn (check_certificate_of p n m (stored_before starts.now cols.now vals.now) cert.now) result work }
+) -> Result<(), Refusal>
+    ensures { ChecksIn (check_certificate_of p n m (stored_before starts.now cols.now vals.now) cert.now) (outcome_of result) work }
 {
     let q = Modulus { p };
     check_bytes(q, n, m, starts, cols, vals, cert, work)

@@ -1,15 +1,18 @@
 // The call that checks stored factors against a stored plan. Any content of the working row is accepted.
 ghost use Rattle.std.specs.Prelude.{◌≡◌};
 ghost use Rattle.call_check.specs.Calls.{factors_outcome, check_factors_of, ChecksIn};
-ghost use Rattle.sparse.specs.Views.{stored_before, set_before};
+ghost use Rattle.refusals.specs.Outcome.{outcome_of};
+ghost use Rattle.sparse.specs.Views.{stored_before, set_before, set_in};
 
 use call_plan::{plan_lengths, plan_outcome, set_lengths};
 use check_set::check;
 use limits::WORK_CELLS;
 use lists::clear_row;
-use refusals::Outcome;
-use refusals::numbers::WRONG_LENGTH;
+use refusals::{Fault, Refusal, demand};
 use residue::Modulus;
+use sparse::set::Factors;
+use sparse::stored::Compressed;
+use sparse::words::Words;
 
 // The lengths and the plan of a call with stored factors: 9, 1, 2, 8.
 fn factors_outcome(
@@ -29,19 +32,37 @@ fn factors_outcome(
     uc: &[u32],
     uv: &[u32],
     width: usize,
-) -> Outcome
-    ensures { result ≡ factors_outcome p n m (stored_before starts.now cols.now vals.now) (set_before r ro.now co.now ls.now lc.now lv.now us.now uc.now uv.now) width }
+) -> Result<(), Refusal>
+    ensures { outcome_of result ≡ factors_outcome p n m (stored_before starts.now cols.now vals.now) (set_before r ro.now co.now ls.now lc.now lv.now us.now uc.now uv.now) width }
 {
-    if !plan_lengths(n, starts, cols, vals) {
-        return Outcome::Refused(WRONG_LENGTH, 0);
-    }
-    if !set_lengths(n, m, r, ro, co, ls, lc, lv, us, uc, uv) {
-        return Outcome::Refused(WRONG_LENGTH, 0);
-    }
-    if width != WORK_CELLS {
-        return Outcome::Refused(WRONG_LENGTH, 0);
-    }
+    let lengths = plan_lengths(n, starts, cols, vals)
+        && set_lengths(n, m, r, ro, co, ls, lc, lv, us, uc, uv)
+        && width == WORK_CELLS;
+    demand(lengths, Fault::WrongLength)?;
     plan_outcome(p, n, m, starts, cols, vals)
+}
+
+// A set in stored lists.
+pub fn stored_set<'a>(
+    r: u32,
+    ro: &'a [u32],
+    co: &'a [u32],
+    ls: &'a [u32],
+    lc: &'a [u32],
+    lv: &'a [u32],
+    us: &'a [u32],
+    uc: &'a [u32],
+    uv: &'a [u32],
+) -> Factors<'a>
+    ensures { set_in result ≡ set_before r ro.entry.now co.entry.now ls.entry.now lc.entry.now lv.entry.now us.entry.now uc.entry.now uv.entry.now }
+{
+    Factors {
+        r,
+        ro: Words::stored(ro),
+        co: Words::stored(co),
+        l: Compressed::stored(ls, lc, lv),
+        u: Compressed::stored(us, uc, uv),
+    }
 }
 
 // The check of stored factors for a call that has made its modulus: the other calls on a stored set begin with it.
@@ -62,11 +83,11 @@ pub fn check_stored(
     uc: &[u32],
     uv: &[u32],
     work: &mut [u64],
-) -> Outcome
-    ensures { ChecksIn (check_factors_of q.p n m (stored_before starts.now cols.now vals.now) (set_before r ro.now co.now ls.now lc.now lv.now us.now uc.now uv.now)) result work }
+) -> Result<(), Refusal>
+    ensures { ChecksIn (check_factors_of q.p n m (stored_before starts.now cols.now vals.now) (set_before r ro.now co.now ls.now lc.now lv.now us.now uc.now uv.now)) (outcome_of result) work }
 {
     clear_row(work);
-    let tested = factors_outcome(
+    factors_outcome(
         q.p,
         n,
         m,
@@ -83,15 +104,10 @@ pub fn check_stored(
         uc,
         uv,
         work.len(),
-    );
-    let Outcome::Passed = tested else {
-        return tested;
-    };
-    let none: &[u8] = b"";
-    check(
-        q, starts, cols, vals, ro, none, co, none, ls, none, lc, none, lv, none, us, none, uc,
-        none, uv, none, n, m, r, work,
-    )
+    )?;
+    let plan = Compressed::stored(starts, cols, vals);
+    let set = stored_set(r, ro, co, ls, lc, lv, us, uc, uv);
+    check(q, &plan, &set, n, m, work)
 }
 
 // Checks stored factors.
@@ -116,8 +132,8 @@ pub fn check_factors(
     uc: &[u32],
     uv: &[u32],
     work: &mut [u64],
-) -> Outcome
-    ensures { ChecksIn (check_factors_of p n m (stored_before starts.now cols.now vals.now) (set_before r ro.now co.now ls.now lc.now lv.now us.now uc.now uv.now)) result work }
+) -> Result<(), Refusal>
+    ensures { ChecksIn (check_factors_of p n m (stored_before starts.now cols.now vals.now) (set_before r ro.now co.now ls.now lc.now lv.now us.now uc.now uv.now)) (outcome_of result) work }
 {
     let q = Modulus { p };
     check_stored(

@@ -5,8 +5,8 @@ use Prim.Native.Nat.{ℕ, ◌≤◌}
 use native.Mathlib.Omega.{arith}
 use lib.ListN.{length}
 use lib.Seq.{length-take-le}
-use Rattle.refusals.specs.declared.Outcome.{Outcome}
-use Rattle.refusals.specs.declared.Outcome.TheVariants.{Passed, Refused}
+use Rattle.refusals.specs.Outcome.{Outcome}
+use Rattle.refusals.specs.Outcome.{Passed, Refused}
 use Rattle.residue.proofs.Primes.{modulus-prime}
 use Rattle.sparse.specs.Matrix.{Compressed, form}
 use Rattle.sparse.specs.Set.{Storage}
@@ -16,7 +16,7 @@ use Rattle.factor_passes.specs.Needs.{narrowed}
 use Rattle.factor_passes.proofs.WorkingRow.{KeptLengths, part-clear, zeros-self}
 use Rattle.factor_all.specs.Factorization.{factoring, Leaves}
 use Rattle.factor_all.specs.Needs.{AllClear, FactorReady}
-use Rattle.factor_all.specs.declared.factor.Factored.{Factored}
+use Rattle.factor_all.specs.Factored.{Factored}
 use Rattle.factor_all.proofs.FromPairs.{leaves-refused}
 use Rattle.call_factor.specs.Lengths.{lent_of, lent_lengths, lent_outcome}
 use Rattle.call_factor.specs.Calls.{unless_refused, factor_call_of}

@@ -22,8 +22,8 @@ use lib.ListN.{length}
 use Rattle.lists.specs.Tests.{among}
 use Rattle.refusals.specs.Table.{plan_faults, storage_too_short}
 use Rattle.refusals.specs.Refusals.{number_of, detail_of, NumberFrom}
-use Rattle.refusals.specs.declared.Outcome.{Outcome}
-use Rattle.refusals.specs.declared.Outcome.TheVariants.{Passed, Refused}
+use Rattle.refusals.specs.Outcome.{Outcome}
+use Rattle.refusals.specs.Outcome.{Passed, Refused}
 use Rattle.lists.proofs.Filled.{filled_none}
 use Rattle.refusals.proofs.Refusals.{RefusedBy, among-left, zero-passed}
 use Rattle.algebra.specs.Rank.{Rank}
@@ -40,7 +40,7 @@ use Rattle.call_plan.specs.Accepted.{GoodPlan}
 use Rattle.call_plan.proofs.Plans.{good-prime, good-plan, good-passes, plan-numbers}
 use Rattle.factor_all.specs.Factorization.{Factorization, refusal, done, unless_over, factoring_from, factoring, Leaves}
 use Rattle.factor_all.specs.OwnSet.{own_set}
-use Rattle.factor_all.specs.declared.factor.Factored.{Factored}
+use Rattle.factor_all.specs.Factored.{Factored}
 use Rattle.factor_all.proofs.OwnSet.{own-set, own-set-passes, own-rank}
 use Rattle.call_factor.specs.Lengths.{lent_lengths, lent_outcome}
 use Rattle.call_factor.specs.Calls.{unless_refused, factor_call_of}

@@ -10,7 +10,7 @@ use Rattle.sparse.specs.Set.{Storage}
 use Rattle.elimination.specs.Factoring.{factor}
 use Rattle.limits.specs.Limits.{work_length}
 use Rattle.call_plan.specs.Accepted.{GoodPlan}
-use Rattle.factor_all.specs.declared.factor.Factored.{Factored}
+use Rattle.factor_all.specs.Factored.{Factored}
 use Rattle.call_factor.specs.declared.Lent.{Lent}
 
 pub record LentRight (n m : ℕ) (l : Lent) : Type 0 where

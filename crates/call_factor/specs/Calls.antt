@@ -2,8 +2,8 @@
 --   unless_refused o g    the refusal that o is, else g
 --   factor_call_of ..      9, 1, 2, 8, then what factoring gives: 7 at a row, or the factors
 use Rattle.std.specs.Prelude.{ℕ}
-use Rattle.refusals.specs.declared.Outcome.{Outcome}
-use Rattle.refusals.specs.declared.Outcome.TheVariants.{Passed, Refused}
+use Rattle.refusals.specs.Outcome.{Outcome}
+use Rattle.refusals.specs.Outcome.{Passed, Refused}
 use Rattle.sparse.specs.Matrix.{Compressed}
 use Rattle.factor_all.specs.Factorization.{Factorization, refusal, factoring}
 use Rattle.call_factor.specs.Lengths.{lent_outcome}

@@ -2,23 +2,23 @@
 #![tactic(auto)]
 
 ghost use Rattle.std.specs.Prelude.{◌≡◌};
+ghost use Rattle.factor_all.specs.Factored.{factored_of};
 ghost use Rattle.factor_all.specs.Factorization.{Leaves};
 ghost use Rattle.call_factor.specs.Lengths.{lent_lengths, lent_outcome, lent_of};
 ghost use Rattle.call_factor.specs.Calls.{factor_call_of};
-ghost use Rattle.refusals.specs.declared.Outcome.TheVariants.{Passed};
+ghost use Rattle.refusals.specs.Outcome.{Passed, outcome_of};
 ghost use Rattle.sparse.specs.Views.{stored_at, stored_before, storage_at, storage_before, storage_after};
 
 use call_plan::{plan_lengths, plan_outcome};
 use factor_all::clearing::clear_all;
-use factor_all::factor::Factored;
+use factor_all::factor::Ranks;
 use limits::WORK_CELLS;
 use lists::index;
-use refusals::Outcome;
-use refusals::numbers::WRONG_LENGTH;
+use refusals::{Fault, Refusal, demand};
 use residue::Modulus;
 
 // How long the lists are that are lent to factoring.
-#[derive(Clone, Copy)]
+#[derive(Clone, Copy, Debug, PartialEq, Eq)]
 pub struct Lent {
     pub rows: usize,
     pub columns: usize,
@@ -32,29 +32,17 @@ pub struct Lent {
 }
 
 // Whether the lent lists have the lengths that factoring takes.
+#[tactic(auto, unfolding(crate::specs::Lengths::lent_lengths))]
 fn lent_lengths(n: u32, m: u32, lent: Lent) -> bool
     ensures { result ≡ lent_lengths n m lent }
 {
-    let height = index(n);
-    if lent.rows != height {
-        return false;
-    }
-    if lent.columns != index(m) {
-        return false;
-    }
-    if lent.ls != height + 1 {
-        return false;
-    }
-    if lent.lc != lent.lv {
-        return false;
-    }
-    if lent.us != height + 1 {
-        return false;
-    }
-    if lent.uc != lent.uv {
-        return false;
-    }
-    lent.work == WORK_CELLS
+    lent.rows == index(n)
+        && lent.columns == index(m)
+        && lent.ls == index(n) + 1
+        && lent.lc == lent.lv
+        && lent.us == index(n) + 1
+        && lent.uc == lent.uv
+        && lent.work == WORK_CELLS
 }
 
 // The lengths and the plan: 9, 1, 2, 8.
@@ -66,15 +54,11 @@ fn lent_outcome(
     cols: &[u32],
     vals: &[u32],
     lent: Lent,
-) -> Outcome
-    ensures { result ≡ lent_outcome p n m (stored_before starts.now cols.now vals.now) lent }
+) -> Result<(), Refusal>
+    ensures { outcome_of result ≡ lent_outcome p n m (stored_before starts.now cols.now vals.now) lent }
 {
-    if !plan_lengths(n, starts, cols, vals) {
-        return Outcome::Refused(WRONG_LENGTH, 0);
-    }
-    if !lent_lengths(n, m, lent) {
-        return Outcome::Refused(WRONG_LENGTH, 0);
-    }
+    let lengths = plan_lengths(n, starts, cols, vals) && lent_lengths(n, m, lent);
+    demand(lengths, Fault::WrongLength)?;
     plan_outcome(p, n, m, starts, cols, vals)
 }
 
@@ -95,9 +79,9 @@ pub fn factor_accepted(
     uc: &mut [u32],
     uv: &mut [u32],
     work: &mut [u64],
-) -> Factored
+) -> Result<Ranks, Refusal>
     requires { lent_outcome p n m (stored_at starts.now cols.now vals.now) (lent_of (storage_at ro.old co.old ls.old lc.old lv.old us.old uc.old uv.old work.old)) ≡ Passed }
-    ensures { Leaves (factor_call_of p n m (stored_before starts.now cols.now vals.now) (lent_of (storage_before ro.old co.old ls.old lc.old lv.old us.old uc.old uv.old work.old))) result (storage_after ro.new co.new ls.new lc.new lv.new us.new uc.new uv.new work.new) }
+    ensures { Leaves (factor_call_of p n m (stored_before starts.now cols.now vals.now) (lent_of (storage_before ro.old co.old ls.old lc.old lv.old us.old uc.old uv.old work.old))) (factored_of result) (storage_after ro.new co.new ls.new lc.new lv.new us.new uc.new uv.new work.new) }
 {
     clear_all(ro, co, ls, lc, lv, us, uc, uv, work);
     let q = Modulus { p };
@@ -109,7 +93,7 @@ pub fn factor_accepted(
 // Factors a stored plan.
 //   takes    a stored plan (p, n, m, row starts, columns, values); lent lists for R (n cells), C (m), L and U (n + 1 starts each, columns and values of
 //            one length, whichever), and a working row; anything may stand in them
-//   gives    0, the rank and the number of structural pivots; R, C, L and U in the lists, zero past their ends
+//   gives    the rank and the number of structural pivots; R, C, L and U in the lists, zero past their ends
 //   refuses  9, 1, 2, 8, and 7 with the row after which L or U has more entries than its lists hold
 //   leaves   after a refusal every lent list all zero; the working row all zero in any case
 pub fn factor(
@@ -128,8 +112,8 @@ pub fn factor(
     uc: &mut [u32],
     uv: &mut [u32],
     work: &mut [u64],
-) -> Factored
-    ensures { Leaves (factor_call_of p n m (stored_before starts.now cols.now vals.now) (lent_of (storage_before ro.old co.old ls.old lc.old lv.old us.old uc.old uv.old work.old))) result (storage_after ro.new co.new ls.new lc.new lv.new us.new uc.new uv.new work.new) }
+) -> Result<Ranks, Refusal>
+    ensures { Leaves (factor_call_of p n m (stored_before starts.now cols.now vals.now) (lent_of (storage_before ro.old co.old ls.old lc.old lv.old us.old uc.old uv.old work.old))) (factored_of result) (storage_after ro.new co.new ls.new lc.new lv.new us.new uc.new uv.new work.new) }
 {
     let lent = Lent {
         rows: ro.len(),
@@ -142,14 +126,9 @@ pub fn factor(
         uv: uv.len(),
         work: work.len(),
     };
-    let tested = lent_outcome(p, n, m, starts, cols, vals, lent);
-    if let Outcome::Refused(number, detail) = tested {
+    if let Err(refusal) = lent_outcome(p, n, m, starts, cols, vals, lent) {
         clear_all(ro, co, ls, lc, lv, us, uc, uv, work);
-        return Factored {
-            outcome: Outcome::Refused(number, detail),
-            rank: 0,
-            structural: 0,
-        };
+        return Err(refusal);
     }
     factor_accepted(
         p, n, m, starts, cols, vals, ro, co, ls, lc, lv, us, uc, uv, work,

@@ -21,8 +21,8 @@ use Rattle.lists.specs.Filled.{zeros, filled}
 use Rattle.lists.proofs.Filled.{filled_none, filled-whole}
 use Rattle.refusals.specs.Table.{wrong_length, plan_faults, set_faults}
 use Rattle.refusals.specs.Refusals.{◌▷◌, unless, number_of, NumberFrom}
-use Rattle.refusals.specs.declared.Outcome.{Outcome}
-use Rattle.refusals.specs.declared.Outcome.TheVariants.{Passed, Refused}
+use Rattle.refusals.specs.Outcome.{Outcome}
+use Rattle.refusals.specs.Outcome.{Passed, Refused}
 use Rattle.refusals.proofs.Refusals.{RefusedBy, number-from, both-passed, unless-true, after-passed, refused-unless, zero-passed}
 use Rattle.sparse.specs.Matrix.{Compressed}
 use Rattle.sparse.specs.Set.{Set}

@@ -19,8 +19,8 @@ use Rattle.lists.specs.Tests.{among}
 use Rattle.lists.specs.Filled.{zeros}
 use Rattle.refusals.specs.Table.{wrong_length, set_faults}
 use Rattle.refusals.specs.Refusals.{number_of, NumberFrom}
-use Rattle.refusals.specs.declared.Outcome.{Outcome}
-use Rattle.refusals.specs.declared.Outcome.TheVariants.{Refused}
+use Rattle.refusals.specs.Outcome.{Outcome}
+use Rattle.refusals.specs.Outcome.{Refused}
 use Rattle.sparse.specs.Matrix.{Compressed}
 use Rattle.sparse.specs.Set.{Set}
 use Rattle.pluq.specs.Judge.{Passes}

@@ -1,24 +1,24 @@
 -- One law for each way out of the call that gives the settings of the free columns.
 --   rank-small, parts-ready    a certificate that passed: the length of the list can be computed, and its parts are ready
---   ready_by, filled-by        the parts mean the set that the certificate holds
---   refuses                    the certificate is refused
---   wrong-length               it passed, and the list has another length
---   gives                      it passed, and the list has its length
+--   ready_by, filled-by        the same, and the filling, of an equal set
+--   refuses                    the certificate or the length of the list is refused
+--   parted, gives              both passed
 use mathlib.Core.Path.{◌≡◌, refl, sym, ap, subst, ◌∙◌}
-use mathlib.Core.Bool.{Bool, true, false}
+use mathlib.Core.Bool.{true}
 use mathlib.Core.List.{List, ◌++◌}
 use Prim.Native.Nat.{ℕ, ◌-◌, ◌*◌, ◌≤◌}
 use native.Mathlib.Omega.{arith}
 use lib.Dec.{eqb}
-use lib.ListN.{length, take, drop, length-append, length-drop}
+use lib.ListN.{length, take, drop}
 use lib.Seq.{length-take-le}
+use borrow.Author.Tests.{eqb-true}
 use Rattle.lists.specs.Filled.{zeros, filled}
 use Rattle.lists.specs.Rest.{rest}
 use Rattle.lists.proofs.Filled.{length-zeros, filled-whole}
 use Rattle.refusals.specs.Refusals.{unless}
-use Rattle.refusals.specs.declared.Outcome.{Outcome}
-use Rattle.refusals.specs.declared.Outcome.TheVariants.{Passed, Refused}
-use Rattle.refusals.proofs.Refusals.{refused, passed}
+use Rattle.refusals.specs.Outcome.{Outcome}
+use Rattle.refusals.specs.Outcome.{Passed, Refused}
+use Rattle.refusals.proofs.Refusals.{both-passed, unless-true}
 use Rattle.sparse.specs.Matrix.{Compressed, form}
 use Rattle.sparse.specs.Set.{Set}
 use Rattle.pluq.proofs.Orders.{permutation-means}
@@ -89,7 +89,7 @@ module _ (p n m : ℕ) (A : Compressed) (cert : List ℕ) (width : ℕ) (ok : ch
         clear = all;
       }
 
--- ---- the parts mean the set that the certificate holds
+-- ---- the value that the bytes make is the set that they hold
 
 pub ready_by : (p k m : ℕ) (s s' : Set) (b w : List ℕ) → k ≡ m → s ≡ s' → BasisReady p s'.r s'.U s'.C b (take m w) → BasisReady p s.r s.U s.C b (take k w)
 ready_by p k m s s' b w e f h =
@@ -103,9 +103,6 @@ settings-basis p m s = refl
 pub row-part : (k : ℕ) (w : List ℕ) → k ≤ length w → length (take k w) ≡ k
 row-part k w room = length-take-le k w room
 
-pub row_back : (k : ℕ) (w part : List ℕ) → k ≤ length w → length part ≡ length (take k w) → length (part ++ drop k w) ≡ length w
-row_back k w part room long = omega (arith, length-append part (drop k w), length-drop k w, row-part k w room)
-
 pub filled-by : (p k m : ℕ) (s s' : Set) (w b part : List ℕ) → k ≡ m → s ≡ s' → k ≤ length w → w ≡ zeros (length w) → length part ≡ length (take k w)
     → BasisFilled (free_settings p (length (take k w)) s.r s.C s.U) b part → BasisFilled (kernel_basis p m s') b (part ++ drop k w)
 filled-by p k m s s' w b part e f room clear long h =
@@ -117,29 +114,24 @@ filled-by p k m s s' w b part e f room clear long h =
 
 -- ---- the ways out, after the check of the certificate
 
--- o is the outcome of the check, and w₁ the working row after it
-module _ (check : Outcome) (p m : ℕ) (s : Set) (l₀ w₀ : List ℕ) (o : Outcome) (w₁ : List ℕ) (q : Checks check o w₀ w₁) where
+-- w₁ is the working row after the tests
+module _ (check : Outcome) (p m : ℕ) (s : Set) (l₀ w₀ w₁ : List ℕ) where
   abbrev after : Outcome
   after = kernel_after check m s.r (length l₀)
 
-  abbrev fits : Bool
-  fits = eqb (length l₀) (m * (m - s.r))
+  pub refuses : (k d : ℕ) → Checks after (Refused k d) w₀ w₁ → (l : List ℕ) → l ≡ zeros (length l₀) → Lists (listed after (kernel_basis p m s)) (Refused k d) l₀ l w₀ w₁
+  refuses k d q l el = refused-leaves after (kernel_basis p m s) l₀ l w₀ w₁ k d q.outcome el q.cleared
 
-  pub refuses : (k d : ℕ) → o ≡ Refused k d → (l : List ℕ) → l ≡ zeros (length l₀) → Lists (listed after (kernel_basis p m s)) o l₀ l w₀ w₁
+  -- what passed: the check, and the length of the list
+  pub parted : Checks after Passed w₀ w₁ → (check ≡ Passed) × (length l₀ ≡ m * (m - s.r))
   unfolding kernel_after
-  refuses k d f l el = refused-leaves after (kernel_basis p m s) l₀ l w₀ w₁ o k d f (refused o check (unless fits 9 0) k d f q.outcome) el q.cleared
+  parted q =
+      let (judged, long) = both-passed check (unless (eqb (length l₀) (m * (m - s.r))) 9 0) (sym q.outcome) in
+      (judged, eqb-true (length l₀) (m * (m - s.r)) (unless-true (eqb (length l₀) (m * (m - s.r))) 9 0 long))
 
-  module _ (f : o ≡ Passed) where
-    pub wrong-length : fits ≡ false → (l : List ℕ) → l ≡ zeros (length l₀) → Lists (listed after (kernel_basis p m s)) (Refused 9 0) l₀ l w₀ w₁
-    unfolding kernel_after
-    wrong-length t l el =
-        refused-leaves after (kernel_basis p m s) l₀ l w₀ w₁ (Refused 9 0) 9 0 refl
-        (passed o check (unless fits 9 0) (Refused 9 0) f q.outcome (ap (λ (b : Bool). unless b 9 0) (sym t))) el q.cleared
-
-    pub gives : fits ≡ true → (l w : List ℕ) → length l ≡ length l₀ → length w ≡ length w₁ → BasisFilled (kernel_basis p m s) l w → Lists (listed after (kernel_basis p m s)) Passed l₀ l w₀ w
-    unfolding kernel_after
-    gives t l w ll lw a =
-        let e : Passed ≡ after = passed o check (unless fits 9 0) Passed f q.outcome (ap (λ (b : Bool). unless b 9 0) (sym t)) in
-        leaves (listed after (kernel_basis p m s)) Passed l₀ l w₀ w (ap (λ (u : Outcome). (listed u (kernel_basis p m s)).outcome) e)
-        (sym (filled-whole (length l₀) l ll) ∙ ap (filled (length l₀)) a.list ∙ ap (λ (u : Outcome). filled (length l₀) (listed u (kernel_basis p m s)).list) e)
-        (a.row ∙ ap zeros (lw ∙ ap length q.cleared ∙ length-zeros (length w₀)))
+  pub gives : Checks after Passed w₀ w₁ → (l w : List ℕ) → length l ≡ length l₀ → length w ≡ length w₁ → BasisFilled (kernel_basis p m s) l w
+      → Lists (listed after (kernel_basis p m s)) Passed l₀ l w₀ w
+  gives q l w ll lw a =
+      leaves (listed after (kernel_basis p m s)) Passed l₀ l w₀ w (ap (λ (u : Outcome). (listed u (kernel_basis p m s)).outcome) q.outcome)
+      (sym (filled-whole (length l₀) l ll) ∙ ap (filled (length l₀)) a.list ∙ ap (λ (u : Outcome). filled (length l₀) (listed u (kernel_basis p m s)).list) q.outcome)
+      (a.row ∙ ap zeros (lw ∙ ap length q.cleared ∙ length-zeros (length w₀)))

@@ -6,7 +6,7 @@
 use Rattle.std.specs.Prelude.{ℕ, ◌-◌, ◌*◌, List, eqb}
 use Rattle.refusals.specs.Table.{wrong_length}
 use Rattle.refusals.specs.Refusals.{◌▷◌, unless}
-use Rattle.refusals.specs.declared.Outcome.{Outcome}
+use Rattle.refusals.specs.Outcome.{Outcome}
 use Rattle.sparse.specs.Matrix.{Compressed}
 use Rattle.row_space.specs.Kernel.{kernel_basis}
 use Rattle.certificate.specs.Reading.{set_of_certificate}

@@ -16,8 +16,8 @@ use Rattle.lists.specs.Tests.{among}
 use Rattle.refusals.specs.Table.{plan_faults, set_faults, wrong_length}
 use Rattle.lists.specs.Filled.{zeros, filled}
 use Rattle.refusals.specs.Refusals.{◌▷◌, unless, number_of, NumberFrom}
-use Rattle.refusals.specs.declared.Outcome.{Outcome}
-use Rattle.refusals.specs.declared.Outcome.TheVariants.{Passed, Refused}
+use Rattle.refusals.specs.Outcome.{Outcome}
+use Rattle.refusals.specs.Outcome.{Passed, Refused}
 use Rattle.lists.proofs.Filled.{filled_none, filled-whole}
 use Rattle.lists.proofs.Tabulate.{length-tabulate}
 use Rattle.refusals.proofs.Refusals.{RefusedBy, number-from, then-nothing, unless-passed, unless_holds, refused-unless, refused-then, zero-passed}

@@ -1,5 +1,5 @@
 -- One law for each way out of a call that lists the open columns. `check` is the check of the set, stored or in a certificate.
-use mathlib.Core.Path.{◌≡◌, refl, sym, ap, subst, ◌∙◌}
+use mathlib.Core.Path.{◌≡◌, sym, ap, subst, ◌∙◌}
 use mathlib.Core.List.{List}
 use Prim.Native.Nat.{ℕ, ◌≤◌}
 use native.Mathlib.Omega.{arith}
@@ -8,8 +8,8 @@ use lib.ListN.{length}
 use borrow.Author.Tests.{eq-eqb, ne_eqb}
 use Rattle.lists.specs.Filled.{zeros, filled}
 use Rattle.refusals.specs.Refusals.{number_of, detail_of}
-use Rattle.refusals.specs.declared.Outcome.{Outcome}
-use Rattle.refusals.specs.declared.Outcome.TheVariants.{Passed, Refused}
+use Rattle.refusals.specs.Outcome.{Outcome}
+use Rattle.refusals.specs.Outcome.{Passed, Refused}
 use Rattle.lists.proofs.Filled.{length-zeros, filled_none, filled-whole}
 use Rattle.refusals.proofs.Refusals.{fails, holds}
 use Rattle.sparse.specs.Matrix.{Compressed}
@@ -50,11 +50,10 @@ leaves g r l₀ l w₀ w e el ew = record { outcome = e; number = ap number_of e
 
 module _ (after : Outcome) (cells l₀ l w₀ w : List ℕ) where
   -- a refusal leaves the list all zero
-  pub refused-leaves : (o : Outcome) (k d : ℕ) → o ≡ Refused k d → o ≡ after → l ≡ zeros (length l₀) → w ≡ zeros (length w₀) → Lists (listed after cells) o l₀ l w₀ w
-  refused-leaves o k d f e el ew =
-      let same : Refused k d ≡ after = sym f ∙ e in
-      leaves (listed after cells) o l₀ l w₀ w (f ∙ ap (λ (u : Outcome). (listed u cells).outcome) same)
-      (el ∙ sym (filled_none (length l₀)) ∙ ap (λ (u : Outcome). filled (length l₀) (listed u cells).list) same) ew
+  pub refused-leaves : (k d : ℕ) → Refused k d ≡ after → l ≡ zeros (length l₀) → w ≡ zeros (length w₀) → Lists (listed after cells) (Refused k d) l₀ l w₀ w
+  refused-leaves k d e el ew =
+      leaves (listed after cells) (Refused k d) l₀ l w₀ w (ap (λ (u : Outcome). (listed u cells).outcome) e)
+      (el ∙ sym (filled_none (length l₀)) ∙ ap (λ (u : Outcome). filled (length l₀) (listed u cells).list) e) ew
 
   passed-leaves : Passed ≡ after → length l ≡ length l₀ → length w ≡ length w₀ → ColumnsListed cells l w → Lists (listed after cells) Passed l₀ l w₀ w
   passed-leaves e ll lw a =
@@ -68,18 +67,18 @@ module _ (check : Outcome) (p m : ℕ) (s : Set) (l₀ w₀ : List ℕ) where
 
   pub wrong-length : (length l₀ ≡ m → ⊥) → (l w : List ℕ) → l ≡ zeros (length l₀) → w ≡ zeros (length w₀) → Lists (listed after (open_columns p m s)) (Refused 9 0) l₀ l w₀ w
   unfolding columns_after
-  wrong-length h l w el ew = refused-leaves after (open_columns p m s) l₀ l w₀ w (Refused 9 0) 9 0 refl (fails (eqb (length l₀) m) 9 0 check (ne_eqb (length l₀) m h)) el ew
+  wrong-length h l w el ew = refused-leaves after (open_columns p m s) l₀ l w₀ w 9 0 (fails (eqb (length l₀) m) 9 0 check (ne_eqb (length l₀) m h)) el ew
 
-  -- o is the outcome of the check, and w₁ the working row after it
-  module _ (long : length l₀ ≡ m) (o : Outcome) (w₁ : List ℕ) (q : Checks check o w₀ w₁) where
-    next : o ≡ after
+  -- w₁ is the working row after the check
+  module _ (long : length l₀ ≡ m) (w₁ : List ℕ) where
+    next : (o : Outcome) → Checks check o w₀ w₁ → o ≡ after
     unfolding columns_after
-    next = holds (eqb (length l₀) m) 9 0 check o (eq-eqb (length l₀) m long) q.outcome
+    next o q = holds (eqb (length l₀) m) 9 0 check o (eq-eqb (length l₀) m long) q.outcome
 
-    pub refuses : (k d : ℕ) → o ≡ Refused k d → (l : List ℕ) → l ≡ zeros (length l₀) → Lists (listed after (open_columns p m s)) o l₀ l w₀ w₁
-    refuses k d f l el = refused-leaves after (open_columns p m s) l₀ l w₀ w₁ o k d f next el q.cleared
+    pub refuses : (k d : ℕ) → Checks check (Refused k d) w₀ w₁ → (l : List ℕ) → l ≡ zeros (length l₀) → Lists (listed after (open_columns p m s)) (Refused k d) l₀ l w₀ w₁
+    refuses k d q l el = refused-leaves after (open_columns p m s) l₀ l w₀ w₁ k d (next (Refused k d) q) el q.cleared
 
-    pub lists : o ≡ Passed → (l w : List ℕ) → length l ≡ length l₀ → length w ≡ length w₁ → ColumnsListed (open_columns p (length l₀) s) l w → Lists (listed after (open_columns p m s)) Passed l₀ l w₀ w
-    lists f l w ll lw a =
-        passed-leaves after (open_columns p m s) l₀ l w₀ w (sym f ∙ next) ll (lw ∙ ap length q.cleared ∙ length-zeros (length w₀))
+    pub lists : Checks check Passed w₀ w₁ → (l w : List ℕ) → length l ≡ length l₀ → length w ≡ length w₁ → ColumnsListed (open_columns p (length l₀) s) l w → Lists (listed after (open_columns p m s)) Passed l₀ l w₀ w
+    lists q l w ll lw a =
+        passed-leaves after (open_columns p m s) l₀ l w₀ w (next Passed q) ll (lw ∙ ap length q.cleared ∙ length-zeros (length w₀))
         (subst (λ (b : ℕ). ColumnsListed (open_columns p b s) l w) long a)

@@ -11,8 +11,8 @@ use Rattle.std.specs.Prelude.{ℕ, ◌≡◌, List, [], eqb, length}
 use Rattle.lists.specs.Filled.{zeros, filled}
 use Rattle.refusals.specs.Table.{wrong_length}
 use Rattle.refusals.specs.Refusals.{◌▷◌, unless, number_of, detail_of}
-use Rattle.refusals.specs.declared.Outcome.{Outcome}
-use Rattle.refusals.specs.declared.Outcome.TheVariants.{Passed, Refused}
+use Rattle.refusals.specs.Outcome.{Outcome}
+use Rattle.refusals.specs.Outcome.{Passed, Refused}
 use Rattle.sparse.specs.Matrix.{Compressed}
 use Rattle.sparse.specs.Set.{Set}
 use Rattle.sparse.specs.Views.{LentList, before, after}

@@ -5,14 +5,14 @@ ghost use Rattle.answer_open.specs.Opening.{ColumnsListed};
 ghost use Rattle.certificate.specs.Reading.{set_of_certificate};
 ghost use Rattle.call_open.specs.Calls.{open_certificate_of, ListsIn};
 ghost use Rattle.call_open.specs.Needs.{OpenPartsReady};
+ghost use Rattle.refusals.specs.Outcome.{outcome_of};
 ghost use Rattle.sparse.specs.Views.{stored_before};
 
 use answer_open::pivots::open_columns;
 use call_check::from_certificate::check_bytes;
-use certificate::parts::{number, places_in};
+use certificate::parts::set_of_certificate;
 use lists::{clear, clear_row};
-use refusals::Outcome;
-use refusals::numbers::WRONG_LENGTH;
+use refusals::{Fault, Refusal};
 use residue::Modulus;
 
 // The open columns from a certificate that passed: its parts are read where they stand.
@@ -27,28 +27,9 @@ fn open_columns_of_parts(
     requires { OpenPartsReady q.p n m cert.now marks.old work.old }
     ensures { ColumnsListed (open_columns q.p (length marks.old) (set_of_certificate n m cert.now)) marks.new work.new }
 {
-    let places = places_in(cert, n, m);
-    let r = number(cert, 3);
-    let co = places.co;
-    let ls = places.ls;
-    let us = places.us;
-    let uc = places.uc;
-    let uv = places.uv;
-    let end = places.end;
-    open_columns(
-        q,
-        &[],
-        &cert[co..ls],
-        &[],
-        &cert[us..uc],
-        &[],
-        &cert[uc..uv],
-        &[],
-        &cert[uv..end],
-        r as usize,
-        marks,
-        work,
-    );
+    let set = set_of_certificate(cert, n, m);
+    let k = set.r as usize;
+    open_columns(q, &set.co, &set.u, k, marks, work);
 }
 
 // Lists the open columns from a certificate, which is read from its own bytes.
@@ -66,20 +47,20 @@ pub fn open_columns_from_certificate(
     cert: &[u8],
     marks: &mut [u32],
     work: &mut [u64],
-) -> Outcome
-    ensures { ListsIn (open_certificate_of p n m (stored_before starts.now cols.now vals.now) cert.now) result marks work }
+) -> Result<(), Refusal>
+    ensures { ListsIn (open_certificate_of p n m (stored_before starts.now cols.now vals.now) cert.now) (outcome_of result) marks work }
 {
     let q = Modulus { p };
     if marks.len() != m as usize {
         clear(marks);
         clear_row(work);
-        return Outcome::Refused(WRONG_LENGTH, 0);
+        return Err(Fault::WrongLength.into());
     }
     let checked = check_bytes(q, n, m, starts, cols, vals, cert, work);
-    let Outcome::Passed = checked else {
+    if let Err(refusal) = checked {
         clear(marks);
-        return checked;
-    };
+        return Err(refusal);
+    }
     open_columns_of_parts(q, n, m, cert, marks, work);
-    Outcome::Passed
+    Ok(())
 }

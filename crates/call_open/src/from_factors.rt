@@ -1,12 +1,12 @@
 // The call that lists the open columns from stored factors. Any content of the list and of the working row is accepted.
 ghost use Rattle.call_open.specs.Calls.{open_factors_of, ListsIn};
+ghost use Rattle.refusals.specs.Outcome.{outcome_of};
 ghost use Rattle.sparse.specs.Views.{stored_before, set_before};
 
 use answer_open::pivots::open_columns;
-use call_check::from_factors::check_stored;
+use call_check::from_factors::{check_stored, stored_set};
 use lists::{clear, clear_row};
-use refusals::Outcome;
-use refusals::numbers::WRONG_LENGTH;
+use refusals::{Fault, Refusal};
 use residue::Modulus;
 
 // Lists the open columns from stored factors.
@@ -33,23 +33,24 @@ pub fn open_columns_from_factors(
     uv: &[u32],
     marks: &mut [u32],
     work: &mut [u64],
-) -> Outcome
-    ensures { ListsIn (open_factors_of p n m (stored_before starts.now cols.now vals.now) (set_before r ro.now co.now ls.now lc.now lv.now us.now uc.now uv.now)) result marks work }
+) -> Result<(), Refusal>
+    ensures { ListsIn (open_factors_of p n m (stored_before starts.now cols.now vals.now) (set_before r ro.now co.now ls.now lc.now lv.now us.now uc.now uv.now)) (outcome_of result) marks work }
 {
     let q = Modulus { p };
     if marks.len() != m as usize {
         clear(marks);
         clear_row(work);
-        return Outcome::Refused(WRONG_LENGTH, 0);
+        return Err(Fault::WrongLength.into());
     }
     let checked = check_stored(
         q, n, m, starts, cols, vals, r, ro, co, ls, lc, lv, us, uc, uv, work,
     );
-    let Outcome::Passed = checked else {
+    if let Err(refusal) = checked {
         clear(marks);
-        return checked;
-    };
-    let k = r as usize;
-    open_columns(q, co, b"", us, b"", uc, b"", uv, b"", k, marks, work);
-    Outcome::Passed
+        return Err(refusal);
+    }
+    let set = stored_set(r, ro, co, ls, lc, lv, us, uc, uv);
+    let k = set.r as usize;
+    open_columns(q, &set.co, &set.u, k, marks, work);
+    Ok(())
 }

@@ -3,7 +3,7 @@ use mathlib.Core.List.{List}
 use Prim.Native.Nat.{ℕ}
 use Rattle.sparse.specs.Matrix.{Compressed}
 use Rattle.call_answer.specs.Meaning.{AnswerOf, from_stored as plain_stored, from_bytes as plain_bytes}
-use Rattle.call_answer.specs.declared.Answer.{Answer}
+use Rattle.call_answer.specs.Answer.{Answer}
 use Rattle.call_owned.specs.Meaning.{OwnedAnswerOf, from_stored, from_bytes}
 use Rattle.call_owned.proofs.Owned.{answers-done}
 

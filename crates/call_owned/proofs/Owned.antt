@@ -24,19 +24,19 @@ use Rattle.lists.specs.Filled.{zeros}
 use Rattle.lists.proofs.Filled.{filled_none}
 use Rattle.refusals.specs.Table.{wrong_length}
 use Rattle.refusals.specs.Refusals.{◌▷◌, unless, number_of, NumberFrom}
-use Rattle.refusals.specs.declared.Outcome.{Outcome}
-use Rattle.refusals.specs.declared.Outcome.TheVariants.{Passed, Refused}
+use Rattle.refusals.specs.Outcome.{Outcome}
+use Rattle.refusals.specs.Outcome.{Passed, Refused}
 use Rattle.sparse.specs.Set.{Storage}
 use Rattle.factor_all.specs.Factorization.{Factorization, Leaves}
-use Rattle.factor_all.specs.declared.factor.Factored.{Factored}
+use Rattle.factor_all.specs.Factored.{Factored}
 use Rattle.call_check.specs.Calls.{Checks}
 use Rattle.call_write.specs.Call.{WritesCertificate}
-use Rattle.call_write.specs.declared.Written.{Written}
+use Rattle.call_write.specs.Written.{Written}
 use Rattle.call_factor.specs.Calls.{unless_refused}
 use Rattle.call_factor.specs.Accepted.{FactorCleared}
 use Rattle.call_factor.proofs.Theorems.{refusal-cleared}
 use Rattle.call_answer.specs.Calls.{answer_number, Given, Answers}
-use Rattle.call_answer.specs.declared.Answer.{Answer}
+use Rattle.call_answer.specs.Answer.{Answer}
 use Rattle.call_open.specs.Calls.{Listed, Lists}
 use Rattle.call_owned.specs.Owned.{owners_outcome, owned_outcome, owned_factors, given_after, owned_answer, listed_after, owned_list}
 

@@ -11,18 +11,18 @@
 use Rattle.std.specs.Prelude.{ℕ, List, [], eqb, length}
 use Rattle.refusals.specs.Table.{wrong_length}
 use Rattle.refusals.specs.Refusals.{◌▷◌, unless}
-use Rattle.refusals.specs.declared.Outcome.{Outcome}
-use Rattle.refusals.specs.declared.Outcome.TheVariants.{Passed, Refused}
+use Rattle.refusals.specs.Outcome.{Outcome}
+use Rattle.refusals.specs.Outcome.{Passed, Refused}
 use Rattle.sparse.specs.Set.{Storage}
 use Rattle.sparse.specs.Views.{LentList}
 use Rattle.factor_all.specs.Factorization.{Factorization, Leaves}
-use Rattle.factor_all.specs.declared.factor.Factored.{Factored}
+use Rattle.factor_all.specs.Factored.{Factored}
 use Rattle.call_check.specs.Calls.{ChecksIn}
 use Rattle.call_write.specs.Call.{WritesIn}
-use Rattle.call_write.specs.declared.Written.{Written}
+use Rattle.call_write.specs.Written.{Written}
 use Rattle.call_factor.specs.Calls.{unless_refused}
 use Rattle.call_answer.specs.Calls.{Given, AnswersIn}
-use Rattle.call_answer.specs.declared.Answer.{Answer}
+use Rattle.call_answer.specs.Answer.{Answer}
 use Rattle.call_open.specs.Calls.{Listed, ListsIn}
 
 unfoldable pub owners_outcome : (k m : ℕ) → Outcome

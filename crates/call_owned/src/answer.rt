@@ -1,12 +1,12 @@
 // The public calls that answer a question about a stored plan with owners.
-ghost use Rattle.call_answer.specs.Calls.{answer_factors_of, answer_certificate_of};
+ghost use Rattle.call_answer.specs.Calls.{given_answer, answer_factors_of, answer_certificate_of};
 ghost use Rattle.call_owned.specs.Owned.{AnswersOwned};
 ghost use Rattle.sparse.specs.Views.{stored_before, set_before};
 
 use crate::owners_fit;
-use call_answer::Answer;
 use lists::{clear, clear_row};
-use refusals::numbers::WRONG_LENGTH;
+use refusals::{Fault, Refusal};
+use row_space::Verdict;
 
 // Answers a question from stored factors.
 //   takes    a stored plan (p, n, m, row starts, columns, values), its m owners, a stored set (r, row order, column order, L, U), a question y
@@ -35,14 +35,14 @@ pub fn answer_from_factors(
     x: &mut [u32],
     z: &mut [u32],
     work: &mut [u64],
-) -> Answer
-    ensures { AnswersOwned owners.now m (answer_factors_of p n m (stored_before starts.now cols.now vals.now) (set_before r ro.now co.now ls.now lc.now lv.now us.now uc.now uv.now) y.now) result x z work }
+) -> Result<Verdict, Refusal>
+    ensures { AnswersOwned owners.now m (answer_factors_of p n m (stored_before starts.now cols.now vals.now) (set_before r ro.now co.now ls.now lc.now lv.now us.now uc.now uv.now) y.now) (given_answer result) x z work }
 {
     if !owners_fit(m, owners) {
         clear(x);
         clear(z);
         clear_row(work);
-        return Answer::Refused(WRONG_LENGTH, 0);
+        return Err(Fault::WrongLength.into());
     }
     call_answer::from_factors::answer_from_factors(
         p, n, m, starts, cols, vals, r, ro, co, ls, lc, lv, us, uc, uv, y, x, z, work,
@@ -67,14 +67,14 @@ pub fn answer_from_certificate(
     x: &mut [u32],
     z: &mut [u32],
     work: &mut [u64],
-) -> Answer
-    ensures { AnswersOwned owners.now m (answer_certificate_of p n m (stored_before starts.now cols.now vals.now) cert.now y.now) result x z work }
+) -> Result<Verdict, Refusal>
+    ensures { AnswersOwned owners.now m (answer_certificate_of p n m (stored_before starts.now cols.now vals.now) cert.now y.now) (given_answer result) x z work }
 {
     if !owners_fit(m, owners) {
         clear(x);
         clear(z);
         clear_row(work);
-        return Answer::Refused(WRONG_LENGTH, 0);
+        return Err(Fault::WrongLength.into());
     }
     call_answer::from_certificate::answer_from_certificate(
         p, n, m, starts, cols, vals, cert, y, x, z, work,

@@ -1,12 +1,12 @@
 // The public calls that check a set of factors against a stored plan with owners.
 ghost use Rattle.call_check.specs.Calls.{check_factors_of, check_certificate_of};
 ghost use Rattle.call_owned.specs.Owned.{ChecksOwned};
+ghost use Rattle.refusals.specs.Outcome.{outcome_of};
 ghost use Rattle.sparse.specs.Views.{stored_before, set_before};
 
 use crate::owners_fit;
 use lists::clear_row;
-use refusals::Outcome;
-use refusals::numbers::WRONG_LENGTH;
+use refusals::{Fault, Refusal};
 
 // Checks stored factors.
 //   takes    a stored plan (p, n, m, row starts, columns, values), its m owners, a stored set (r, row order, column order, L, U) and a working row
@@ -31,12 +31,12 @@ pub fn check_factors(
     uc: &[u32],
     uv: &[u32],
     work: &mut [u64],
-) -> Outcome
-    ensures { ChecksOwned owners.now m (check_factors_of p n m (stored_before starts.now cols.now vals.now) (set_before r ro.now co.now ls.now lc.now lv.now us.now uc.now uv.now)) result work }
+) -> Result<(), Refusal>
+    ensures { ChecksOwned owners.now m (check_factors_of p n m (stored_before starts.now cols.now vals.now) (set_before r ro.now co.now ls.now lc.now lv.now us.now uc.now uv.now)) (outcome_of result) work }
 {
     if !owners_fit(m, owners) {
         clear_row(work);
-        return Outcome::Refused(WRONG_LENGTH, 0);
+        return Err(Fault::WrongLength.into());
     }
     call_check::check_factors(
         p, n, m, starts, cols, vals, r, ro, co, ls, lc, lv, us, uc, uv, work,
@@ -58,12 +58,12 @@ pub fn check_certificate(
     owners: &[u8],
     cert: &[u8],
     work: &mut [u64],
-) -> Outcome
-    ensures { ChecksOwned owners.now m (check_certificate_of p n m (stored_before starts.now cols.now vals.now) cert.now) result work }
+) -> Result<(), Refusal>
+    ensures { ChecksOwned owners.now m (check_certificate_of p n m (stored_before starts.now cols.now vals.now) cert.now) (outcome_of result) work }
 {
     if !owners_fit(m, owners) {
         clear_row(work);
-        return Outcome::Refused(WRONG_LENGTH, 0);
+        return Err(Fault::WrongLength.into());
     }
     call_check::check_certificate(p, n, m, starts, cols, vals, cert, work)
 }

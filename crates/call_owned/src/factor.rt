@@ -1,4 +1,5 @@
 // The public call that factors a stored plan with owners.
+ghost use Rattle.factor_all.specs.Factored.{factored_of};
 ghost use Rattle.call_factor.specs.Lengths.{lent_of};
 ghost use Rattle.call_factor.specs.Calls.{factor_call_of};
 ghost use Rattle.call_owned.specs.Owned.{LeavesOwned};
@@ -6,9 +7,8 @@ ghost use Rattle.sparse.specs.Views.{stored_before, storage_before, storage_afte
 
 use crate::owners_fit;
 use factor_all::clearing::clear_all;
-use factor_all::factor::Factored;
-use refusals::Outcome;
-use refusals::numbers::WRONG_LENGTH;
+use factor_all::factor::Ranks;
+use refusals::{Fault, Refusal};
 
 // Factors a stored plan.
 //   takes    a stored plan (p, n, m, row starts, columns, values) and its m owners; lent lists for R (n cells), C (m), L and U (n + 1 starts each,
@@ -33,16 +33,12 @@ pub fn factor(
     uc: &mut [u32],
     uv: &mut [u32],
     work: &mut [u64],
-) -> Factored
-    ensures { LeavesOwned owners.now m (factor_call_of p n m (stored_before starts.now cols.now vals.now) (lent_of (storage_before ro.old co.old ls.old lc.old lv.old us.old uc.old uv.old work.old))) result (storage_after ro.new co.new ls.new lc.new lv.new us.new uc.new uv.new work.new) }
+) -> Result<Ranks, Refusal>
+    ensures { LeavesOwned owners.now m (factor_call_of p n m (stored_before starts.now cols.now vals.now) (lent_of (storage_before ro.old co.old ls.old lc.old lv.old us.old uc.old uv.old work.old))) (factored_of result) (storage_after ro.new co.new ls.new lc.new lv.new us.new uc.new uv.new work.new) }
 {
     if !owners_fit(m, owners) {
         clear_all(ro, co, ls, lc, lv, us, uc, uv, work);
-        return Factored {
-            outcome: Outcome::Refused(WRONG_LENGTH, 0),
-            rank: 0,
-            structural: 0,
-        };
+        return Err(Fault::WrongLength.into());
     }
     call_factor::factor(
         p, n, m, starts, cols, vals, ro, co, ls, lc, lv, us, uc, uv, work,

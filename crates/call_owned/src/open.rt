@@ -1,12 +1,12 @@
 // The public calls that list the open columns (document 01's open words) of a stored plan with owners.
 ghost use Rattle.call_open.specs.Calls.{open_factors_of, open_certificate_of};
 ghost use Rattle.call_owned.specs.Owned.{ListsOwned};
+ghost use Rattle.refusals.specs.Outcome.{outcome_of};
 ghost use Rattle.sparse.specs.Views.{stored_before, set_before};
 
 use crate::owners_fit;
 use lists::{clear, clear_row};
-use refusals::Outcome;
-use refusals::numbers::WRONG_LENGTH;
+use refusals::{Fault, Refusal};
 
 // Lists the open columns from stored factors.
 //   takes    a stored plan (p, n, m, row starts, columns, values), its m owners, a stored set (r, row order, column order, L, U), a list of m cells
@@ -33,13 +33,13 @@ pub fn open_columns_from_factors(
     uv: &[u32],
     marks: &mut [u32],
     work: &mut [u64],
-) -> Outcome
-    ensures { ListsOwned owners.now m (open_factors_of p n m (stored_before starts.now cols.now vals.now) (set_before r ro.now co.now ls.now lc.now lv.now us.now uc.now uv.now)) result marks work }
+) -> Result<(), Refusal>
+    ensures { ListsOwned owners.now m (open_factors_of p n m (stored_before starts.now cols.now vals.now) (set_before r ro.now co.now ls.now lc.now lv.now us.now uc.now uv.now)) (outcome_of result) marks work }
 {
     if !owners_fit(m, owners) {
         clear(marks);
         clear_row(work);
-        return Outcome::Refused(WRONG_LENGTH, 0);
+        return Err(Fault::WrongLength.into());
     }
     call_open::from_factors::open_columns_from_factors(
         p, n, m, starts, cols, vals, r, ro, co, ls, lc, lv, us, uc, uv, marks, work,
@@ -62,13 +62,13 @@ pub fn open_columns_from_certificate(
     cert: &[u8],
     marks: &mut [u32],
     work: &mut [u64],
-) -> Outcome
-    ensures { ListsOwned owners.now m (open_certificate_of p n m (stored_before starts.now cols.now vals.now) cert.now) result marks work }
+) -> Result<(), Refusal>
+    ensures { ListsOwned owners.now m (open_certificate_of p n m (stored_before starts.now cols.now vals.now) cert.now) (outcome_of result) marks work }
 {
     if !owners_fit(m, owners) {
         clear(marks);
         clear_row(work);
-        return Outcome::Refused(WRONG_LENGTH, 0);
+        return Err(Fault::WrongLength.into());
     }
     call_open::from_certificate::open_columns_from_certificate(
         p, n, m, starts, cols, vals, cert, marks, work,

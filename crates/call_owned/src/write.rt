@@ -1,14 +1,13 @@
 // The public call that writes a certificate, with owners.
 ghost use Rattle.certificate.specs.Layout.{certificate_of};
 ghost use Rattle.call_write.specs.Call.{write_outcome};
+ghost use Rattle.call_write.specs.Written.{written_of};
 ghost use Rattle.call_owned.specs.Owned.{WritesOwned};
 ghost use Rattle.sparse.specs.Views.{stored_before, set_before};
 
 use crate::owners_fit;
-use call_write::Written;
 use lists::{clear_bytes, clear_row};
-use refusals::Outcome;
-use refusals::numbers::WRONG_LENGTH;
+use refusals::{Fault, Refusal};
 
 // Writes the certificate of a stored set, which is checked first.
 //   takes    a stored plan, its m owners, a stored set, a buffer and a working row
@@ -34,16 +33,13 @@ pub fn write_certificate(
     uv: &[u32],
     buffer: &mut [u8],
     work: &mut [u64],
-) -> Written
-    ensures { WritesOwned owners.now m (write_outcome p n m (stored_before starts.now cols.now vals.now) (set_before r ro.now co.now ls.now lc.now lv.now us.now uc.now uv.now)) (certificate_of p n m (set_before r ro.now co.now ls.now lc.now lv.now us.now uc.now uv.now)) result buffer work }
+) -> Result<usize, Refusal>
+    ensures { WritesOwned owners.now m (write_outcome p n m (stored_before starts.now cols.now vals.now) (set_before r ro.now co.now ls.now lc.now lv.now us.now uc.now uv.now)) (certificate_of p n m (set_before r ro.now co.now ls.now lc.now lv.now us.now uc.now uv.now)) (written_of result) buffer work }
 {
     if !owners_fit(m, owners) {
         clear_bytes(buffer);
         clear_row(work);
-        return Written {
-            outcome: Outcome::Refused(WRONG_LENGTH, 0),
-            length: 0,
-        };
+        return Err(Fault::WrongLength.into());
     }
     call_write::write_certificate(
         p, n, m, starts, cols, vals, r, ro, co, ls, lc, lv, us, uc, uv, buffer, work,

@@ -18,7 +18,7 @@ use borrow.Author.Tests.{eq-eqb, eqb-true, le-leb, leb-true}
 use Rattle.lists.specs.Tests.{among}
 use Rattle.refusals.specs.Table.{plan_faults}
 use Rattle.refusals.specs.Refusals.{◌▷◌, unless}
-use Rattle.refusals.specs.declared.Outcome.TheVariants.{Passed}
+use Rattle.refusals.specs.Outcome.{Passed}
 use Rattle.lists.proofs.Bools.{and_left, and_right, and_both}
 use Rattle.refusals.proofs.Refusals.{RefusedBy, unless-passed, unless_holds, unless-true, refused-unless, refused-then}
 use Rattle.algebra.specs.Prime.{Prime}

@@ -8,7 +8,7 @@
 use Rattle.std.specs.Prelude.{ℕ, ◌+◌, Bool, ◌&&◌, List, eqb, leb, length}
 use Rattle.refusals.specs.Table.{bad_modulus, over_limit, bad_plan, wrong_length}
 use Rattle.refusals.specs.Refusals.{◌▷◌, unless}
-use Rattle.refusals.specs.declared.Outcome.{Outcome}
+use Rattle.refusals.specs.Outcome.{Outcome}
 use Rattle.residue.specs.Range.{is_modulus}
 use Rattle.sparse.specs.Matrix.{Compressed, form}
 use Rattle.sparse.specs.Set.{Set}

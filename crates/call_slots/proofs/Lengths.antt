@@ -1,5 +1,5 @@
 -- The lengths of a call's lists with slot values, as they are tested.
-use mathlib.Core.Path.{◌≡◌, refl}
+use mathlib.Core.Path.{◌≡◌}
 use mathlib.Core.Bool.{Bool, true, false, ◌&&◌}
 use mathlib.Core.List.{List}
 use Prim.Native.Nat.{ℕ}
@@ -9,7 +9,7 @@ use borrow.Author.Tests.{eqb-true, eq-eqb, ne_eqb}
 use Rattle.lists.proofs.Bools.{and_left, and_right, and_both, chain-false, chain-true}
 use Rattle.call_slots.specs.Calls.{slot_lengths}
 
--- ---- one law for each way out of the test
+-- ---- how the test comes out
 
 module _ (n m k : ℕ) (h : List ℕ) (a b : ℕ) where
   abbrev cells : Bool
@@ -26,16 +26,6 @@ module _ (n m k : ℕ) (h : List ℕ) (a b : ℕ) where
 
     pub values-differ : (length h ≡ n → ⊥) → false ≡ slot_lengths n m k h a b
     values-differ f = after-owners false (chain-false (eqb (length h) n) cells (ne_eqb (length h) n f))
-
-    module _ (values : length h ≡ n) where
-      after-values : (r : Bool) → r ≡ cells → r ≡ slot_lengths n m k h a b
-      after-values r e = after-owners r (chain-true (eqb (length h) n) cells r (eq-eqb (length h) n values) e)
-
-      pub columns-differ : (a ≡ m → ⊥) → false ≡ slot_lengths n m k h a b
-      columns-differ f = after-values false (chain-false (eqb a m) (eqb b n) (ne_eqb a m f))
-
-      pub rows-tested : a ≡ m → eqb b n ≡ slot_lengths n m k h a b
-      rows-tested columns = after-values (eqb b n) (chain-true (eqb a m) (eqb b n) (eqb b n) (eq-eqb a m columns) refl)
 
 -- ---- what passed
 

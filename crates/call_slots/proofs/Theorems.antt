@@ -21,7 +21,7 @@ use Rattle.lists.specs.Filled.{zeros, filled}
 use Rattle.lists.proofs.Filled.{filled_none, filled-whole}
 use Rattle.refusals.specs.Table.{plan_faults, set_faults, wrong_length, question_too_large}
 use Rattle.refusals.specs.Refusals.{◌▷◌, unless, number_of, NumberFrom}
-use Rattle.refusals.specs.declared.Outcome.{Outcome}
+use Rattle.refusals.specs.Outcome.{Outcome}
 use Rattle.refusals.proofs.Refusals.{RefusedBy, number-from, after-passed, unless_holds, refused-unless, refused-then, zero-passed}
 use Rattle.algebra.specs.Matrix.{vector}
 use Rattle.algebra.specs.ColumnSpace.{InColumnSpace}
@@ -46,7 +46,7 @@ use Rattle.call_check.proofs.Theorems.{factors-none, certificate-none, stored-pa
 use Rattle.call_check.proofs.Checked.{Checked, SetTest, stored-test, bytes-test}
 use Rattle.call_slots.specs.Calls.{solution_number, solution_of, slot_lengths, slots_after, slots_given, slots_factors_of, slots_certificate_of, Solves}
 use Rattle.call_slots.specs.Meaning.{Heard, LeftSolved, LeftContradiction, SolvesRight, SolutionOf, from_stored, from_bytes}
-use Rattle.call_slots.specs.declared.Solution.{Solution}
+use Rattle.call_slots.specs.Solution.{Solution}
 use Rattle.call_slots.proofs.Lengths.{owners-differ, lengths-pass}
 use Rattle.call_slots.proofs.Values.{values-hold, values-numbers, values-none}
 use Rattle.call_slots.proofs.Ways.{wrong-lengths, heard-parts}

@@ -11,7 +11,7 @@ use Rattle.lists.specs.Tests.{among, first}
 use Rattle.lists.proofs.Tests.{first-all}
 use Rattle.refusals.specs.Table.{set_faults, question_too_large}
 use Rattle.refusals.specs.Refusals.{unless, number_of}
-use Rattle.refusals.specs.declared.Outcome.TheVariants.{Passed}
+use Rattle.refusals.specs.Outcome.{Passed}
 use Rattle.refusals.proofs.Refusals.{RefusedBy, refused-unless}
 use Rattle.sparse.specs.Row.{Below}
 use Rattle.row_space.specs.Question.{question_outcome}

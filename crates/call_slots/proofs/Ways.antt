@@ -7,7 +7,7 @@ use native.Mathlib.Omega.{arith}
 use lib.ListN.{length}
 use Rattle.lists.specs.Filled.{zeros, filled}
 use Rattle.refusals.specs.Refusals.{◌▷◌, number_of, detail_of}
-use Rattle.refusals.specs.declared.Outcome.{Outcome}
+use Rattle.refusals.specs.Outcome.{Outcome}
 use Rattle.lists.proofs.Filled.{length-zeros, filled_none, filled-whole}
 use Rattle.refusals.proofs.Refusals.{fails, holds, refused, passed, both-passed, unless-passed}
 use Rattle.algebra.specs.Matrix.{vector}
@@ -24,7 +24,7 @@ use Rattle.call_check.specs.Calls.{check_factors_of, check_certificate_of, Check
 use Rattle.call_check.proofs.Checked.{Checked, stored-test, bytes-test}
 use Rattle.call_slots.specs.Calls.{solution_number, solution_detail, solution_of, slot_lengths, slots_after, slots_given, Solves}
 use Rattle.call_slots.specs.Meaning.{Heard}
-use Rattle.call_slots.specs.declared.Solution.{Solution}
+use Rattle.call_slots.specs.Solution.{Solution}
 use Rattle.call_slots.proofs.Lengths.{lengths-are}
 
 -- ---- the tests
@@ -77,11 +77,6 @@ slots-ready p n m k A s h st w v width l c room clear =
     }
 
 -- ---- the result
-
--- the answer from a set is the answer from an equal set
-pub from-set : (p a b : ℕ) (s s' : Set) (h : List ℕ) (v : SlotVerdict) (st w work : List ℕ) → s ≡ s'
-    → SlotsAnswered (solve_slots p a b s (vector h)) v st w work → SlotsAnswered (solve_slots p a b s' (vector h)) v st w work
-from-set p a b s s' h v st w work e q = subst (λ (t : Set). SlotsAnswered (solve_slots p a b t (vector h)) v st w work) e q
 
 pub solution-number : (v : SlotVerdict) → solution_number (solution_of v) ≡ 0
 solution-number SlotVerdict.Solved = refl

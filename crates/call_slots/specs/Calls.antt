@@ -1,6 +1,7 @@
 -- The calls that answer slot values (document 02, slip 6), in document 01's order of refusals: 9, 1, 2, 8, 10, 11 to 14, then 15.
 --   solution_number, solution_detail   document 01's number of an answer, 0 where it is solved or a contradiction, and its detail
 --   solution_of v                     the answer with the verdict v
+--   given_solution r                  the answer that a call's result is
 --   slot_lengths n m k h a b          k = m owners, n slot values h, a = m cells for s and b = n cells for w
 --   slots_after check ..              the outcome of a call with slot values: 9 for its lists, the check of the set, then 15
 --   SlotsGiven                       what a call with slot values gives: its outcome, the answer, and the lists that go to s and w
@@ -9,11 +10,13 @@
 --   slots_certificate_of ..            the answer from a certificate
 --   Solves g r s₀ s w₀ w v₀ v        the contract of such a call: its result, every cell of s and w, and the working row left all zero
 --   SolvesIn g r s w work            the same of lent lists, where g makes what is given from their lengths
-use Rattle.std.specs.Prelude.{ℕ, ◌≡◌, Bool, ◌&&◌, List, [], eqb, length}
+use Rattle.std.specs.Prelude.{ℕ, ◌≡◌, Bool, ◌&&◌, List, [], Result, Ok, Err, eqb, length}
 use Rattle.lists.specs.Filled.{zeros, filled}
 use Rattle.refusals.specs.Table.{wrong_length}
+use Rattle.refusals.specs.declared.Refusal.{Refusal}
+use Rattle.refusals.specs.Faults.{number}
 use Rattle.refusals.specs.Refusals.{◌▷◌, unless, number_of, detail_of}
-use Rattle.refusals.specs.declared.Outcome.{Outcome}
+use Rattle.refusals.specs.Outcome.{Outcome}
 use Rattle.algebra.specs.Matrix.{vector}
 use Rattle.sparse.specs.Matrix.{Compressed}
 use Rattle.sparse.specs.Set.{Set}
@@ -23,7 +26,7 @@ use Rattle.column_space.specs.Slots.{SlotSolution, solve_slots}
 use Rattle.column_space.specs.declared.SlotVerdict.{SlotVerdict}
 use Rattle.certificate.specs.Reading.{set_of_certificate}
 use Rattle.call_check.specs.Calls.{check_factors_of, check_certificate_of}
-use Rattle.call_slots.specs.declared.Solution.{Solution}
+use Rattle.call_slots.specs.Solution.{Solution}
 
 -- ---- the answer
 
@@ -40,6 +43,10 @@ solution_detail Solution.Contradiction = 0
 abbrev pub solution_of : SlotVerdict → Solution
 solution_of SlotVerdict.Solved = Solution.Solved
 solution_of SlotVerdict.Contradiction = Solution.Contradiction
+
+abbrev pub given_solution : Result SlotVerdict Refusal → Solution
+given_solution (Ok v) = solution_of v
+given_solution (Err r) = Solution.Refused (number r.fault) r.detail
 
 -- ---- slot values
 

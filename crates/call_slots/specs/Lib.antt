@@ -1,3 +1,4 @@
 pub mod Calls
 pub mod Meaning
 pub mod Needs
+pub mod Solution

@@ -20,7 +20,7 @@ use Rattle.sparse.specs.Row.{Below}
 use Rattle.sparse.specs.Matrix.{Compressed, matrix}
 use Rattle.sparse.specs.Set.{Set}
 use Rattle.call_slots.specs.Calls.{solution_number, slots_factors_of, slots_certificate_of, Solves}
-use Rattle.call_slots.specs.declared.Solution.{Solution}
+use Rattle.call_slots.specs.Solution.{Solution}
 
 pub record Heard (p n m k : ℕ) (h : List ℕ) (a b : ℕ) : Type 0 where
   pub owners : k ≡ m

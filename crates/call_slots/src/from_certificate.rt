@@ -5,20 +5,19 @@ ghost use Rattle.column_space.specs.Slots.{solve_slots};
 ghost use Rattle.answer_slots.specs.Solving.{SlotsAnswered};
 ghost use Rattle.certificate.specs.Reading.{set_of_certificate};
 ghost use Rattle.call_check.specs.Calls.{check_certificate_of, Checks};
-ghost use Rattle.call_slots.specs.Calls.{slots_after, slots_certificate_of, SolvesIn};
+ghost use Rattle.refusals.specs.Outcome.{outcome_of};
+ghost use Rattle.call_slots.specs.Calls.{given_solution, slots_after, slots_certificate_of, SolvesIn};
 ghost use Rattle.call_slots.specs.Needs.{SlotsPartsReady};
 ghost use Rattle.sparse.specs.Views.{stored_before};
 
 use crate::slots::slot_lengths;
-use crate::{Solution, solution_of};
 use answer_question::question::question_ok;
 use answer_slots::solve::solve;
 use call_check::from_certificate::check_bytes;
-use certificate::parts::{number, places_in};
+use certificate::parts::set_of_certificate;
 use column_space::SlotVerdict;
 use lists::{clear, clear_row};
-use refusals::Outcome;
-use refusals::numbers::WRONG_LENGTH;
+use refusals::{Fault, Refusal};
 use residue::Modulus;
 
 // The tests of a call with a certificate: 9, 1, 2, 8, 10, 11 to 14, 15; k is the number of owners. The working row is left all zero.
@@ -35,17 +34,14 @@ fn heard_with_certificate(
     slen: usize,
     wlen: usize,
     work: &mut [u64],
-) -> Outcome
-    ensures { Checks (slots_after (check_certificate_of q.p n m (stored_before starts.now cols.now vals.now) cert.now (length work.old)) q.p n m k h.now slen wlen) result work.old work.new }
+) -> Result<(), Refusal>
+    ensures { Checks (slots_after (check_certificate_of q.p n m (stored_before starts.now cols.now vals.now) cert.now (length work.old)) q.p n m k h.now slen wlen) (outcome_of result) work.old work.new }
 {
     if !slot_lengths(n, m, k, h, slen, wlen) {
         clear_row(work);
-        return Outcome::Refused(WRONG_LENGTH, 0);
+        return Err(Fault::WrongLength.into());
     }
-    let checked = check_bytes(q, n, m, starts, cols, vals, cert, work);
-    let Outcome::Passed = checked else {
-        return checked;
-    };
+    check_bytes(q, n, m, starts, cols, vals, cert, work)?;
     question_ok(h, q.p)
 }
 
@@ -63,42 +59,8 @@ fn solve_parts(
     requires { SlotsPartsReady q.p n m cert.now h.now s.old w.old work.old }
     ensures { SlotsAnswered (solve_slots q.p (length w.old) (length s.old) (set_of_certificate n m cert.now) (vector h.now)) result s.new w.new work.new }
 {
-    let places = places_in(cert, n, m);
-    let r = number(cert, 3);
-    let ro = places.ro;
-    let co = places.co;
-    let ls = places.ls;
-    let lc = places.lc;
-    let lv = places.lv;
-    let us = places.us;
-    let uc = places.uc;
-    let uv = places.uv;
-    let end = places.end;
-    let none: &[u32] = &[];
-    solve(
-        q,
-        none,
-        &cert[ro..co],
-        none,
-        &cert[co..ls],
-        none,
-        &cert[ls..lc],
-        none,
-        &cert[lc..lv],
-        none,
-        &cert[lv..us],
-        none,
-        &cert[us..uc],
-        none,
-        &cert[uc..uv],
-        none,
-        &cert[uv..end],
-        r as usize,
-        h,
-        s,
-        w,
-        work,
-    )
+    let set = set_of_certificate(cert, n, m);
+    solve(q, &set, h, s, w, work)
 }
 
 // Answers slot values from a certificate, which is read from its own bytes.
@@ -119,8 +81,8 @@ pub fn solve_slots_from_certificate(
     s: &mut [u32],
     w: &mut [u32],
     work: &mut [u64],
-) -> Solution
-    ensures { SolvesIn (slots_certificate_of p n m (length owners.now) (stored_before starts.now cols.now vals.now) cert.now h.now) result s w work }
+) -> Result<SlotVerdict, Refusal>
+    ensures { SolvesIn (slots_certificate_of p n m (length owners.now) (stored_before starts.now cols.now vals.now) cert.now h.now) (given_solution result) s w work }
 {
     let q = Modulus { p };
     let heard = heard_with_certificate(
@@ -137,11 +99,10 @@ pub fn solve_slots_from_certificate(
         w.len(),
         work,
     );
-    if let Outcome::Refused(number, detail) = heard {
+    if let Err(refusal) = heard {
         clear(s);
         clear(w);
-        return Solution::Refused(number, detail);
+        return Err(refusal);
     }
-    let verdict = solve_parts(q, n, m, cert, h, s, w, work);
-    solution_of(verdict)
+    Ok(solve_parts(q, n, m, cert, h, s, w, work))
 }

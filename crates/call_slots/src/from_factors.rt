@@ -5,18 +5,17 @@ ghost use Rattle.column_space.specs.Slots.{solve_slots};
 ghost use Rattle.answer_slots.specs.Needs.{SlotsReady};
 ghost use Rattle.answer_slots.specs.Solving.{SlotsAnswered};
 ghost use Rattle.call_check.specs.Calls.{check_factors_of, Checks};
-ghost use Rattle.call_slots.specs.Calls.{slots_after, slots_factors_of, SolvesIn};
+ghost use Rattle.refusals.specs.Outcome.{outcome_of};
+ghost use Rattle.call_slots.specs.Calls.{given_solution, slots_after, slots_factors_of, SolvesIn};
 ghost use Rattle.sparse.specs.Views.{stored_before, set_at, set_before};
 
 use crate::slots::slot_lengths;
-use crate::{Solution, solution_of};
 use answer_question::question::question_ok;
 use answer_slots::solve::solve;
-use call_check::from_factors::check_stored;
+use call_check::from_factors::{check_stored, stored_set};
 use column_space::SlotVerdict;
 use lists::{clear, clear_row};
-use refusals::Outcome;
-use refusals::numbers::WRONG_LENGTH;
+use refusals::{Fault, Refusal};
 use residue::Modulus;
 
 // The tests of a call with stored factors: 9, 1, 2, 8, 11 to 14, 15; k is the number of owners. The working row is left all zero.
@@ -41,19 +40,16 @@ fn heard_with_factors(
     slen: usize,
     wlen: usize,
     work: &mut [u64],
-) -> Outcome
-    ensures { Checks (slots_after (check_factors_of q.p n m (stored_before starts.now cols.now vals.now) (set_before r ro.now co.now ls.now lc.now lv.now us.now uc.now uv.now) (length work.old)) q.p n m k h.now slen wlen) result work.old work.new }
+) -> Result<(), Refusal>
+    ensures { Checks (slots_after (check_factors_of q.p n m (stored_before starts.now cols.now vals.now) (set_before r ro.now co.now ls.now lc.now lv.now us.now uc.now uv.now) (length work.old)) q.p n m k h.now slen wlen) (outcome_of result) work.old work.new }
 {
     if !slot_lengths(n, m, k, h, slen, wlen) {
         clear_row(work);
-        return Outcome::Refused(WRONG_LENGTH, 0);
+        return Err(Fault::WrongLength.into());
     }
-    let checked = check_stored(
+    check_stored(
         q, n, m, starts, cols, vals, r, ro, co, ls, lc, lv, us, uc, uv, work,
-    );
-    let Outcome::Passed = checked else {
-        return checked;
-    };
+    )?;
     question_ok(h, q.p)
 }
 
@@ -77,11 +73,8 @@ fn solve_stored(
     requires { SlotsReady q.p (set_at r ro.now co.now ls.now lc.now lv.now us.now uc.now uv.now) h.now s.old w.old work.old }
     ensures { SlotsAnswered (solve_slots q.p (length w.old) (length s.old) (set_before r ro.now co.now ls.now lc.now lv.now us.now uc.now uv.now) (vector h.now)) result s.new w.new work.new }
 {
-    let none: &[u8] = b"";
-    solve(
-        q, ro, none, co, none, ls, none, lc, none, lv, none, us, none, uc, none, uv, none,
-        r as usize, h, s, w, work,
-    )
+    let set = stored_set(r, ro, co, ls, lc, lv, us, uc, uv);
+    solve(q, &set, h, s, w, work)
 }
 
 // Answers slot values from stored factors.
@@ -111,8 +104,8 @@ pub fn solve_slots_from_factors(
     s: &mut [u32],
     w: &mut [u32],
     work: &mut [u64],
-) -> Solution
-    ensures { SolvesIn (slots_factors_of p n m (length owners.now) (stored_before starts.now cols.now vals.now) (set_before r ro.now co.now ls.now lc.now lv.now us.now uc.now uv.now) h.now) result s w work }
+) -> Result<SlotVerdict, Refusal>
+    ensures { SolvesIn (slots_factors_of p n m (length owners.now) (stored_before starts.now cols.now vals.now) (set_before r ro.now co.now ls.now lc.now lv.now us.now uc.now uv.now) h.now) (given_solution result) s w work }
 {
     let q = Modulus { p };
     let heard = heard_with_factors(
@@ -137,11 +130,10 @@ pub fn solve_slots_from_factors(
         w.len(),
         work,
     );
-    if let Outcome::Refused(number, detail) = heard {
+    if let Err(refusal) = heard {
         clear(s);
         clear(w);
-        return Solution::Refused(number, detail);
+        return Err(refusal);
     }
-    let verdict = solve_stored(q, r, ro, co, ls, lc, lv, us, uc, uv, h, s, w, work);
-    solution_of(verdict)
+    Ok(solve_stored(q, r, ro, co, ls, lc, lv, us, uc, uv, h, s, w, work))
 }

@@ -17,8 +17,8 @@ use Rattle.lists.specs.Tests.{among}
 use Rattle.refusals.specs.Table.{plan_faults, set_faults, wrong_length}
 use Rattle.lists.specs.Filled.{zeros, filled}
 use Rattle.refusals.specs.Refusals.{unless, number_of, NumberFrom}
-use Rattle.refusals.specs.declared.Outcome.{Outcome}
-use Rattle.refusals.specs.declared.Outcome.TheVariants.{Passed, Refused}
+use Rattle.refusals.specs.Outcome.{Outcome}
+use Rattle.refusals.specs.Outcome.{Passed, Refused}
 use Rattle.lists.proofs.Filled.{filled_none, filled-cut}
 use Rattle.refusals.proofs.Refusals.{RefusedBy, number-from, both-passed, after-passed, unless-true, refused-unless, refused-then, zero-passed}
 use Rattle.sparse.specs.Matrix.{Compressed}
@@ -32,7 +32,7 @@ use Rattle.call_check.specs.Calls.{check_factors_of, check_certificate_of, Check
 use Rattle.call_check.proofs.Theorems.{factors-exactly, factors-numbers, factors-none, certificate-exactly, stored-certificate, bytes-pass}
 use Rattle.call_write.specs.Call.{write_outcome, bytes_given, WritesCertificate}
 use Rattle.call_write.specs.Accepted.{CanWrite}
-use Rattle.call_write.specs.declared.Written.{Written}
+use Rattle.call_write.specs.Written.{Written}
 
 -- ---- the outcome
 

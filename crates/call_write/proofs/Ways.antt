@@ -1,29 +1,31 @@
 -- One law for each way out of writing, and what a set that passed the check is.
 use mathlib.Core.Path.{◌≡◌, refl, sym, ap, ◌∙◌}
 use mathlib.Core.Bool.{Bool, true, false, cond}
-use mathlib.Core.List.{List, [], ◌∷◌}
+use mathlib.Core.List.{List, []}
 use Prim.Native.Nat.{ℕ, ◌^◌}
-use native.Mathlib.Omega.{arith}
 use lib.Dec.{leb}
 use lib.ListN.{length}
+use Rattle.std.specs.Prelude.{Ok, Err}
 use Rattle.lists.specs.Filled.{zeros, filled}
-use Rattle.refusals.specs.Refusals.{unless, number_of, detail_of}
-use Rattle.refusals.specs.declared.Outcome.{Outcome}
-use Rattle.refusals.specs.declared.Outcome.TheVariants.{Passed, Refused}
+use Rattle.refusals.specs.Refusals.{◌▷◌, unless, number_of, detail_of}
+use Rattle.refusals.specs.Outcome.{Outcome}
+use Rattle.refusals.specs.Outcome.{Passed, Refused}
 use Rattle.lists.proofs.Filled.{filled_none}
-use Rattle.refusals.proofs.Refusals.{refused, passed}
+use Rattle.refusals.specs.Faults.{number}
+use Rattle.refusals.specs.declared.Refusal.{Refusal}
+use Rattle.refusals.proofs.Results.{goes_on}
 use Rattle.sparse.specs.Matrix.{Compressed}
 use Rattle.sparse.specs.Set.{Set}
 use Rattle.sparse.specs.Row.{Below}
 use Rattle.certificate.specs.Layout.{certificate_of}
 use Rattle.certificate.specs.Writing.{room_for, written, Writes, Writable}
-use Rattle.certificate.proofs.Rooms.{written-refused, written-passed}
+use Rattle.certificate.proofs.Rooms.{written-tells}
 use Rattle.certificate.proofs.Counts.{entries_below}
 use Rattle.call_check.specs.Calls.{check_factors_of}
 use Rattle.call_check.specs.Passing.{StoredPasses}
 use Rattle.call_check.proofs.Theorems.{factors-exactly}
 use Rattle.call_write.specs.Call.{write_outcome, bytes_given, WritesCertificate}
-use Rattle.call_write.specs.declared.Written.{Written}
+use Rattle.call_write.specs.Written.{Written, written_of}
 
 module _ (p n m : ℕ) (A : Compressed) (s : Set) (w : ℕ) (h : check_factors_of p n m A s w ≡ Passed) where
   checked : StoredPasses p n m A s w
@@ -38,20 +40,14 @@ module _ (p n m : ℕ) (A : Compressed) (s : Set) (w : ℕ) (h : check_factors_o
         ucount = entries_below (2 ^ 32) p m s.U checked.passes.U-form upper;
       }
 
--- a certificate for which there is room is written whole
-written-fits : (room : ℕ) (cert : List ℕ) → room_for room cert ≡ Passed → written room cert ≡ cert
+-- a buffer is given the certificate where there is room for it
+given : (room : ℕ) (cert : List ℕ) → bytes_given (room_for room cert) cert ≡ written room cert
 unfolding written
-written-fits room cert e = go (leb (length cert) room) e
+given room cert = go (leb (length cert) room)
   where
-    go : (t : Bool) → unless t 9 0 ≡ Passed → cond t cert [] ≡ cert
-    go true q = refl
-    go false q = absurd (let z : ◌≡◌ {A = ℕ} 0 1 = cc in omega arith)
-
-kept-refused : (o : Outcome) (cert : List ℕ) (k d : ℕ) → o ≡ Refused k d → bytes_given o cert ≡ []
-kept-refused o cert k d e = ap (λ (u : Outcome). bytes_given u cert) e
-
-abbrev result : Outcome → ℕ → Written
-result o size = record { outcome = o; length = size }
+    go : (t : Bool) → bytes_given (unless t 9 0) cert ≡ cond t cert []
+    go true = refl
+    go false = refl
 
 -- the number and the detail follow from the outcome
 leaves : (o : Outcome) (cert : List ℕ) (r : Written) (b₀ b w₀ w : List ℕ) → r.outcome ≡ o → r.length ≡ length (bytes_given o cert) → b ≡ filled (length b₀) (bytes_given o cert)
@@ -68,35 +64,27 @@ module _ (p n m : ℕ) (A : Compressed) (s : Set) (w₀ w b₀ b : List ℕ) (cl
   abbrev whole : Outcome
   whole = write_outcome p n m A s (length w₀) (length b₀)
 
-  -- a refusal leaves the buffer all zero
-  none : (o : Outcome) (k d : ℕ) → o ≡ Refused k d → o ≡ whole → b ≡ zeros (length b₀) → WritesCertificate whole cert (result o 0) b₀ b w₀ w
-  none o k d f e z =
-      let nothing : bytes_given whole cert ≡ [] = kept-refused whole cert k d (sym e ∙ f) in
-      leaves whole cert (result o 0) b₀ b w₀ w e (sym (ap length nothing)) (z ∙ sym (ap (filled (length b₀)) nothing ∙ filled_none (length b₀))) cleared
-
-  pub refuses : (o : Outcome) (k d : ℕ) → o ≡ Refused k d → o ≡ check → b ≡ zeros (length b₀) → WritesCertificate whole cert (result o 0) b₀ b w₀ w
+  -- a set that is refused leaves the buffer all zero
+  pub refuses : (f : Refusal) → Refused (number f.fault) f.detail ≡ check → b ≡ zeros (length b₀) → WritesCertificate whole cert (written_of (Err f)) b₀ b w₀ w
   unfolding write_outcome
-  refuses o k d f e z = none o k d f (refused o check (room_for (length b₀) cert) k d f e) z
+  refuses f e z =
+      let all : Refused (number f.fault) f.detail ≡ whole = ap (λ (o : Outcome). o ▷ room_for (length b₀) cert) e in
+      let nothing : [] ≡ bytes_given whole cert = ap (λ (o : Outcome). bytes_given o cert) all in
+      leaves whole cert (written_of (Err f)) b₀ b w₀ w all (ap length nothing) (z ∙ sym (filled_none (length b₀)) ∙ ap (filled (length b₀)) nothing) cleared
 
-  module _ (o : Outcome) (f : o ≡ Passed) (e : o ≡ check) (size : ℕ) (r : Writes cert b₀ b size) where
-    pub too_short : size ≡ 0 → WritesCertificate whole cert (result (Refused 9 0) 0) b₀ b w₀ w
+  -- a set that passed, written where the buffer has room
+  module _ (e : Passed ≡ check) (size : ℕ) (r : Writes cert b₀ b size) where
+    last : (o : Outcome) → o ≡ unless (leb 1 size) 9 0 → o ≡ whole
     unfolding write_outcome
-    too_short z =
-        let short = sym (written-refused p n m (length b₀) s (sym r.size_is ∙ z)) in
-        none (Refused 9 0) 9 0 refl (passed o check (room_for (length b₀) cert) (Refused 9 0) f e short)
-        (r.buffer-is ∙ ap (filled (length b₀)) (empty (written (length b₀) cert) (sym r.size_is ∙ z)) ∙ filled_none (length b₀))
-      where
-        empty : (l : List ℕ) → length l ≡ 0 → l ≡ []
-        empty [] q = refl
-        empty (x ∷ l) q = absurd (omega arith)
+    last o f = goes_on check (room_for (length b₀) cert) o e (f ∙ written-tells p n m (length b₀) size s r.size_is)
 
-    pub done : (size ≡ 0 → ⊥) → WritesCertificate whole cert (result Passed size) b₀ b w₀ w
-    unfolding write_outcome
-    done z =
-        let room : room_for (length b₀) cert ≡ Passed = written-passed p n m (length b₀) s (λ q. z (r.size_is ∙ q)) in
-        let all : Passed ≡ whole = passed o check (room_for (length b₀) cert) Passed f e (sym room) in
-        let same : written (length b₀) cert ≡ bytes_given whole cert = fits room ∙ ap (λ (u : Outcome). bytes_given u cert) all in
-        leaves whole cert (result Passed size) b₀ b w₀ w all (r.size_is ∙ ap length same) (r.buffer-is ∙ ap (filled (length b₀)) same) cleared
-      where
-        fits : room_for (length b₀) cert ≡ Passed → written (length b₀) cert ≡ cert
-        fits q = written-fits (length b₀) cert q
+    bytes : written (length b₀) cert ≡ bytes_given whole cert
+    bytes = sym (given (length b₀) cert) ∙ ap (λ (o : Outcome). bytes_given o cert) (sym (written-tells p n m (length b₀) size s r.size_is) ∙ last _ refl)
+
+    pub too_short : (f : Refusal) → Refused (number f.fault) f.detail ≡ unless (leb 1 size) 9 0 → WritesCertificate whole cert (written_of (Err f)) b₀ b w₀ w
+    too_short f h =
+        let all : Refused (number f.fault) f.detail ≡ whole = last _ h in
+        leaves whole cert (written_of (Err f)) b₀ b w₀ w all (ap (λ (o : Outcome). length (bytes_given o cert)) all) (r.buffer-is ∙ ap (filled (length b₀)) bytes) cleared
+
+    pub done : Passed ≡ unless (leb 1 size) 9 0 → WritesCertificate whole cert (written_of (Ok size)) b₀ b w₀ w
+    done h = leaves whole cert (written_of (Ok size)) b₀ b w₀ w (last _ h) (r.size_is ∙ ap length bytes) (r.buffer-is ∙ ap (filled (length b₀)) bytes) cleared

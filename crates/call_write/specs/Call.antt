@@ -7,15 +7,15 @@
 use Rattle.std.specs.Prelude.{ℕ, ◌≡◌, List, [], length}
 use Rattle.lists.specs.Filled.{zeros, filled}
 use Rattle.refusals.specs.Refusals.{◌▷◌, number_of, detail_of}
-use Rattle.refusals.specs.declared.Outcome.{Outcome}
-use Rattle.refusals.specs.declared.Outcome.TheVariants.{Passed, Refused}
+use Rattle.refusals.specs.Outcome.{Outcome}
+use Rattle.refusals.specs.Outcome.{Passed, Refused}
 use Rattle.sparse.specs.Matrix.{Compressed}
 use Rattle.sparse.specs.Set.{Set}
 use Rattle.sparse.specs.Views.{LentList, before, after}
 use Rattle.certificate.specs.Layout.{certificate_of}
 use Rattle.certificate.specs.Writing.{room_for}
 use Rattle.call_check.specs.Calls.{check_factors_of}
-use Rattle.call_write.specs.declared.Written.{Written}
+use Rattle.call_write.specs.Written.{Written}
 
 unfoldable pub write_outcome : (p n m : ℕ) → Compressed → Set → (w room : ℕ) → Outcome
 write_outcome p n m A s w room = check_factors_of p n m A s w ▷ room_for room (certificate_of p n m s)

@@ -3,20 +3,13 @@
 
 ghost use Rattle.certificate.specs.Layout.{certificate_of};
 ghost use Rattle.call_write.specs.Call.{write_outcome, WritesIn};
+ghost use Rattle.call_write.specs.Written.{written_of};
 ghost use Rattle.sparse.specs.Views.{stored_before, set_before};
 
 use call_check::check_factors;
 use certificate::writer::write;
 use lists::clear_bytes;
-use refusals::Outcome;
-use refusals::numbers::WRONG_LENGTH;
-
-// What writing returns: the outcome, and the certificate's length, 0 on a refusal.
-#[derive(Clone, Copy)]
-pub struct Written {
-    pub outcome: Outcome,
-    pub length: usize,
-}
+use refusals::{Fault, Refusal, demand};
 
 // Writes the certificate of a stored set, which is checked first.
 //   takes    a stored plan, a stored set, a buffer and a working row
@@ -41,28 +34,17 @@ pub fn write_certificate(
     uv: &[u32],
     buffer: &mut [u8],
     work: &mut [u64],
-) -> Written
-    ensures { WritesIn (write_outcome p n m (stored_before starts.now cols.now vals.now) (set_before r ro.now co.now ls.now lc.now lv.now us.now uc.now uv.now)) (certificate_of p n m (set_before r ro.now co.now ls.now lc.now lv.now us.now uc.now uv.now)) result buffer work }
+) -> Result<usize, Refusal>
+    ensures { WritesIn (write_outcome p n m (stored_before starts.now cols.now vals.now) (set_before r ro.now co.now ls.now lc.now lv.now us.now uc.now uv.now)) (certificate_of p n m (set_before r ro.now co.now ls.now lc.now lv.now us.now uc.now uv.now)) (written_of result) buffer work }
 {
     let checked = check_factors(
         p, n, m, starts, cols, vals, r, ro, co, ls, lc, lv, us, uc, uv, work,
     );
-    let Outcome::Passed = checked else {
+    if let Err(refusal) = checked {
         clear_bytes(buffer);
-        return Written {
-            outcome: checked,
-            length: 0,
-        };
-    };
+        return Err(refusal);
+    }
     let length = write(p, n, m, r, ro, co, ls, lc, lv, us, uc, uv, buffer);
-    if length == 0 {
-        return Written {
-            outcome: Outcome::Refused(WRONG_LENGTH, 0),
-            length: 0,
-        };
-    }
-    Written {
-        outcome: Outcome::Passed,
-        length,
-    }
+    demand(0 < length, Fault::WrongLength)?;
+    Ok(length)
 }

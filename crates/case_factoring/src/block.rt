@@ -2,10 +2,7 @@
 // what is printed does not tell which way it was. In each plan the first row leads to the second, and the second has the columns that
 // are left: there the other rows would close circles.
 use crate::plans::show;
-use case_print::{number, say};
-use case_run::change;
 use case_run::run::run;
-use std::num::wrapping_add_u32;
 
 pub fn contents(rt: &impl Print) {
     // both rows are sums of the first two
@@ -71,50 +68,25 @@ fn eight(rt: &impl Print, name: &[u8], l: u32, u: u32) {
         b"7\n10 7 M\n1 1 1\n1 2 1\n2 2 1\n2 3 1\n2 4 1\n2 5 1\n2 6 1\n2 7 1\n3 1 1\n3 3 6\n3 5 6\n3 6 1\n3 7 6\n4 1 1\n4 4 6\n4 5 6\n4 6 6\n4 7 2\n5 1 1\n5 3 1\n5 4 1\n5 5 6\n5 6 3\n5 7 5\n6 1 1\n6 3 6\n6 4 6\n6 5 6\n6 6 6\n6 7 6\n7 1 1\n7 4 6\n7 5 3\n7 6 6\n7 7 6\n9 1 1\n9 3 6\n9 4 6\n9 5 6\n9 7 6\n10 1 1\n10 3 6\n10 4 6\n10 5 6\n10 6 6\n10 7 4\n0 0 0\n",
         l,
         u,
-        change::none(),
+        None,
     );
 }
 
 fn rooms_of(rt: &impl Print, l: u32, u: u32) {
-    say(rt, b"eight rows left, rooms");
-    number(rt, l as u64);
-    number(rt, u as u64);
+    let _ = print!(rt; "eight rows left, rooms {l} {u}");
     eight(rt, b"", l, u);
-}
-
-// Six rooms of L, from l on.
-fn six_of_l(rt: &impl Print, l: u32) {
-    rooms_of(rt, l, 32);
-    rooms_of(rt, wrapping_add_u32(l, 1), 32);
-    rooms_of(rt, wrapping_add_u32(l, 2), 32);
-    rooms_of(rt, wrapping_add_u32(l, 3), 32);
-    rooms_of(rt, wrapping_add_u32(l, 4), 32);
-    rooms_of(rt, wrapping_add_u32(l, 5), 32);
-}
-
-// Six rooms of U, from u on.
-fn six_of_u(rt: &impl Print, u: u32) {
-    rooms_of(rt, 32, u);
-    rooms_of(rt, 32, wrapping_add_u32(u, 1));
-    rooms_of(rt, 32, wrapping_add_u32(u, 2));
-    rooms_of(rt, 32, wrapping_add_u32(u, 3));
-    rooms_of(rt, 32, wrapping_add_u32(u, 4));
-    rooms_of(rt, 32, wrapping_add_u32(u, 5));
 }
 
 // Every room of L up to one more than it takes, 24. The first two rows take 2, the others 3, 3, 4, 2, 4, 0, 3 and 3.
 pub fn lower_rooms(rt: &impl Print) {
-    six_of_l(rt, 0);
-    six_of_l(rt, 6);
-    six_of_l(rt, 12);
-    six_of_l(rt, 18);
-    rooms_of(rt, 24, 32);
-    rooms_of(rt, 25, 32);
+    for l in 0..26 {
+        rooms_of(rt, l, 32);
+    }
 }
 
 // Every room of U up to one more than it takes, 16. The first two rows take 8, the others 2, 2, 0, 0, 2, 0, 1 and 1.
 pub fn upper_rooms(rt: &impl Print) {
-    six_of_u(rt, 0);
-    six_of_u(rt, 6);
-    six_of_u(rt, 12);
+    for u in 0..18 {
+        rooms_of(rt, 32, u);
+    }
 }

@@ -1,9 +1,8 @@
 // Plans that are factored with room to spare.
-use case_run::change;
 use case_run::run::run;
 
 pub fn show(rt: &impl Print, name: &[u8], text: &[u8]) {
-    run(rt, name, text, 16, 16, change::none());
+    run(rt, name, text, 16, 16, None);
 }
 
 pub fn sizes(rt: &impl Print) {

@@ -1,9 +1,9 @@
-// What the programs that run cases share: what they print of numbers, outcomes and lists, on standard output, and the first cells of lists.
+// What the programs that run cases share: what they print of numbers, results and lists, on standard output, and the first cells of lists.
 #![tactic(auto)]
 
-ghost use Rattle.std.specs.Prelude.{◌+◌, ◌^◌, ◌≤◌, ◌<◌, length};
+ghost use Rattle.std.specs.Prelude.{◌≤◌, length};
 
-use refusals::Outcome;
+use refusals::Refusal;
 
 pub mod parts;
 
@@ -17,35 +17,24 @@ pub fn number(rt: &impl Print, n: u64) {
     let _ = print!(rt; " {n}");
 }
 
-fn wide(x: u32) -> u64 {
-    x as u64
+// A refusal's number and its detail.
+pub fn refused(rt: &impl Print, refusal: Refusal) {
+    let _ = print!(rt; " {} {}", u32::from(refusal.fault), refusal.detail);
 }
 
-fn wide_byte(x: u8) -> u64 {
-    x as u64
-}
-
-// The number of an outcome, 0 where it passed, and its detail.
-pub fn outcome(rt: &impl Print, o: Outcome) {
-    match o {
-        Outcome::Passed => {
-            number(rt, 0);
-            number(rt, 0);
-        }
-        Outcome::Refused(k, detail) => {
-            number(rt, wide(k));
-            number(rt, wide(detail));
-        }
+// What a call was refused by, or 0 and 0 where it was not.
+pub fn outcome<T>(rt: &impl Print, returned: &Result<T, Refusal>) {
+    match returned {
+        Ok(_) => say(rt, b" 0 0"),
+        Err(refusal) => refused(rt, *refusal),
     }
 }
 
 // A label and the numbers of a list.
 pub fn list(rt: &impl Print, label: &[u8], numbers: &[u32]) {
     say(rt, label);
-    let mut i = 0;
-    while i < numbers.len() {
-        number(rt, wide(numbers[i]));
-        i += 1;
+    for n in numbers {
+        number(rt, *n as u64);
     }
 }
 
@@ -54,50 +43,22 @@ pub fn first_bytes(rt: &impl Print, label: &[u8], bytes: &[u8], count: usize)
     requires { count ≤ length bytes.now }
 {
     say(rt, label);
-    let mut i = 0;
-    while i < count {
-        number(rt, wide_byte(bytes[i]));
-        i += 1;
+    for b in &bytes[..count] {
+        number(rt, *b as u64);
     }
-}
-
-// One more where x is not 0.
-fn counted(count: usize, x: u64) -> usize
-    requires { count < 2 ^ 63 }
-    ensures { result ≤ count + 1 }
-{
-    if x != 0 { count + 1 } else { count }
 }
 
 // How many numbers of a list are not 0.
 pub fn nonzero(numbers: &[u32]) -> usize {
-    let mut count = 0;
-    let mut i = 0;
-    while i < numbers.len() {
-        count = counted(count, wide(numbers[i]));
-        i += 1;
-    }
-    count
+    numbers.iter().filter(|n| **n != 0).count()
 }
 
 // How many bytes of a list are not 0.
 pub fn nonzero_bytes(bytes: &[u8]) -> usize {
-    let mut count = 0;
-    let mut i = 0;
-    while i < bytes.len() {
-        count = counted(count, wide_byte(bytes[i]));
-        i += 1;
-    }
-    count
+    bytes.iter().filter(|b| **b != 0).count()
 }
 
 // How many cells of a working row are not 0.
 pub fn nonzero_row(row: &[u64]) -> usize {
-    let mut count = 0;
-    let mut i = 0;
-    while i < row.len() {
-        count = counted(count, row[i]);
-        i += 1;
-    }
-    count
+    row.iter().filter(|x| **x != 0).count()
 }

@@ -1,20 +1,24 @@
 // What the cases print, on standard output.
 ghost use Rattle.std.specs.Prelude.{◌≤◌, length};
 
-use case_print::{number, outcome, say};
-use text_plan::Reading;
+use case_print::{outcome, say};
+use refusals::Refusal;
+use text_plan::Stated;
 
-// A case's name and what reading returned.
-pub fn line(rt: &impl Print, name: &[u8], r: Reading) {
-    say(rt, name);
-    say(rt, b":");
-    let o = r.outcome;
-    outcome(rt, o);
-    say(rt, b" plan");
-    number(rt, r.p as u64);
-    number(rt, r.n as u64);
-    number(rt, r.m as u64);
-    number(rt, r.count as u64);
+// A case's name and what reading returned; a plan of zeros where it was refused.
+pub fn line(rt: &impl Print, name: &str, read: &Result<Stated, Refusal>) {
+    let plan = match read {
+        Ok(plan) => *plan,
+        Err(_) => Stated {
+            p: 0,
+            n: 0,
+            m: 0,
+            count: 0,
+        },
+    };
+    let _ = print!(rt; "{name}:");
+    outcome(rt, read);
+    let _ = print!(rt; " plan {} {} {} {}", plan.p, plan.n, plan.m, plan.count);
 }
 
 // A line with a label and the numbers of a list.

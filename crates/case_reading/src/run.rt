@@ -4,21 +4,18 @@ ghost use Rattle.std.specs.Prelude.{◌≤◌, length};
 use crate::print;
 use case_print::say;
 
-// The byte `|`.
-const BAR: u8 = 124;
-
 // Reads a text and prints what comes of it.
 fn show(
     rt: &impl Print,
-    name: &[u8],
+    name: &str,
     text: &[u8],
     starts: &mut [u32],
     cols: &mut [u32],
     vals: &mut [u32],
     owners: &mut [u8],
 ) {
-    let r = text_owners::read(text, starts, cols, vals, owners);
-    print::line(rt, name, r);
+    let read = text_owners::read(text, starts, cols, vals, owners);
+    print::line(rt, name, &read);
     say(rt, b" cells");
     case_print::number(rt, case_print::nonzero(starts) as u64);
     case_print::number(rt, case_print::nonzero(cols) as u64);
@@ -30,23 +27,21 @@ fn show(
 // A case is its name, a bar and its text.
 fn show_case(
     rt: &impl Print,
-    case: &[u8],
+    case: &str,
     starts: &mut [u32],
     cols: &mut [u32],
     vals: &mut [u32],
     owners: &mut [u8],
 ) {
-    let name = text_fields::pieces::piece(case, 0, BAR);
-    let e = name.len();
-    if e < case.len() {
-        show(rt, name, &case[e + 1..], starts, cols, vals, owners);
+    if let Some((name, text)) = case.split_once('|') {
+        show(rt, name, text.as_bytes(), starts, cols, vals, owners);
     }
 }
 
 // Reads a case's text into the first a, b, c and d cells of the lists.
 fn show_parts(
     rt: &impl Print,
-    case: &[u8],
+    case: &str,
     starts: &mut [u32],
     a: usize,
     cols: &mut [u32],
@@ -69,7 +64,7 @@ fn show_parts(
 }
 
 // Reads a case's text into lists of these lengths.
-pub fn length_case(rt: &impl Print, case: &[u8], a: usize, b: usize, c: usize, d: usize)
+pub fn length_case(rt: &impl Print, case: &str, a: usize, b: usize, c: usize, d: usize)
     requires { (a ≤ 2050) × (b ≤ 16) × (c ≤ 16) × (d ≤ 2049) }
 {
     let mut starts = [9u32; 2050];
@@ -91,31 +86,31 @@ pub fn length_case(rt: &impl Print, case: &[u8], a: usize, b: usize, c: usize, d
 }
 
 // Reads a case's text into lists with room for so many entries.
-pub fn room_case(rt: &impl Print, case: &[u8], room: usize)
+pub fn room_case(rt: &impl Print, case: &str, room: usize)
     requires { room ≤ 16 }
 {
     length_case(rt, case, 2049, room, room, 2048);
 }
 
-pub fn plain_case(rt: &impl Print, case: &[u8]) {
+pub fn plain_case(rt: &impl Print, case: &str) {
     room_case(rt, case, 16);
 }
 
 // Reads a case's text and prints the first cells of each list too.
-pub fn cells_case(rt: &impl Print, case: &[u8]) {
+pub fn cells_case(rt: &impl Print, case: &str) {
     let mut starts = [9u32; 2049];
     let mut cols = [9u32; 12];
     let mut vals = [9u32; 12];
     let mut owners = [9u8; 2048];
     show_case(rt, case, &mut starts, &mut cols, &mut vals, &mut owners);
-    print::list_line(rt, b"  starts", lists::part(&starts, 0, 7));
+    print::list_line(rt, b"  starts", &starts[..7]);
     print::list_line(rt, b"  columns", &cols);
     print::list_line(rt, b"  values", &vals);
     print::bytes_line(rt, b"  owners", &owners, 7);
 }
 
 // Reads the first n bytes of a text into lists with room for 5,460 entries.
-pub fn long_case(rt: &impl Print, name: &[u8], text: &[u8], n: usize)
+pub fn long_case(rt: &impl Print, name: &str, text: &[u8], n: usize)
     requires { n ≤ length text.now }
 {
     let mut starts = [9u32; 2049];

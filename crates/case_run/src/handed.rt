@@ -1,10 +1,8 @@
 // What factoring is handed: the modulus, the sizes, and the lengths of the plan's lists and of the lent ones.
-use crate::change;
-use crate::change::{Change, given};
-use std::num::wrapping_add_u32;
-use text_plan::Reading;
+use crate::change::{Change, Part, given};
+use text_plan::Stated;
 
-#[derive(Clone, Copy)]
+#[derive(Clone, Copy, Debug, PartialEq, Eq)]
 pub struct Handed {
     pub p: u32,
     pub n: u32,
@@ -25,27 +23,27 @@ pub struct Handed {
 }
 
 // What factoring takes for a plan that was read and for rooms l and u, with one change.
-pub fn prepare(r: Reading, l: u32, u: u32, change: Change) -> Handed {
-    let n = given(change, change::N, r.n);
-    let m = given(change, change::M, r.m);
-    let entries = given(change, change::ENTRIES, r.count);
-    let starts = wrapping_add_u32(n, 1); // no case has an n that wraps
+pub fn prepare(plan: Stated, l: u32, u: u32, change: Option<Change>) -> Handed {
+    let n = given(change, Part::N, plan.n);
+    let m = given(change, Part::M, plan.m);
+    let entries = given(change, Part::Entries, plan.count);
+    let starts = n.wrapping_add(1); // no case has an n that wraps
     Handed {
-        p: given(change, change::P, r.p),
+        p: given(change, Part::P, plan.p),
         n,
         m,
-        starts: given(change, change::STARTS, starts),
-        columns: given(change, change::COLUMNS, entries),
-        values: given(change, change::VALUES, entries),
-        owners: given(change, change::OWNERS, m),
-        rows: given(change, change::R, n),
-        cols: given(change, change::C, m),
-        ls: given(change, change::L_STARTS, starts),
-        lc: given(change, change::L_COLUMNS, l),
-        lv: given(change, change::L_VALUES, l),
-        us: given(change, change::U_STARTS, starts),
-        uc: given(change, change::U_COLUMNS, u),
-        uv: given(change, change::U_VALUES, u),
-        work: given(change, change::WORK, 2048),
+        starts: given(change, Part::Starts, starts),
+        columns: given(change, Part::Columns, entries),
+        values: given(change, Part::Values, entries),
+        owners: given(change, Part::Owners, m),
+        rows: given(change, Part::R, n),
+        cols: given(change, Part::C, m),
+        ls: given(change, Part::LStarts, starts),
+        lc: given(change, Part::LColumns, l),
+        lv: given(change, Part::LValues, l),
+        us: given(change, Part::UStarts, starts),
+        uc: given(change, Part::UColumns, u),
+        uv: given(change, Part::UValues, u),
+        work: given(change, Part::Work, 2048),
     }
 }

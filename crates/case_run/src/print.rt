@@ -1,20 +1,27 @@
 // What the cases print, on standard output.
 use case_print::parts::first;
-use case_print::{list, nonzero, nonzero_row, number, outcome, say};
-use factor_all::factor::Factored;
-use refusals::Outcome;
-use std::num::wrapping_add_u32;
+use case_print::{list, nonzero, nonzero_row, number, outcome, refused, say};
+use factor_all::factor::Ranks;
+use refusals::Refusal;
 
-// A case's name and what factoring returned.
-fn line(rt: &impl Print, name: &[u8], f: Factored) {
+// A case whose text is refused.
+pub fn not_read(rt: &impl Print, name: &[u8], refusal: Refusal) {
+    say(rt, name);
+    say(rt, b": not read");
+    refused(rt, refusal);
+    say(rt, b"\n");
+}
+
+// A case's name and what factoring returned; no rank where it was refused.
+fn line(rt: &impl Print, name: &[u8], factored: &Result<Ranks, Refusal>) {
+    let (rank, structural) = match factored {
+        Ok(ranks) => (ranks.rank, ranks.structural),
+        Err(_) => (0, 0),
+    };
     say(rt, name);
     say(rt, b":");
-    let o = f.outcome;
-    outcome(rt, o);
-    say(rt, b" rank");
-    number(rt, f.rank as u64);
-    say(rt, b" structural");
-    number(rt, f.structural as u64);
+    outcome(rt, factored);
+    let _ = print!(rt; " rank {rank} structural {structural}");
 }
 
 // How many cells of each lent list are not 0.
@@ -43,17 +50,11 @@ fn cells(
     say(rt, b"\n");
 }
 
-// The number at a place of a list, or 0 where the list is shorter.
-fn at(list: &[u32], i: u32) -> u32 {
-    let k = lists::index(i);
-    if k < list.len() { list[k] } else { 0 }
-}
-
 // A stored factor of so many rows.
 fn factor(rt: &impl Print, label: &[u8], height: u32, starts: &[u32], cols: &[u32], vals: &[u32]) {
-    let entries = at(starts, height);
+    let entries = starts.get(height as usize).copied().unwrap_or(0);
     say(rt, label);
-    list(rt, b" starts", first(starts, wrapping_add_u32(height, 1)));
+    list(rt, b" starts", first(starts, height.wrapping_add(1)));
     list(rt, b" columns", first(cols, entries));
     list(rt, b" values", first(vals, entries));
     say(rt, b"\n");
@@ -71,7 +72,7 @@ pub fn result(
     rt: &impl Print,
     name: &[u8],
     n: u32,
-    f: Factored,
+    factored: &Result<Ranks, Refusal>,
     ro: &[u32],
     co: &[u32],
     ls: &[u32],
@@ -82,12 +83,11 @@ pub fn result(
     uv: &[u32],
     work: &[u64],
 ) {
-    line(rt, name, f);
+    line(rt, name, factored);
     cells(rt, ro, co, ls, lc, lv, us, uc, uv, work);
-    let o = f.outcome;
-    if let Outcome::Passed = o {
+    if let Ok(ranks) = factored {
         orders(rt, ro, co);
         factor(rt, b"  L", n, ls, lc, lv);
-        factor(rt, b"  U", f.rank, us, uc, uv);
+        factor(rt, b"  U", ranks.rank, us, uc, uv);
     }
 }

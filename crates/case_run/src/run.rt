@@ -1,11 +1,12 @@
 // Runs a case: a plan's text is read into lists of 9s, one thing is changed, the plan is factored into lists of 9s, and what comes
 // of it is printed.
-use crate::change::{Change, put_first};
+use crate::change::{Change, Part, put_first};
 use crate::handed::{Handed, prepare};
-use crate::{change, print};
+use crate::print;
 use call_owned::factor::factor;
 use case_print::parts::{first, first_bytes, within, within_bytes, within_row};
-use text_plan::Reading;
+use refusals::Refusal;
+use text_plan::Stated;
 
 // Factors a plan into lent lists and prints what it returned and left.
 fn factor_and_print(
@@ -26,10 +27,12 @@ fn factor_and_print(
     uv: &mut [u32],
     work: &mut [u64],
 ) {
-    let f = factor(
+    let factored = factor(
         h.p, h.n, h.m, starts, cols, vals, owners, ro, co, ls, lc, lv, us, uc, uv, work,
     );
-    print::result(rt, name, h.n, f, ro, co, ls, lc, lv, us, uc, uv, work);
+    print::result(
+        rt, name, h.n, &factored, ro, co, ls, lc, lv, us, uc, uv, work,
+    );
 }
 
 // Lends lists of 9s, as many cells of each as are to be handed.
@@ -84,29 +87,35 @@ fn lend(
 // the case changes there.
 fn read(
     text: &[u8],
-    change: Change,
+    change: Option<Change>,
     starts: &mut [u32],
     cols: &mut [u32],
     vals: &mut [u32],
     owners: &mut [u8],
-) -> Reading {
+) -> Result<Stated, Refusal> {
     let e = within(starts, 2049);
     let k = within_bytes(owners, 2048);
-    let r = text_owners::read(text, &mut starts[..e], cols, vals, &mut owners[..k]);
-    put_first(change, change::FIRST_START, starts);
-    put_first(change, change::FIRST_COLUMN, cols);
-    put_first(change, change::FIRST_VALUE, vals);
-    r
+    let plan = text_owners::read(text, &mut starts[..e], cols, vals, &mut owners[..k]);
+    put_first(change, Part::FirstStart, starts);
+    put_first(change, Part::FirstColumn, cols);
+    put_first(change, Part::FirstValue, vals);
+    plan
 }
 
-// Runs a case with rooms l and u for the entries of L and U.
-pub fn run(rt: &impl Print, name: &[u8], text: &[u8], l: u32, u: u32, change: Change) {
+// Runs a case with rooms l and u for the entries of L and U. A text that is refused has no plan to factor.
+pub fn run(rt: &impl Print, name: &[u8], text: &[u8], l: u32, u: u32, change: Option<Change>) {
     let mut starts = [9u32; 2050];
     let mut cols = [9u32; 16385];
     let mut vals = [9u32; 16385];
     let mut owners = [9u8; 2050];
-    let r = read(text, change, &mut starts, &mut cols, &mut vals, &mut owners);
-    let h = prepare(r, l, u, change);
+    let plan = match read(text, change, &mut starts, &mut cols, &mut vals, &mut owners) {
+        Ok(plan) => plan,
+        Err(refusal) => {
+            print::not_read(rt, name, refusal);
+            return;
+        }
+    };
+    let h = prepare(plan, l, u, change);
     lend(
         rt,
         name,

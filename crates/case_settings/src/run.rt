@@ -18,10 +18,12 @@ fn give(
     basis: &mut [u32],
     work: &mut [u64],
 ) {
-    let o = kernel_basis_from_certificate(p, n, m, starts, cols, vals, owners, cert, basis, work);
+    let given = kernel_basis_from_certificate(
+        p, n, m, starts, cols, vals, owners, cert, basis, work,
+    );
     say(rt, name);
     say(rt, b":");
-    outcome(rt, o);
+    outcome(rt, &given);
     list(rt, b" settings", basis);
     say(rt, b" row");
     number(rt, nonzero_row(work) as u64);

@@ -1,23 +1,13 @@
 // Plan D with one list too short, or too long.
 use crate::plan_d::{lend, lists};
-use crate::run::Lent;
+use crate::run::{Lent, fitting};
 
 fn with(rt: &impl Print, name: &[u8], owners: u32, s: u32, w: u32, work: u32) {
     lend(rt, name, &[1, 2, 4, 3, 5], Lent { owners, s, w, work });
 }
 
 fn values(rt: &impl Print, name: &[u8], h: &[u32]) {
-    lend(
-        rt,
-        name,
-        h,
-        Lent {
-            owners: 5,
-            s: 5,
-            w: 5,
-            work: 2048,
-        },
-    );
+    lend(rt, name, h, fitting(5, 5));
 }
 
 // A list of the plan or of the set, one too short or one too long.
@@ -41,12 +31,7 @@ fn set(
         us,
         uv,
         &[1, 2, 4, 3, 5],
-        Lent {
-            owners: 5,
-            s: 5,
-            w: 5,
-            work: 2048,
-        },
+        fitting(5, 5),
     );
 }
 

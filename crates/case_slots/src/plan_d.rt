@@ -1,5 +1,5 @@
 // Document 01's plan D: slot values that a setting gives, that contradict each other, and that are no residues.
-use crate::run::{Lent, run, run_changed};
+use crate::run::{Lent, fitting, run, run_changed};
 
 // D with its own set; some of the lists may be others, and lists of any length lent.
 pub fn lists(
@@ -74,12 +74,7 @@ fn changed(rt: &impl Print, name: &[u8], place: usize, byte: u8, size: usize) {
         &[0, 2, 1, 2, 1, 3, 4],
         &[1, 4, 3, 1, 1, 5, 1],
         &[1, 2, 4, 3, 7],
-        Lent {
-            owners: 5,
-            s: 5,
-            w: 5,
-            work: 2048,
-        },
+        fitting(5, 5),
         place,
         byte,
         size,
@@ -100,17 +95,7 @@ pub fn certificates(rt: &impl Print) {
 
 // The same with lists of their lengths.
 fn show(rt: &impl Print, name: &[u8], h: &[u32]) {
-    lend(
-        rt,
-        name,
-        h,
-        Lent {
-            owners: 5,
-            s: 5,
-            w: 5,
-            work: 2048,
-        },
-    );
+    lend(rt, name, h, fitting(5, 5));
 }
 
 pub fn settings(rt: &impl Print) {

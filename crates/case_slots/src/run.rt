@@ -1,10 +1,11 @@
 // Runs a case: slot values are answered from stored factors and from their certificate, into lists of 9s, and what comes of it is printed.
 use call_owned::write::write_certificate;
-use call_slots::Solution;
 use call_slots::from_certificate::solve_slots_from_certificate;
 use call_slots::from_factors::solve_slots_from_factors;
 use case_print::parts::{first_bytes, first_size, within, within_row};
-use case_print::{list, nonzero_row, number, say};
+use case_print::{list, nonzero_row, number, refused, say};
+use column_space::SlotVerdict;
+use refusals::Refusal;
 
 // How much is lent, by the number of cells.
 #[derive(Clone, Copy)]
@@ -15,18 +16,23 @@ pub struct Lent {
     pub work: u32,
 }
 
-fn verdict(rt: &impl Print, a: Solution) {
-    match a {
-        Solution::Refused(k, detail) => {
+// What a plan of n slots and m words takes.
+pub fn fitting(n: u32, m: u32) -> Lent {
+    Lent {
+        owners: m,
+        s: m,
+        w: n,
+        work: 2048,
+    }
+}
+
+fn verdict(rt: &impl Print, answer: Result<SlotVerdict, Refusal>) {
+    match answer {
+        Ok(SlotVerdict::Solved) => say(rt, b" solved"),
+        Ok(SlotVerdict::Contradiction) => say(rt, b" contradiction"),
+        Err(refusal) => {
             say(rt, b" refused");
-            number(rt, k as u64);
-            number(rt, detail as u64);
-        }
-        Solution::Solved => {
-            say(rt, b" solved");
-        }
-        Solution::Contradiction => {
-            say(rt, b" contradiction");
+            refused(rt, refusal);
         }
     }
 }
@@ -36,14 +42,14 @@ fn result(
     rt: &impl Print,
     name: &[u8],
     from: &[u8],
-    a: Solution,
+    answer: Result<SlotVerdict, Refusal>,
     s: &[u32],
     w: &[u32],
     work: &[u64],
 ) {
     say(rt, name);
     say(rt, from);
-    verdict(rt, a);
+    verdict(rt, answer);
     list(rt, b" s", s);
     list(rt, b" w", w);
     say(rt, b" row");
@@ -240,13 +246,13 @@ fn certify(
         buffer,
         &mut work,
     );
-    written.length
+    written.unwrap_or(0)
 }
 
 // Puts a byte at a place, where there is one.
 fn put_byte(bytes: &mut [u8], place: usize, byte: u8) {
-    if place < bytes.len() {
-        bytes[place] = byte;
+    if let Some(cell) = bytes.get_mut(place) {
+        *cell = byte;
     }
 }
 

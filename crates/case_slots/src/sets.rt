@@ -1,14 +1,5 @@
 // Small plans: without slots or words, sets of another maker whose dependent rows fall, other moduli, and sets that do not pass.
-use crate::run::{Lent, run};
-
-fn lists(n: u32, m: u32) -> Lent {
-    Lent {
-        owners: m,
-        s: m,
-        w: n,
-        work: 2048,
-    }
-}
+use crate::run::{fitting, run};
 
 // No slots, no words, and neither.
 pub fn sizes(rt: &impl Print) {
@@ -31,7 +22,7 @@ pub fn sizes(rt: &impl Print) {
         &[],
         &[],
         &[],
-        lists(0, 0),
+        fitting(0, 0),
     );
     run(
         rt,
@@ -52,7 +43,7 @@ pub fn sizes(rt: &impl Print) {
         &[],
         &[],
         &[],
-        lists(0, 3),
+        fitting(0, 3),
     );
     wordless(rt, b"3 by 0, all slots 0", &[0, 0, 0]);
     wordless(rt, b"3 by 0, the last slot", &[0, 0, 4]);
@@ -79,7 +70,7 @@ fn wordless(rt: &impl Print, name: &[u8], h: &[u32]) {
         &[],
         &[],
         h,
-        lists(3, 0),
+        fitting(3, 0),
     );
 }
 
@@ -104,7 +95,7 @@ fn multiples(rt: &impl Print, name: &[u8], ro: &[u32], lv: &[u32], h: &[u32]) {
         &[0, 1],
         &[1, 5],
         h,
-        lists(4, 2),
+        fitting(4, 2),
     );
 }
 
@@ -175,7 +166,7 @@ fn opposite(rt: &impl Print, name: &[u8], p: u32, last: u32, h: &[u32]) {
         &[0],
         &[1],
         h,
-        lists(2, 1),
+        fitting(2, 1),
     );
 }
 

@@ -1,5 +1,5 @@
 -- Laws of writing into a lent buffer: both ways out, and how its length tells refusal 9.
-use mathlib.Core.Path.{◌≡◌, refl, sym, ap, ◌∙◌}
+use mathlib.Core.Path.{◌≡◌, sym, ap, ◌∙◌}
 use mathlib.Core.Bool.{Bool, true, false, cond}
 use mathlib.Core.List.{List, []}
 use Prim.Native.Nat.{ℕ, ◌+◌, ◌≤◌, ◌<◌}
@@ -9,7 +9,6 @@ use lib.ListN.{length}
 use borrow.Author.Tests.{le-leb, lt-leb}
 use Rattle.lists.specs.Filled.{zeros, filled}
 use Rattle.refusals.specs.Refusals.{unless}
-use Rattle.refusals.specs.declared.Outcome.TheVariants.{Passed, Refused}
 use Rattle.lists.proofs.Filled.{filled_none}
 use Rattle.lists.specs.Stored.{Stored}
 use Rattle.lists.proofs.Stored.{stored-filled}
@@ -45,19 +44,11 @@ length-opening : (p n m : ℕ) (s : Set) → 0 < length (certificate_of p n m s)
 unfolding certificate_of mark
 length-opening p n m s = omega arith
 
-module _ (p n m room : ℕ) (s : Set) where
-  pub written-refused : length (written room (certificate_of p n m s)) ≡ 0 → room_for room (certificate_of p n m s) ≡ Refused 9 0
-  unfolding written
-  written-refused = go (leb (length (certificate_of p n m s)) room)
-    where
-      go : (t : Bool) → length (cond t (certificate_of p n m s) []) ≡ 0 → unless t 9 0 ≡ Refused 9 0
-      go true e = absurd (omega (arith, length-opening p n m s))
-      go false e = refl
-
-  pub written-passed : (length (written room (certificate_of p n m s)) ≡ 0 → ⊥) → room_for room (certificate_of p n m s) ≡ Passed
-  unfolding written
-  written-passed = go (leb (length (certificate_of p n m s)) room)
-    where
-      go : (t : Bool) → (length (cond t (certificate_of p n m s) []) ≡ 0 → ⊥) → unless t 9 0 ≡ Passed
-      go true e = refl
-      go false e = absurd (e refl)
+-- the length that is returned tests what room_for tests
+pub written-tells : (p n m room size : ℕ) (s : Set) → size ≡ length (written room (certificate_of p n m s)) → unless (leb 1 size) 9 0 ≡ room_for room (certificate_of p n m s)
+unfolding written
+written-tells p n m room size s = go (leb (length (certificate_of p n m s)) room)
+  where
+    go : (t : Bool) → size ≡ length (cond t (certificate_of p n m s) []) → unless (leb 1 size) 9 0 ≡ unless t 9 0
+    go true e = ap (λ (b : Bool). unless b 9 0) (le-leb 1 size (omega (arith, e, length-opening p n m s)))
+    go false e = ap (λ (b : Bool). unless b 9 0) (lt-leb 1 size (omega (arith, e)))

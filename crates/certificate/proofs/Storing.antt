@@ -1,8 +1,8 @@
 -- Numbers stored as bytes, one run after another, and the loop that stores them.
 use mathlib.Core.Path.{◌≡◌, refl, sym, ap}
 use mathlib.Core.List.{List, [], ◌∷◌, ◌++◌}
-use Prim.Native.Nat.{ℕ, suc, ◌+◌, ◌/◌, ◌%◌, ◌≤◌, ◌<◌}
-use lib.ListN.{length, get_or, drop, set, drop_of_length-le}
+use Prim.Native.Nat.{ℕ, ◌+◌, ◌≤◌, ◌<◌}
+use lib.ListN.{length, get_or, drop, drop_of_length-le}
 use lib.Seq.{sets}
 use Rattle.lists.proofs.Steps.{drop-step}
 use Rattle.lists.specs.Stored.{Stored}
@@ -15,11 +15,6 @@ pub numbers-then : {b₀ b₁ b₂ : List ℕ} {at mid next : ℕ} (xs ys : List
 numbers-then xs ys s t = stored-as (sym (bytes-append xs ys)) (stored-then s t)
 
 -- one number
-pub word-stores : (l : List ℕ) (at x i j k : ℕ) → i ≡ suc at → j ≡ suc (suc at) → k ≡ suc (suc (suc at))
-    → set (set (set (set l at (x % 256)) i (x / 256 % 256)) j (x / 65536 % 256)) k (x / 16777216 % 256) ≡ sets l at (bytes (x ∷ []))
-unfolding bytes
-word-stores l at x i j k e f g = λ z. set (set (set (set l at (x % 256)) (e z) (x / 256 % 256)) (f z) (x / 65536 % 256)) (g z) (x / 16777216 % 256)
-
 pub word-stored : {b b' : List ℕ} {at : ℕ} (x : ℕ) → b' ≡ sets b at (bytes (x ∷ [])) → Stored b b' at (at + 4) (bytes (x ∷ []))
 unfolding bytes
 word-stored x e = record { now-is = e; next-is = refl }

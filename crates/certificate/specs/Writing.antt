@@ -8,7 +8,7 @@ use Rattle.std.specs.Prelude.{ℕ, ◌≤◌, ◌<◌, ◌^◌, cond, List, [], 
 use Rattle.lists.specs.Filled.{filled}
 use Rattle.refusals.specs.Table.{wrong_length}
 use Rattle.refusals.specs.Refusals.{unless}
-use Rattle.refusals.specs.declared.Outcome.{Outcome}
+use Rattle.refusals.specs.Outcome.{Outcome}
 use Rattle.sparse.specs.Set.{Set}
 use Rattle.certificate.specs.Layout.{certificate_of, Sized}
 

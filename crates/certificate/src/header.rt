@@ -1,25 +1,8 @@
 // The test of a certificate's header.
 ghost use Rattle.std.specs.Prelude.{◌≡◌, ◌≤◌, length};
-ghost use Rattle.certificate.specs.Reading.{begins, length_ok, sizes_ok, header_ok};
+ghost use Rattle.certificate.specs.Reading.{length_ok, sizes_ok, header_ok};
 
 use crate::parts::{number, places_of};
-
-// Whether s begins with the bytes of start.
-fn starts_with(s: &[u8], start: &[u8]) -> bool
-    ensures { result ≡ begins start.now s.now }
-{
-    let mut i = 0;
-    while i < start.len() {
-        if s.len() <= i {
-            return false;
-        }
-        if s[i] != start[i] {
-            return false;
-        }
-        i += 1;
-    }
-    true
-}
 
 // Whether the length is the one that the header's own numbers give.
 fn length_ok(cert: &[u8]) -> bool
@@ -53,13 +36,13 @@ fn sizes_ok(cert: &[u8], p: u32, n: u32, m: u32) -> bool
 pub fn header_ok(cert: &[u8], p: u32, n: u32, m: u32) -> bool
     ensures { result ≡ header_ok p n m cert.now }
 {
-    if !starts_with(cert, b"PLQ") {
+    if !cert.starts_with(b"PLQ") {
         return false;
     }
     if cert.len() < 29 {
         return false;
     }
-    if !starts_with(&cert[3..], b"\x01\x00") {
+    if !cert[3..].starts_with(b"\x01\x00") {
         return false;
     }
     if !length_ok(cert) {

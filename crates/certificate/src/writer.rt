@@ -15,10 +15,7 @@ fn put_word(x: u32, buffer: &mut [u8], at: usize)
     requires { at + 4 ≤ length buffer.old }
     ensures { buffer.new ≡ sets buffer.old at (bytes (x ∷ [])) }
 {
-    buffer[at] = (x % 256) as u8;
-    buffer[at + 1] = (x / 256 % 256) as u8;
-    buffer[at + 2] = (x / 65536 % 256) as u8;
-    buffer[at + 3] = (x / 16777216 % 256) as u8;
+    buffer[at..at + 4].copy_from_slice(&x.to_le_bytes());
 }
 
 // Stores the numbers of a list from a place on; the place after them.
@@ -27,11 +24,9 @@ fn put_words(list: &[u32], buffer: &mut [u8], at: usize) -> usize
     ensures { Stored buffer.old buffer.new at result (bytes list.now) }
 {
     let mut next = at;
-    let mut i = 0;
-    while i < list.len() {
-        put_word(list[i], buffer, next);
+    for x in list {
+        put_word(*x, buffer, next);
         next += 4;
-        i += 1;
     }
     next
 }

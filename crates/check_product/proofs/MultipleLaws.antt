@@ -4,7 +4,6 @@ use mathlib.Core.Bool.{true}
 use mathlib.Core.List.{List, [], ◌∷◌}
 use Prim.Native.Nat.{ℕ, suc, ◌+◌, ◌-◌, ◌*◌, ◌%◌, ◌≤◌, ◌<◌}
 use native.Mathlib.Omega.{arith}
-use native.Mathlib.Decide.{ℕ_discrete}
 use lib.Dec.{eqb}
 use lib.ListN.{length, get_or}
 use lib.Seq.{length-slice, ext_get_or}
@@ -37,28 +36,9 @@ weigh-multiple p c f (k ∷ ks) (v ∷ vs) (u ∷ us) q h =
 -- ---- the loop over the places of two rows
 
 pub record Matching (p c : ℕ) (cols vals cols' vals' : List ℕ) (t : ℕ) : Type 0 where
-  pub inside : t ≤ length cols
   pub long : length cols' ≡ length cols
   pub columns : (s : ℕ) → s < t → get_or cols' s 0 ≡ get_or cols s 0
   pub values : (s : ℕ) → s < t → (c * get_or vals' s 0) % p ≡ get_or vals s 0
-
-pub matching-starts : (p c : ℕ) (cols vals cols' vals' : List ℕ) → length cols' ≡ length cols → Matching p c cols vals cols' vals' 0
-matching-starts p c cols vals cols' vals' q =
-    record { inside = omega arith; long = q; columns = λ s h. absurd (omega arith); values = λ s h. absurd (omega arith) }
-
-pub matching-turn : (p c : ℕ) (cols vals cols' vals' : List ℕ) (t : ℕ) → t < length cols → get_or cols' t 0 ≡ get_or cols t 0 → (c * get_or vals' t 0) % p ≡ get_or vals t 0
-    → Matching p c cols vals cols' vals' t → Matching p c cols vals cols' vals' (t + 1)
-matching-turn p c cols vals cols' vals' t h ec ev m =
-    record {
-      inside = omega arith;
-      long = m.long;
-      columns = λ s g. next (λ i. get_or cols' i 0) (λ i. get_or cols i 0) ec m.columns s g (ℕ_discrete s t);
-      values = λ s g. next (λ i. (c * get_or vals' i 0) % p) (λ i. get_or vals i 0) ev m.values s g (ℕ_discrete s t);
-    }
-  where
-    next : (f g : ℕ → ℕ) → f t ≡ g t → ((s : ℕ) → s < t → f s ≡ g s) → (s : ℕ) → s < t + 1 → Dec (s ≡ t) → f s ≡ g s
-    next f g e below s b (yes q) = ap f q ∙ e ∙ sym (ap g q)
-    next f g e below s b (no q) = below s (omega arith)
 
 pub matching-ends : (p c : ℕ) (cols vals cols' vals' : List ℕ) (t : ℕ) → length cols ≤ t → length cols ≡ length vals → length cols' ≡ length vals'
     → Matching p c cols vals cols' vals' t → MultipleOf p c cols vals cols' vals'

@@ -1,6 +1,6 @@
 -- The product of a set, compared with the matrix row by row.
 use mathlib.Core.Path.{◌≡◌, refl, sym, ap, ◌∙◌}
-use mathlib.Core.Bool.{Bool, true, false, not, ◌&&◌}
+use mathlib.Core.Bool.{Bool, true, false, ◌&&◌}
 use mathlib.Core.List.{List}
 use Prim.Native.Nat.{ℕ, zero, suc, ◌+◌, ◌-◌, ◌*◌, ◌%◌, ◌≤◌, ◌<◌}
 use native.Mathlib.Omega.{arith}
@@ -9,7 +9,7 @@ use lib.Dec.{eqb}
 use lib.ListN.{length, get_or, set, length-set}
 use lib.Seq.{get_or-set_same, get_or-set_other, ext_get_or}
 use native.Mathlib.Decide.{ℕ_discrete}
-use borrow.Author.Tests.{not-false, eqb-true, eqb-false, eq-eqb, ne_eqb}
+use borrow.Author.Tests.{eqb-true, eqb-false, eq-eqb, ne_eqb}
 use Rattle.lists.specs.Filled.{zeros}
 use Rattle.lists.specs.Tests.{all}
 use Rattle.lists.proofs.Filled.{zeros-at, length-zeros}
@@ -87,7 +87,6 @@ loaded p a w₀ w pos none d j h =
 -- ---- the test and the clearing of the working row
 
 pub record Clearing (p : ℕ) (w₀ w : List ℕ) (zero : Bool) (j : ℕ) : Type 0 where
-  pub inside : j ≤ length w₀
   pub long : length w ≡ length w₀
   pub emptied : (k : ℕ) → k < j → get_or w k 0 ≡ 0
   pub kept : (k : ℕ) → j ≤ k → get_or w k 0 ≡ get_or w₀ k 0
@@ -95,12 +94,11 @@ pub record Clearing (p : ℕ) (w₀ w : List ℕ) (zero : Bool) (j : ℕ) : Type
 
 pub clearing-starts : (p : ℕ) (w : List ℕ) → Clearing p w w true 0
 unfolding all
-clearing-starts p w = record { inside = omega arith; long = refl; emptied = λ k h. absurd (omega arith); kept = λ k h. refl; so_far = refl }
+clearing-starts p w = record { long = refl; emptied = λ k h. absurd (omega arith); kept = λ k h. refl; so_far = refl }
 
 pub clearing-turn : (p : ℕ) (w₀ w : List ℕ) (z z' : Bool) (j : ℕ) → j < length w → z' ≡ (z && eqb (get_or w j 0 % p) 0) → Clearing p w₀ w z j → Clearing p w₀ (set w j 0) z' (j + 1)
 clearing-turn p w₀ w z z' j h e d =
     record {
-      inside = omega (arith, d.long);
       long = length-set w j 0 ∙ d.long;
       emptied = λ k g. gone k g (ℕ_discrete k j);
       kept = λ k g. get_or-set_other w j k 0 0 (λ q. omega arith) ∙ d.kept k (omega arith);
@@ -111,9 +109,9 @@ clearing-turn p w₀ w z z' j h e d =
     gone k g (yes q) = ap (λ (i : ℕ). get_or (set w j 0) i 0) q ∙ get_or-set_same w j 0 0 h
     gone k g (no q) = get_or-set_other w j k 0 0 q ∙ d.emptied k (omega arith)
 
-pub clearing-ends : (p : ℕ) (w₀ w : List ℕ) (z : Bool) (j : ℕ) → length w ≤ j → Clearing p w₀ w z j → TestedAndCleared p w₀ w z
+pub clearing-ends : (p : ℕ) (w₀ w : List ℕ) (z : Bool) (j : ℕ) → j ≡ length w → Clearing p w₀ w z j → TestedAndCleared p w₀ w z
 clearing-ends p w₀ w z j h d =
-    let q : j ≡ length w₀ = omega (arith, d.long, d.inside) in
+    let q : j ≡ length w₀ = omega (arith, d.long) in
     record {
       tested = d.so_far ∙ ap (λ (n : ℕ). all n (λ k. eqb (get_or w₀ k 0 % p) 0)) q;
       cleared = ext_get_or 0 w (zeros (length w₀)) (d.long ∙ sym (length-zeros (length w₀))) (λ k g. d.emptied k (omega arith) ∙ sym (zeros-at (length w₀) k));
@@ -121,20 +119,8 @@ clearing-ends p w₀ w z j h d =
 
 -- a loop that stops at the first that fails, and leaves w as it was
 pub record Scanning (n : ℕ) (t : ℕ → Bool) (w₀ w : List ℕ) (i : ℕ) : Type 0 where
-  pub inside : i ≤ n
   pub same : w ≡ w₀
   pub passed : (k : ℕ) → k < i → t k ≡ true
-
-pub scanning-starts : (n : ℕ) (t : ℕ → Bool) (w : List ℕ) → Scanning n t w w 0
-scanning-starts n t w = record { inside = omega arith; same = refl; passed = λ k h. absurd (omega arith) }
-
-pub scanning-turn : (n : ℕ) (t : ℕ → Bool) (w₀ w w' : List ℕ) (i : ℕ) (b : Bool) → i < n → b ≡ t i → not b ≡ false → w' ≡ w → Scanning n t w₀ w i → Scanning n t w₀ w' (i + 1)
-scanning-turn n t w₀ w w' i b h e q l s =
-    record { inside = omega arith; same = l ∙ s.same; passed = λ k g. go k g (ℕ_discrete k i) }
-  where
-    go : (k : ℕ) → k < i + 1 → Dec (k ≡ i) → t k ≡ true
-    go k g (yes r) = ap t r ∙ sym e ∙ not-false b q
-    go k g (no r) = s.passed k (omega arith)
 
 -- zeros are cells
 pub zero-below : (p : ℕ) (w : List ℕ) → 0 < p → w ≡ zeros (length w) → Below (p * p) w

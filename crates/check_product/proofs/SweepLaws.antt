@@ -1,19 +1,18 @@
 -- Laws of the sweep: cells cleared one after another, and what is 0 where no row has an entry.
 use mathlib.Core.Path.{◌≡◌, refl, sym, ap, ◌∙◌}
 use mathlib.Core.Logic.{◌⊎◌, inl, inr}
-use mathlib.Core.Bool.{Bool, true, false, ◌&&◌}
+use mathlib.Core.Bool.{Bool, true, false}
 use mathlib.Core.List.{List, [], ◌∷◌}
 use Prim.Native.Nat.{ℕ, suc, ◌+◌, ◌*◌, ◌%◌, ◌≤◌, ◌<◌}
 use native.Mathlib.Omega.{arith}
 use native.Mathlib.Nat.{zero-mod}
 use native.Mathlib.Decide.{ℕ_discrete}
 use lib.Dec.{eqb}
-use lib.ListN.{length, get_or, set, length-set}
-use lib.Seq.{get_or-set_same, get_or-set_other, ext_get_or}
+use lib.ListN.{length, get_or}
+use lib.Seq.{ext_get_or}
 use borrow.Author.Tests.{eqb-true, eq-eqb}
 use Rattle.lists.specs.Filled.{zeros}
 use Rattle.lists.specs.Tests.{all}
-use Rattle.lists.proofs.Bools.{and_both, and_left, and_right}
 use Rattle.lists.proofs.Filled.{zeros-at, length-zeros}
 use Rattle.lists.proofs.Tests.{all-at, all_pass}
 use Rattle.sparse.specs.Row.{weigh, entry}
@@ -41,36 +40,10 @@ swept-then p P P₁ P₂ z₀ z₁ z₂ w₀ w₁ w₂ split a b =
     go j (inl h) = b.still j (a.cleared j h)
     go j (inr h) = b.cleared j h
 
--- the cell of one column
-pub swept-cell : (p k : ℕ) (z z' : Bool) (w : List ℕ) → k < length w → z' ≡ (z && eqb (get_or w k 0 % p) 0) → Swept p (λ j. k ≡ j) z w (set w k 0) z'
-swept-cell p k z z' w h e =
-    record {
-      long = length-set w k 0;
-      cleared = λ j q. ap (λ (i : ℕ). get_or (set w k 0) i 0) (sym q) ∙ gone;
-      still = λ j q. kept j q (ℕ_discrete j k);
-      passed = λ t. (and_left z (eqb (get_or w k 0 % p) 0) (sym e ∙ t), λ j. same j (eqb-true (get_or w k 0 % p) 0 (and_right z (eqb (get_or w k 0 % p) 0) (sym e ∙ t))) (ℕ_discrete j k));
-      passes = λ t g. e ∙ and_both z (eqb (get_or w k 0 % p) 0) t (eq-eqb (get_or w k 0 % p) 0 (g k h));
-    }
-  where
-    gone : get_or (set w k 0) k 0 ≡ 0
-    gone = get_or-set_same w k 0 0 h
-
-    kept : (j : ℕ) → get_or w j 0 ≡ 0 → Dec (j ≡ k) → get_or (set w k 0) j 0 ≡ 0
-    kept j q (yes r) = ap (λ (i : ℕ). get_or (set w k 0) i 0) r ∙ gone
-    kept j q (no r) = get_or-set_other w k j 0 0 r ∙ q
-
-    same : (j : ℕ) → get_or w k 0 % p ≡ 0 → Dec (j ≡ k) → get_or w j 0 % p ≡ get_or (set w k 0) j 0 % p
-    same j q (yes r) = ap (λ (i : ℕ). get_or w i 0 % p) r ∙ q ∙ sym (ap (λ (x : ℕ). x % p) (ap (λ (i : ℕ). get_or (set w k 0) i 0) r ∙ gone) ∙ zero-mod p)
-    same j q (no r) = ap (λ (x : ℕ). x % p) (sym (get_or-set_other w k j 0 0 r))
-
 -- ---- a loop over the places of ks, which sweeps the columns Q k for each number k of ks
 
 pub record Sweeping (p : ℕ) (ks : List ℕ) (Q : ℕ → ℕ → Type 0) (z₀ : Bool) (w₀ w : List ℕ) (z : Bool) (t : ℕ) : Type 0 where
   pub so_far : Swept p (λ j. Some t (λ s. Q (get_or ks s 0) j)) z₀ w₀ w z
-
-pub sweeping-starts : (p : ℕ) (ks : List ℕ) (Q : ℕ → ℕ → Type 0) (z : Bool) (w : List ℕ) → Sweeping p ks Q z w w z 0
-sweeping-starts p ks Q z w =
-    record { so_far = record { long = refl; cleared = λ j s. absurd (omega (arith, s.upto)); still = λ j q. q; passed = λ q. (q, λ j. refl); passes = λ q h. q } }
 
 pub sweeping-turn : (p : ℕ) (ks : List ℕ) (Q : ℕ → ℕ → Type 0) (z₀ z z' : Bool) (w₀ w w' : List ℕ) (t k : ℕ) → k ≡ get_or ks t 0
     → Sweeping p ks Q z₀ w₀ w z t → Swept p (Q k) z w w' z' → Sweeping p ks Q z₀ w₀ w' z' (t + 1)
@@ -80,17 +53,6 @@ sweeping-turn p ks Q z₀ z z' w₀ w w' t k e s d =
     split : (j : ℕ) (h : Some (t + 1) (λ u. Q (get_or ks u 0) j)) → Dec (h.place ≡ t) → Some t (λ u. Q (get_or ks u 0) j) ⊎ Q k j
     split j h (yes q) = inr (rw (e, sym q) h.holds)
     split j h (no q) = inl (record { place = h.place; upto = omega (arith, h.upto, q); holds = h.holds })
-
-pub sweeping-ends : (p : ℕ) (ks : List ℕ) (Q : ℕ → ℕ → Type 0) (z₀ z : Bool) (w₀ w : List ℕ) (t : ℕ) → length ks ≤ t
-    → Sweeping p ks Q z₀ w₀ w z t → Swept p (λ j. Some (length ks) (λ s. Q (get_or ks s 0) j)) z₀ w₀ w z
-sweeping-ends p ks Q z₀ z w₀ w t h s = let d = s.so_far in
-    record {
-      long = d.long;
-      cleared = λ j g. d.cleared j (record { place = g.place; upto = omega (arith, g.upto); holds = g.holds });
-      still = d.still;
-      passed = d.passed;
-      passes = d.passes;
-    }
 
 -- ---- two sweeps that together meet every cell that is not 0
 

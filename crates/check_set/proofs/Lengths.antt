@@ -2,7 +2,7 @@
 use mathlib.Core.Path.{◌≡◌, sym, ap, ◌∙◌}
 use mathlib.Core.Bool.{true}
 use mathlib.Core.List.{List, ◌++◌}
-use Prim.Native.Nat.{ℕ, ◌^◌, ◌≤◌}
+use Prim.Native.Nat.{ℕ, ◌≤◌}
 use native.Mathlib.Omega.{arith}
 use lib.ListN.{length, take, drop, take-append-drop}
 use lib.Seq.{length-take-le}
@@ -13,25 +13,7 @@ use Rattle.sparse.specs.Matrix.{Compressed, form}
 use Rattle.sparse.specs.Set.{Set}
 use Rattle.pluq.specs.Order.{permutation, below, distinct}
 use Rattle.pluq.proofs.Orders.{below_at}
-use Rattle.check_product.specs.Needs.{Comparable}
 use Rattle.check_set.specs.Needs.{Judgeable, Checkable}
-
-pub comparable : (p n m : ℕ) (A : Compressed) (s : Set) (w w' : List ℕ) → w' ≡ w → form p s.r s.L ≡ true → form p m s.U ≡ true → s.r ≤ 2 ^ 32
-    → Judgeable p n m A s w → Comparable p n s.r A s.R s.L s.U w'
-comparable p n m A s w w' q e f narrow h =
-    rw q (record {
-      positive = h.positive;
-      A-form = h.A-form;
-      A-rows = h.A-rows;
-      order = h.order;
-      inside = h.inside;
-      L-form = e;
-      L-rows = h.L-rows;
-      U-form = ap (λ (k : ℕ). form p k s.U) h.wide ∙ f;
-      U-rows = h.U-rows;
-      narrow = narrow;
-      cleared = h.cleared;
-    })
 
 -- the first m cells of the working row are what the factors are judged with
 pub judgeable : (p n m : ℕ) (A : Compressed) (s : Set) (w w' : List ℕ) → w' ≡ w → permutation s.R ≡ true → permutation s.C ≡ true → s.r ≤ n → s.r ≤ m

@@ -1,140 +1,64 @@
-// The check of a set against a stored matrix: refusals 11 to 14, in order. The matrix is in stored lists. The names of the lists of
-// a set: `ro` and `co` are the row and column order, `ls`, `lc`, `lv` the starts, columns and values of L, `us`, `uc`, `uv` those of U,
-// each with its bytes.
+// The check of a set against a stored matrix: refusals 11 to 14, in order.
 #![tactic(auto)]
 
 ghost use Rattle.std.specs.Prelude.{◌≡◌};
+ghost use Rattle.refusals.specs.Outcome.{outcome_of};
 ghost use Rattle.pluq.specs.Judge.{judge_factors, judge};
 ghost use Rattle.check_set.specs.Needs.{Judgeable, Checkable};
-ghost use Rattle.sparse.specs.Views.{stored_at, stored_before, viewed_set_at, viewed_set_before};
+ghost use Rattle.sparse.specs.Views.{set_in};
 
 use check_product::first_differing;
 use check_shape::lower::lower_ok;
 use check_shape::order::is_permutation;
 use check_shape::upper::upper_ok;
-use refusals::Outcome;
-use refusals::numbers::{BAD_FACTORS, NO_PERMUTATION, PRODUCT_DIFFERS, RANK_TOO_LARGE};
+use refusals::{Fault, Refusal, demand};
 use residue::Modulus;
 use sparse::form::form_ok;
+use sparse::set::Factors;
+use sparse::stored::Compressed;
 
 // 13, then 14.
 pub fn judge_factors(
     q: Modulus,
-    starts: &[u32],
-    cols: &[u32],
-    vals: &[u32],
-    ro: &[u32],
-    rob: &[u8],
-    co: &[u32],
-    cob: &[u8],
-    ls: &[u32],
-    lsb: &[u8],
-    lc: &[u32],
-    lcb: &[u8],
-    lv: &[u32],
-    lvb: &[u8],
-    us: &[u32],
-    usb: &[u8],
-    uc: &[u32],
-    ucb: &[u8],
-    uv: &[u32],
-    uvb: &[u8],
+    plan: &Compressed,
+    f: &Factors,
     n: u32,
     m: u32,
-    r: u32,
     work: &mut [u64],
-) -> Outcome
-    requires { Judgeable q.p n m (stored_at starts.now cols.now vals.now) (viewed_set_at r ro.now rob.now co.now cob.now ls.now lsb.now lc.now lcb.now lv.now lvb.now us.now usb.now uc.now ucb.now uv.now uvb.now) work.old }
-    ensures { (result ≡ judge_factors q.p n m (stored_before starts.now cols.now vals.now) (viewed_set_before r ro.now rob.now co.now cob.now ls.now lsb.now lc.now lcb.now lv.now lvb.now us.now usb.now uc.now ucb.now uv.now uvb.now)) × (work.new ≡ work.old) }
+) -> Result<(), Refusal>
+    requires { Judgeable q.p n m plan.now (set_in f.now) work.old }
+    ensures { (outcome_of result ≡ judge_factors q.p n m plan.now (set_in f.now)) × (work.new ≡ work.old) }
 {
-    if !form_ok(ls, lsb, lc, lcb, lv, lvb, r, q.p) {
-        return Outcome::Refused(BAD_FACTORS, 0);
-    }
-    if !form_ok(us, usb, uc, ucb, uv, uvb, m, q.p) {
-        return Outcome::Refused(BAD_FACTORS, 0);
-    }
-    if !lower_ok(ls, lsb, lc, lcb, lv, lvb, q.p, r as usize) {
-        return Outcome::Refused(BAD_FACTORS, 0);
-    }
-    if !upper_ok(us, usb, uc, ucb, uv, uvb, co, cob, q.p, r as usize, work) {
-        return Outcome::Refused(BAD_FACTORS, 0);
-    }
-    let i = first_differing(
-        q, starts, cols, vals, ro, rob, ls, lsb, lc, lcb, lv, lvb, us, usb, uc, ucb, uv, uvb,
-        r as usize, n as usize, work,
-    );
+    let r = f.r as usize;
+    demand(form_ok(&f.l, f.r, q.p), Fault::BadFactors)?;
+    demand(form_ok(&f.u, m, q.p), Fault::BadFactors)?;
+    demand(lower_ok(&f.l, q.p, r), Fault::BadFactors)?;
+    demand(upper_ok(&f.u, &f.co, q.p, r, work), Fault::BadFactors)?;
+    let i = first_differing(q, plan, &f.ro, &f.l, &f.u, r, n as usize, work);
     if i < n as usize {
-        return Outcome::Refused(PRODUCT_DIFFERS, i as u32);
+        return Err(Refusal {
+            fault: Fault::ProductDiffers,
+            detail: i as u32,
+        });
     }
-    Outcome::Passed
+    Ok(())
 }
 
 // 11, then 12, then the factors.
 pub fn check(
     q: Modulus,
-    starts: &[u32],
-    cols: &[u32],
-    vals: &[u32],
-    ro: &[u32],
-    rob: &[u8],
-    co: &[u32],
-    cob: &[u8],
-    ls: &[u32],
-    lsb: &[u8],
-    lc: &[u32],
-    lcb: &[u8],
-    lv: &[u32],
-    lvb: &[u8],
-    us: &[u32],
-    usb: &[u8],
-    uc: &[u32],
-    ucb: &[u8],
-    uv: &[u32],
-    uvb: &[u8],
+    plan: &Compressed,
+    f: &Factors,
     n: u32,
     m: u32,
-    r: u32,
     work: &mut [u64],
-) -> Outcome
-    requires { Checkable q.p n m (stored_at starts.now cols.now vals.now) (viewed_set_at r ro.now rob.now co.now cob.now ls.now lsb.now lc.now lcb.now lv.now lvb.now us.now usb.now uc.now ucb.now uv.now uvb.now) work.old }
-    ensures { (result ≡ judge q.p n m (stored_before starts.now cols.now vals.now) (viewed_set_before r ro.now rob.now co.now cob.now ls.now lsb.now lc.now lcb.now lv.now lvb.now us.now usb.now uc.now ucb.now uv.now uvb.now)) × (work.new ≡ work.old) }
+) -> Result<(), Refusal>
+    requires { Checkable q.p n m plan.now (set_in f.now) work.old }
+    ensures { (outcome_of result ≡ judge q.p n m plan.now (set_in f.now)) × (work.new ≡ work.old) }
 {
-    if !is_permutation(ro, rob, work) {
-        return Outcome::Refused(NO_PERMUTATION, 0);
-    }
-    if !is_permutation(co, cob, work) {
-        return Outcome::Refused(NO_PERMUTATION, 0);
-    }
-    if n < r {
-        return Outcome::Refused(RANK_TOO_LARGE, 0);
-    }
-    if m < r {
-        return Outcome::Refused(RANK_TOO_LARGE, 0);
-    }
-    judge_factors(
-        q,
-        starts,
-        cols,
-        vals,
-        ro,
-        rob,
-        co,
-        cob,
-        ls,
-        lsb,
-        lc,
-        lcb,
-        lv,
-        lvb,
-        us,
-        usb,
-        uc,
-        ucb,
-        uv,
-        uvb,
-        n,
-        m,
-        r,
-        &mut work[..m as usize],
-    )
+    demand(is_permutation(&f.ro, work), Fault::NoPermutation)?;
+    demand(is_permutation(&f.co, work), Fault::NoPermutation)?;
+    demand(f.r <= n, Fault::RankTooLarge)?;
+    demand(f.r <= m, Fault::RankTooLarge)?;
+    judge_factors(q, plan, f, n, m, &mut work[..m as usize])
 }

@@ -238,7 +238,6 @@ marks-next C k w w' c q e b s = rw q (marks-turn C k w c e b s)
 
 -- where the loop over the rows of U stands
 pub record Unit (r : ℕ) (C : Vector) (U : Matrix) (w₀ w : List ℕ) (k : ℕ) : Type 0 where
-  pub inside : k ≤ r
   pub long : length w ≡ length w₀
   pub marks : Marks C k w
   pub passed : (i : ℕ) → i < k → upper_row C (U i) i ≡ true
@@ -251,7 +250,6 @@ pub unit-turn : (r : ℕ) (C : Vector) (U : Matrix) (w₀ w w' : List ℕ) (k c 
     → Unit r C U w₀ w k → Unit r C U w₀ (set w' c 1) (k + 1)
 unit-turn r C U w₀ w w' k c b h q e l t n s =
     record {
-      inside = omega arith;
       long = length-set w' c 1 ∙ ap length q ∙ s.long;
       marks = marks-next C k w w' c q e l s.marks;
       passed = one_more (λ i. upper_row C (U i) i ≡ true) k (sym t ∙ not-false b n) s.passed;

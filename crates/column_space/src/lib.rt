@@ -2,7 +2,7 @@
 #![tactic(auto)]
 
 // The answer to slot values: a setting of the words gives them, or they contradict each other.
-#[derive(Clone, Copy)]
+#[derive(Clone, Copy, Debug, PartialEq, Eq)]
 pub enum SlotVerdict {
     Solved,
     Contradiction,

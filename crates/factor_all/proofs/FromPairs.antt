@@ -8,7 +8,7 @@ use lib.ListN.{length, length-append, length-map}
 use Rattle.lists.specs.Filled.{zeros, filled}
 use Rattle.lists.proofs.Filled.{filled-whole, cleared-filled}
 use Rattle.refusals.specs.Table.{storage_too_short}
-use Rattle.refusals.specs.declared.Outcome.TheVariants.{Passed, Refused}
+use Rattle.refusals.specs.Outcome.{Passed, Refused}
 use Rattle.sparse.specs.Matrix.{Compressed, matrix}
 use Rattle.sparse.specs.Set.{Storage}
 use Rattle.sparse.specs.Dense.{compress}

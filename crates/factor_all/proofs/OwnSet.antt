@@ -22,7 +22,7 @@ use Rattle.elimination.specs.Pivots.{Found, uppers_of, turns}
 use Rattle.elimination.proofs.Theorem.{StoredFactors, factor-stored, factor-rank}
 use Rattle.factor_all.specs.Factorization.{Factorization, done, unless_over, factoring_from, factoring, Leaves}
 use Rattle.factor_all.specs.OwnSet.{rows_in, own_set}
-use Rattle.factor_all.specs.declared.factor.Factored.{Factored}
+use Rattle.factor_all.specs.Factored.{Factored}
 
 -- ---- lists that are filled, cut to what they are filled with
 

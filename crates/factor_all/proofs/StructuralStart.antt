@@ -20,7 +20,7 @@ use Rattle.factor_passes.specs.Needs.{FromReady}
 use Rattle.factor_passes.proofs.WorkingRow.{part-clear, whole_again, lists-formed, orders-same}
 use Rattle.factor_all.specs.Factorization.{factoring, Leaves}
 use Rattle.factor_all.specs.Needs.{factoring_in, FactorReady}
-use Rattle.factor_all.specs.declared.factor.Factored.{Factored}
+use Rattle.factor_all.specs.Factored.{Factored}
 
 -- a list that is filled has room for what it is filled with, and begins with it
 module _ (n : ℕ) (xs l : List ℕ) (e : l ≡ filled n xs) (long : length l ≡ n) where

@@ -12,15 +12,15 @@ use Rattle.std.proofs.Math.Option.{Option, none, some}
 use Rattle.lists.specs.Filled.{zeros, filled}
 use Rattle.refusals.specs.Table.{storage_too_short}
 use Rattle.refusals.specs.Refusals.{number_of, detail_of}
-use Rattle.refusals.specs.declared.Outcome.{Outcome}
-use Rattle.refusals.specs.declared.Outcome.TheVariants.{Passed, Refused}
+use Rattle.refusals.specs.Outcome.{Outcome}
+use Rattle.refusals.specs.Outcome.{Passed, Refused}
 use Rattle.algebra.specs.Matrix.{Matrix}
 use Rattle.sparse.specs.Matrix.{Compressed, compressed, matrix}
 use Rattle.sparse.specs.Set.{Set, Storage}
 use Rattle.elimination.specs.Structural.{Pair}
 use Rattle.elimination.specs.Selection as rules
 use Rattle.elimination.specs.Factoring.{schedule, nothing, factor_from, first_over}
-use Rattle.factor_all.specs.declared.factor.Factored.{Factored}
+use Rattle.factor_all.specs.Factored.{Factored}
 
 pub record Factorization : Type 0 where
   pub outcome : Outcome

@@ -1,3 +1,4 @@
+pub mod Factored
 pub mod Factorization
 pub mod Needs
 pub mod OwnSet

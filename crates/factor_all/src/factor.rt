@@ -2,6 +2,7 @@
 // starts, columns and values of L, `us`, `uc`, `uv` those of U.
 ghost use Rattle.std.specs.Prelude.{length};
 ghost use Rattle.sparse.specs.Views.{stored_at, stored_before, storage_at, storage_before, storage_after};
+ghost use Rattle.factor_all.specs.Factored.{factored_of};
 ghost use Rattle.factor_all.specs.Factorization.{factoring, Leaves};
 ghost use Rattle.factor_passes.specs.Needs.{FromReady};
 ghost use Rattle.factor_all.specs.Needs.{factoring_in, FactorReady};
@@ -9,14 +10,12 @@ ghost use Rattle.factor_all.specs.Needs.{factoring_in, FactorReady};
 use crate::clearing::clear_all;
 use factor_order::pairs::structural_pairs;
 use factor_passes::passes::{pass_one, pass_two};
-use refusals::Outcome;
-use refusals::numbers::STORAGE_TOO_SHORT;
+use refusals::{Fault, Refusal};
 use residue::Modulus;
 
-// What factoring returns: the outcome, and the rank and the number of structural pivots, 0 on a refusal.
-#[derive(Clone, Copy)]
-pub struct Factored {
-    pub outcome: Outcome,
+// What factoring gives: the rank, and the number of structural pivots.
+#[derive(Clone, Copy, Debug, PartialEq, Eq)]
+pub struct Ranks {
     pub rank: u32,
     pub structural: u32,
 }
@@ -37,9 +36,9 @@ pub fn factor_from(
     uc: &mut [u32],
     uv: &mut [u32],
     work: &mut [u64],
-) -> Factored
+) -> Result<Ranks, Refusal>
     requires { FromReady q.p s (stored_at starts.now cols.now vals.now) (storage_at ro.old co.old ls.old lc.old lv.old us.old uc.old uv.old work.old) }
-    ensures { Leaves (factoring_in q.p s (stored_before starts.now cols.now vals.now) (storage_before ro.old co.old ls.old lc.old lv.old us.old uc.old uv.old work.old)) result (storage_after ro.new co.new ls.new lc.new lv.new us.new uc.new uv.new work.new) }
+    ensures { Leaves (factoring_in q.p s (stored_before starts.now cols.now vals.now) (storage_before ro.old co.old ls.old lc.old lv.old us.old uc.old uv.old work.old)) (factored_of result) (storage_after ro.new co.new ls.new lc.new lv.new us.new uc.new uv.new work.new) }
 {
     let pass = pass_one(
         q, starts, cols, vals, s, ro, co, ls, lc, lv, us, uc, uv, work,
@@ -52,20 +51,15 @@ pub fn factor_from(
     let total = progress.total;
     if over {
         clear_all(ro, co, ls, lc, lv, us, uc, uv, work);
-        return Factored {
-            outcome: Outcome::Refused(STORAGE_TOO_SHORT, stop),
-            rank: 0,
-            structural: 0,
-        };
+        return Err(Refusal {
+            fault: Fault::StorageTooShort,
+            detail: stop,
+        });
     }
     pass_two(r, l, total, ro, co, ls, lc, lv, work);
     let rank = r as u32;
     let structural = s as u32;
-    Factored {
-        outcome: Outcome::Passed,
-        rank: rank,
-        structural: structural,
-    }
+    Ok(Ranks { rank, structural })
 }
 
 // Factors an n by m matrix modulo the prime p of q.
@@ -90,9 +84,9 @@ pub fn factor(
     uc: &mut [u32],
     uv: &mut [u32],
     work: &mut [u64],
-) -> Factored
+) -> Result<Ranks, Refusal>
     requires { FactorReady q.p n m (stored_at starts.now cols.now vals.now) (storage_at ro.old co.old ls.old lc.old lv.old us.old uc.old uv.old work.old) }
-    ensures { Leaves (factoring q.p n m (stored_before starts.now cols.now vals.now) (length lc.old) (length uc.old)) result (storage_after ro.new co.new ls.new lc.new lv.new us.new uc.new uv.new work.new) }
+    ensures { Leaves (factoring q.p n m (stored_before starts.now cols.now vals.now) (length lc.old) (length uc.old)) (factored_of result) (storage_after ro.new co.new ls.new lc.new lv.new us.new uc.new uv.new work.new) }
 {
     let s = structural_pairs(
         starts,

@@ -23,7 +23,7 @@ use Rattle.elimination.specs.Selection.{nonzero, pair_at, leads_to, degree}
 use Rattle.factor_names.specs.Named.{Named}
 use Rattle.factor_names.specs.Sized.{SmallMatrix}
 use Rattle.factor_names.proofs.RowEntries.{row_inside, row_has, has-row}
-use Rattle.factor_arrange.specs.Waiting.{waiting_to, waiting, DegreesCounted}
+use Rattle.factor_arrange.specs.Waiting.{waiting_to, DegreesCounted}
 use Rattle.factor_arrange.specs.Needs.{DegreesReady, DegreeRowReady}
 use Rattle.factor_arrange.proofs.Cells.{cell-inside, named}
 use Rattle.factor_arrange.proofs.Waits.{waiting-more, waiting-same, waiting-short}
@@ -222,11 +222,5 @@ module _ (p n : ℕ) (A : Compressed) (w v degrees₀ : List ℕ) (r : DegreesRe
       }
 
   module _ (degrees : List ℕ) (k : ℕ) (s : CountedTo n A w v degrees k) where
-    pub counted_ready : k < n → ¬ (get_or v k 0 ≡ 0) → DegreeRowReady p n k A w v degrees
-    counted_ready h d = record { sized = r.sized; named = r.named; row = h; chosen = d; degrees-long = s.long; before = s.rows }
-
     pub counted-over : k < n → get_or v k 0 ≡ 0 → CountedTo n A w v degrees (k + 1)
     counted-over h e = record { inside = omega arith; long = s.long; rows = subst (λ (ws : List Pair). DegreesCounted A w ws degrees) (sym (waiting-same v k e)) s.rows }
-
-    pub counted-ends : n ≤ k → DegreesCounted A w (waiting v) degrees
-    counted-ends h = subst (λ (j : ℕ). DegreesCounted A w (waiting_to v j) degrees) (let e : k ≡ length v = omega (arith, s.inside, r.named.rows_long) in e) s.rows

@@ -28,7 +28,7 @@ use Rattle.elimination.proofs.Ordering.{Least, without-one}
 use Rattle.elimination.proofs.Steps.{free-degree, ordered_step, ordered-none, ordered_same}
 use Rattle.elimination.proofs.Selected.{selected-sound, structural-pairs, pairs-short}
 use Rattle.factor_arrange.specs.Waiting.{waiting, DegreesCounted, Ready}
-use Rattle.factor_arrange.specs.Needs.{Arranged, DegreesReady, MarkReady, Stage, ReleaseReady, Released, ListReady, OrderReady}
+use Rattle.factor_arrange.specs.Needs.{Arranged, MarkReady, Stage, Released, ListReady, OrderReady}
 use Rattle.factor_arrange.proofs.Cells.{cell-inside, named}
 use Rattle.factor_arrange.proofs.Waits.{in-waiting, waiting-in, waiting-apart, waiting-without}
 use Rattle.factor_arrange.proofs.Counting.{named-there, named_back}
@@ -156,12 +156,12 @@ module _ (p n : ℕ) (A : Compressed) (w v₀ v d s R C : List ℕ) where
 
     -- ---- a turn
 
-    module _ (i : k < length s) where
-      pub listing-ready : ReleaseReady p (length s) k A w v₀ v d s
-      listing-ready = record { stage = subst (λ (j : ℕ). Stage p j A w v₀ v d s) (sym h.stage.ready-long) h.stage; row = i; is-ready = h.next.one i }
+    module _ (more : ¬ (k ≡ length s)) where
+      i : k < length s
+      i = omega (arith, h.next.inside)
 
       -- the column of row k
-      abbrev pub listing-column : (c : ℕ) × (get_or v k 0 ≡ suc c)
+      abbrev listing-column : (c : ℕ) × (get_or v k 0 ≡ suc c)
       listing-column = waits p n A w v₀ v d s h.stage k h.next i
 
       inside : k < length v
@@ -182,8 +182,8 @@ module _ (p n : ℕ) (A : Compressed) (w v₀ v d s R C : List ℕ) where
       pub listing-room : at < length pairs
       listing-room = omega (arith, ap length comes, length-drop at pairs)
 
-      pub listing-fits : (at < length R) × (at < length C)
-      listing-fits = (omega (arith, listing-rows, listing-room, short.0), omega (arith, listing-columns, listing-room, short.1))
+      pub listing-fits : (at < length R) × (at < length C) × (at < 2048)
+      listing-fits = (omega (arith, listing-rows, listing-room, short.0), omega (arith, listing-columns, listing-room, short.1), omega (arith, listing-room, short.0, h.stage.sized.n-small))
 
       pair-here : get_or pairs at no_pair ≡ pair_at k listing-column.0
       pair-here = ap (λ (j : ℕ). get_or pairs j no_pair) (sym (add-zero at)) ∙ sym (get_or-drop at pairs 0 no_pair) ∙ ap (λ (l : List Pair). get_or l 0 no_pair) comes
@@ -218,27 +218,25 @@ module _ (p n : ℕ) (A : Compressed) (w v₀ v d s R C : List ℕ) where
               go (no f) = absurd (o.low i l f (h.next.none i (omega arith) (omega (arith, o.inside))))
           below i b (no l) = t.none i (omega arith) b
 
-    -- no row is ready: all are listed
-    pub listing-ends : length s ≤ k → Arranged n (length w) A at R C
-    listing-ends i =
+    -- all are listed
+    listing-all : at ≡ length pairs → Arranged n (length w) A at R C
+    listing-all all =
         record {
           count = all;
           rows = h.rows ∙ ap (filled n) (take_all at (pair_rows pairs) (omega (arith, rows-many, all)));
           columns = h.columns ∙ ap (filled (length w)) (take_all at (pair_columns pairs) (omega (arith, columns-many, all)));
         }
-      where
-        all : at ≡ length pairs
-        all = omega (arith, ap length (h.remains ∙ none-ready p n A w v₀ v d s h.stage k h.next i), length-drop at pairs, h.placed)
+
+    -- they are where no row is ready, and where there are as many as rows
+    pub listing-ends : length s ≤ k → Arranged n (length w) A at R C
+    listing-ends i = listing-all (omega (arith, ap length (h.remains ∙ none-ready p n A w v₀ v d s h.stage k h.next i), length-drop at pairs, h.placed))
+
+    pub listing-full : n ≤ at → (r : ℕ) → at ≡ r → Arranged n (length w) A r R C
+    listing-full f r e = subst (λ (j : ℕ). Arranged n (length w) A j R C) e (listing-all (omega (arith, short.0, h.placed)))
 
 -- ---- what the listing starts from
 
 module _ (p n : ℕ) (A : Compressed) (w v waits₀ degrees₀ ready₀ R C : List ℕ) (o : OrderReady p n A w v waits₀ degrees₀ ready₀ R C) where
-  pub order-copy : length waits₀ ≡ length v
-  order-copy = o.waits-long ∙ sym o.pairs.named.rows_long
-
-  pub order-count : DegreesReady p n A w v degrees₀
-  order-count = record { sized = o.pairs.sized; named = o.pairs.named; clear = o.degrees-clear }
-
   ready-rows : (ready : List ℕ) → length ready ≡ length ready₀ → length ready ≡ n
   ready-rows ready marks = marks ∙ ap length o.ready-clear ∙ length-zeros n
 

@@ -1,23 +1,11 @@
 // How many waiting rows lead to each pivot.
-ghost use Rattle.std.specs.Prelude.{◌≡◌, ◌+◌, length};
+ghost use Rattle.std.specs.Prelude.{◌+◌, length};
 ghost use Rattle.factor_arrange.specs.Waiting.{waiting_to, waiting, DegreesCounted, Ready};
 ghost use Rattle.factor_arrange.specs.Needs.{DegreesReady, DegreeRowReady, MarkReady};
 ghost use Rattle.sparse.specs.Views.{stored_at, stored_before};
 
 use factor_names::columns_of;
 use lists::index;
-
-// Copies a list into another of its length.
-pub fn copy(from: &[u32], to: &mut [u32])
-    requires { length to.old ≡ length from.now }
-    ensures { to.new ≡ from.now }
-{
-    let mut i = 0;
-    while i < from.len() {
-        to[i] = from[i];
-        i += 1;
-    }
-}
 
 // Counts row k, which leads to the pivots of the other columns that it has.
 fn count_row(
@@ -36,16 +24,12 @@ fn count_row(
 {
     let row = columns_of(starts, cols, k);
     let own = k as u64 + 1;
-    let mut t = 0;
-    while t < row.len() {
-        let cell = work[index(row[t])];
-        if cell != 0 {
-            if cell != own {
-                let q = cell as usize - 1;
-                degrees[q] = degrees[q] + 1;
-            }
+    for &j in row {
+        let cell = work[index(j)];
+        if cell != 0 && cell != own {
+            let q = cell as usize - 1;
+            degrees[q] += 1;
         }
-        t += 1;
     }
 }
 
@@ -63,12 +47,10 @@ pub fn count(
     requires { DegreesReady p n (stored_at starts.now cols.now vals.now) work.now chosen.now degrees.old }
     ensures { DegreesCounted (stored_before starts.now cols.now vals.now) work.now (waiting chosen.now) degrees.new }
 {
-    let mut k = 0;
-    while k < n {
+    for k in 0..n {
         if chosen[k] != 0 {
             count_row(starts, cols, vals, p, n, k, work, chosen, degrees);
         }
-        k += 1;
     }
 }
 
@@ -77,13 +59,9 @@ pub fn mark_ready(chosen: &[u32], degrees: &[u32], ready: &mut [u64])
     requires { MarkReady chosen.now degrees.now ready.old }
     ensures { Ready chosen.now degrees.now ready.new }
 {
-    let mut i = 0;
-    while i < chosen.len() {
-        if chosen[i] != 0 {
-            if degrees[i] == 0 {
-                ready[i] = 1;
-            }
+    for (i, &cell) in chosen.iter().enumerate() {
+        if cell != 0 && degrees[i] == 0 {
+            ready[i] = 1;
         }
-        i += 1;
     }
 }

@@ -28,18 +28,19 @@ fn list_pairs(
     requires { ListReady p (length ready.old) (stored_at starts.now cols.now vals.now) work.now chosen.now waits.old degrees.old ready.old ro.old co.old }
     ensures { Arranged (length ready.old) (length work.now) (stored_before starts.now cols.now vals.now) result ro.new co.new }
 {
-    let mut at = 0;
     let mut k = sparse::scan::next_nonzero(ready, 0);
-    while k < ready.len() {
+    for at in 0..ready.len() {
+        if k == ready.len() {
+            return at;
+        }
         ro[at] = k as u32;
         co[at] = waits[k] - 1;
-        at += 1;
         let low = release::release(
             starts, cols, vals, p, k, work, chosen, waits, degrees, ready,
         );
         k = sparse::scan::next_nonzero(ready, low);
     }
-    at
+    ready.len()
 }
 
 // Puts the selected pairs in order, with a cell for each row of what waits, of the degrees and of the ready rows. Gives how many there are.
@@ -60,7 +61,7 @@ fn order_pairs(
     requires { OrderReady p n (stored_at starts.now cols.now vals.now) work.now chosen.now waits.old counts.old ready.old ro.old co.old }
     ensures { Arranged n (length work.now) (stored_before starts.now cols.now vals.now) result ro.new co.new }
 {
-    degrees::copy(chosen, waits);
+    waits.copy_from_slice(chosen);
     degrees::count(starts, cols, vals, p, n, work, chosen, counts);
     degrees::mark_ready(chosen, counts, ready);
     list_pairs(

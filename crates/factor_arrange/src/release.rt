@@ -45,15 +45,11 @@ pub fn release(
     let own = k as u64 + 1;
     let row = columns_of(starts, cols, k);
     let mut low = k;
-    let mut t = 0;
-    while t < row.len() {
-        let cell = work[index(row[t])];
-        if cell != 0 {
-            if cell != own {
-                low = lower(cell as usize - 1, low, degrees, ready);
-            }
+    for &j in row {
+        let cell = work[index(j)];
+        if cell != 0 && cell != own {
+            low = lower(cell as usize - 1, low, degrees, ready);
         }
-        t += 1;
     }
     low
 }

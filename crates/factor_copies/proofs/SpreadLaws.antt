@@ -18,9 +18,6 @@ module _ (low at : ℕ) (cols vals copies₀ : List ℕ) where
     pub front : (i : ℕ) → i < at → get_or copies i 0 ≡ get_or copies₀ i 0
     pub rest : ClearFrom at copies₀ → (s : ℕ) → get_or copies (at + s) 0 + entry (drop t cols) (drop t vals) (low + s) ≡ entry cols vals (low + s)
 
-  pub spread-starts : SpreadTo copies₀ 0
-  spread-starts = record { long = refl; front = λ i h. refl; rest = λ clear s. omega (arith, clear (at + s) (omega arith)) }
-
   pub spread-ends : (copies : List ℕ) (t : ℕ) → length cols ≤ t → SpreadTo copies t → Spread low at cols vals copies₀ copies
   spread-ends copies t h g =
       record { long = g.long; front = g.front; cells = λ clear s. omega (arith, g.rest clear s, weigh-end cols vals t (λ k. δ k (low + s)) h) }
@@ -30,10 +27,10 @@ module _ (low at : ℕ) (cols vals copies₀ : List ℕ) where
     paired : t < length vals
     paired = omega (arith, ready.paired)
 
-    pub spread-low : low ≤ c
+    spread-low : low ≤ c
     spread-low = omega (arith, ready.first t h)
 
-    pub spread-room : at + (c - low) < length copies
+    spread-room : at + (c - low) < length copies
     spread-room = omega (arith, g.long, ready.room t h)
 
     step : (j : ℕ) → entry (drop t cols) (drop t vals) j ≡ v * δ c j + entry (drop (t + 1) cols) (drop (t + 1) vals) j

@@ -11,11 +11,8 @@ fn spread(cols: &[u32], vals: &[u32], low: usize, at: usize, copies: &mut [u32])
     requires { SpreadReady low at cols.now vals.now copies.old }
     ensures { Spread low at cols.now vals.now copies.old copies.new }
 {
-    let mut t = 0;
-    while t < cols.len() {
-        let j = index(cols[t]);
-        copies[at + (j - low)] = vals[t];
-        t += 1;
+    for (&column, &value) in cols.iter().zip(vals) {
+        copies[at + (index(column) - low)] = value;
     }
 }
 

@@ -4,7 +4,7 @@ use mathlib.Core.Bool.{Bool, true, false, not, ◌&&◌, true≢false}
 use mathlib.Core.List.{List, [], ◌∷◌, ◌++◌}
 use Prim.Native.Nat.{ℕ, zero, suc, ◌+◌, ◌-◌, ◌*◌, ◌%◌, ◌≤◌, ◌<◌}
 use native.Mathlib.Nat.{zero-mod, zero-add}
-use native.Mathlib.Decide.{ℕ_discrete, dec_lt}
+use native.Mathlib.Decide.{ℕ_discrete}
 use native.Mathlib.Omega.{arith}
 use lib.Dec.{leb, eqb}
 use borrow.Author.Tests.{leb-true, leb-false, le-leb, lt-leb, eqb-false}
@@ -33,7 +33,7 @@ use Rattle.factor_dense.specs.declared.taking.DenseStep.{DenseStep}
 use Rattle.factor_dense.specs.Block.{cells_of, Upper, where_nonzero}
 use Rattle.factor_dense.specs.Taking.{residues_of, BlockReduced}
 use Rattle.factor_dense.specs.Turn.{dense_step_of, LeftRowFound, LowerFound, UpperFound, NextRow, DenseTaken}
-use Rattle.factor_dense.specs.Needs.{LeftRowReady, DenseLowerReady, DenseUpperReady, DenseReady}
+use Rattle.factor_dense.specs.Needs.{DenseUpperReady, DenseReady}
 use Rattle.factor_dense.proofs.Reduction.{tabulate-add}
 use Rattle.factor_dense.proofs.InBlock.{Begun, block-cell, lower-stored, lower-count, found_within, block-pivot, block-dependent, scaled-cell, scaled-past, upper-columns, upper-values}
 
@@ -127,9 +127,6 @@ module _ (p i s front r at l total : ℕ) (A : Compressed) (columns us js : List
   all-rows : Upper p m (s + (r - s)) C U
   all-rows = rw whole h.upper
 
-  pub left-ready : LeftRowReady p i s front l total A columns us uc uv js width w lc lv
-  left-ready = record { row = h.row; narrow = h.narrow; inside = h.left.inside }
-
   -- its row of L does not fit
   too_many : length lc < total + length (nonzeros cs) → (lc' lv' uc' uv' work' : List ℕ) (o : DenseStep) → o.step.over ≡ true
       → DenseTaken p at l total reduction width js (entry_lists_of lc lv uc uv) (entry_lists_of lc' lv' uc' uv') work' o
@@ -186,9 +183,6 @@ module _ (p i s front r at l total : ℕ) (A : Compressed) (columns us js : List
       long-columns : length lc₁ ≡ length lc
       long-columns = stored-columns 0 l cs₀ lc lv lc₁ lv₁ next₁ stored₁
 
-      long-values : length lv₁ ≡ length lv
-      long-values = stored-values 0 l cs₀ lc lv lc₁ lv₁ next₁ stored₁
-
       begun : Begun p s width (vector js) C U y row₀
       begun =
           record {
@@ -196,37 +190,9 @@ module _ (p i s front r at l total : ℕ) (A : Compressed) (columns us js : List
             past = λ k a. ap (λ (z : ℕ). z % p) (g.past k a) ∙ zero-mod p;
           }
 
-      block-below : (t k : ℕ) → t < r - s → k < 32 → cells_of block t k < p
-      block-below t k a _ = go (dec_lt k width)
-        where
-          go : Dec (k < width) → cells_of block t k < p
-          go (yes q) = rw (h.holds.cells t k a q) (h.upper.residues (s + t) (get_or js k 0) (omega (arith, h.low)))
-          go (no q) = rw (h.holds.past t k a (omega arith)) h.upper.positive
-
       -- ---- and by the block
 
       module _ (limit : ℕ) (el : limit ≡ l + (length lc₁ - total)) where
-        pub lower-ready : DenseLowerReady p s (r - s) next₁ limit ks block row₀ lc₁ lv₁
-        lower-ready =
-            record {
-              reduce = record {
-                positive = h.upper.positive;
-                rows = omega (arith, h.rows);
-                places = λ t a. omega (arith, h.holds.within t a, h.narrow);
-                cells = block-below;
-                below = g.below e;
-              };
-              store = record {
-                rows = omega (arith, h.rows);
-                narrow = omega (arith, h.lists.rank, h.low);
-                lists = record {
-                  place = omega (arith, stored₁.place, enough₁, long-columns);
-                  room = omega (arith, h.lists.L-place, h.lists.L-room, long-columns);
-                  paired = long-columns ∙ h.lists.L-paired ∙ sym long-values;
-                };
-              };
-            }
-
         module _ (lc₂ lv₂ : List ℕ) (lower : LeftRow) (d : LowerFound p s (r - s) next₁ limit ks block row₀ lc₁ lv₁ lc₂ lv₂ lower) where
           abbrev next₂ : ℕ
           next₂ = lower.next

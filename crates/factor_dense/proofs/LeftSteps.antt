@@ -6,7 +6,7 @@ use Prim.Native.Nat.{ℕ, zero, suc, ◌+◌, ◌≤◌, ◌<◌}
 use native.Mathlib.Omega.{arith}
 use lib.ListN.{length, get_or, take}
 use lib.Seq.{sets, length-sets, length-take-le, take-suc}
-use borrow.Author.Tests.{leb-true, leb-false, le-leb, lt-leb}
+use borrow.Author.Tests.{leb-true, leb-false, lt-leb}
 use Rattle.lists.proofs.Steps.{sets-append}
 use Rattle.sparse.specs.Dense.{nonzeros, columns_from}
 use Rattle.sparse.proofs.Nonzeros.{count-append, nonzeros-append}
@@ -74,16 +74,6 @@ module _ (width l limit : ℕ) (js row lc₀ lv₀ : List ℕ) (h : LeftReady wi
 
     pub left-values : length lv ≡ length lv₀
     left-values = ap length g.stored.values ∙ length-sets lv₀ l (nonzeros (take t row))
-
-    pub left-ends : width ≤ t → LeftStored l limit (take width js) (take width row) lc₀ lv₀ lc lv false next
-    left-ends le =
-        record { fit = le-leb (l + length (nonzeros (take width row))) limit (omega (arith, g.room, stored.place)); stored = λ o. stored }
-      where
-        all : width ≡ t
-        all = omega (arith, g.inside)
-
-        stored : ChosenStored l (take width js) (take width row) lc₀ lv₀ lc lv next
-        stored = rw all g.stored
 
     module _ (lt : t < width) (j : ℕ) (ej : j ≡ get_or js t 0) where
       pub left-ready : PlaceReady j next limit lc lv

@@ -9,5 +9,4 @@ pub mod DenseRows
 pub mod LeftSteps
 pub mod LeftCellSteps
 pub mod Rest
-pub mod LeftRows
 pub mod UpperRows

@@ -1,19 +1,18 @@
 -- The multiples stored one after another, and the cells of a row scaled one after another.
-use mathlib.Core.Path.{◌≡◌, sym, ap, ◌∙◌}
+use mathlib.Core.Path.{◌≡◌, ap, ◌∙◌}
 use mathlib.Core.Bool.{Bool, true, false, not, true≢false}
 use mathlib.Core.List.{List, [], ◌∷◌, ◌++◌}
 use Prim.Native.Nat.{ℕ, zero, suc, ◌+◌, ◌*◌, ◌%◌, ◌≤◌, ◌<◌}
-use native.Mathlib.Decide.{ℕ_discrete}
 use native.Mathlib.Omega.{arith}
-use lib.ListN.{length, get_or, take, set, length-set}
-use lib.Seq.{get_or-set_same, get_or-set_other, length-take-le, take-suc}
+use lib.ListN.{length, get_or, take, set}
+use lib.Seq.{length-take-le, take-suc}
 use borrow.Author.Tests.{leb-true, leb-false, le-leb, lt-leb}
 use Rattle.sparse.specs.Dense.{nonzeros}
 use Rattle.sparse.specs.Storing.{DenseStored}
-use Rattle.sparse.proofs.Nonzeros.{count-append, nonzeros-zero, nonzeros-one, stored-none, stored-zero, stored_one, stored-then, stored-columns, stored-values}
+use Rattle.sparse.proofs.Nonzeros.{count-append, nonzeros-zero, nonzeros-one, stored-none, stored-zero, stored_one, stored-then}
 use Rattle.residue.specs.Arithmetic.{Residue}
-use Rattle.factor_dense.specs.Storing.{EntryStored, MultiplesStored, RowScaled}
-use Rattle.factor_dense.specs.Needs.{PlaceReady, StoreMultiplesReady}
+use Rattle.factor_dense.specs.Storing.{EntryStored, MultiplesStored}
+use Rattle.factor_dense.specs.Needs.{StoreMultiplesReady}
 
 -- ---- one entry
 
@@ -59,34 +58,7 @@ module _ (s b l limit : ℕ) (xs lc₀ lv₀ : List ℕ) (h : StoreMultiplesRead
   storing-starts = record { inside = omega arith; room = h.lists.place; stored = stored-none s l lc₀ lv₀ }
 
   module _ (lc lv : List ℕ) (next t : ℕ) (g : StoringSoFar s b l limit xs lc₀ lv₀ lc lv next t) where
-    pub storing-columns : length lc ≡ length lc₀
-    storing-columns = stored-columns s l (take t xs) lc₀ lv₀ lc lv next g.stored
-
-    pub storing-values : length lv ≡ length lv₀
-    storing-values = stored-values s l (take t xs) lc₀ lv₀ lc lv next g.stored
-
-    pub storing-ends : b ≤ t → MultiplesStored s l limit (take b xs) lc₀ lv₀ lc lv false next
-    storing-ends le =
-        record { fit = le-leb (l + length (nonzeros (take b xs))) limit (omega (arith, g.room, stored.place)); stored = λ o. stored }
-      where
-        all : b ≡ t
-        all = omega (arith, g.inside)
-
-        stored : DenseStored s l (take b xs) lc₀ lv₀ lc lv next
-        stored = rw all g.stored
-
     module _ (lt : t < b) where
-      pub storing-ready : PlaceReady (s + t) next limit lc lv
-      storing-ready =
-          record {
-            narrow = omega (arith, h.narrow);
-            lists = record {
-              place = g.room;
-              room = omega (arith, h.lists.room, storing-columns);
-              paired = storing-columns ∙ h.lists.paired ∙ sym storing-values;
-            };
-          }
-
       last : take (t + 1) xs ≡ take t xs ++ (get_or xs t 0 ∷ [])
       last = ap (λ (n : ℕ). take n xs) (next-number t) ∙ take-suc xs t 0 (omega (arith, h.rows))
         where
@@ -122,19 +94,3 @@ pub record Scaling (p c : ℕ) (row out : List ℕ) (l : ℕ) : Type 0 where
   pub inside : l ≤ 32
   pub long : length out ≡ 32
   pub done : (j : ℕ) → j < l → Residue p (c * (get_or row j 0 % p) % p) (get_or out j 0)
-
-pub scaling-turn : (p c : ℕ) (row out : List ℕ) (l v : ℕ) → l < 32 → Scaling p c row out l → Residue p (c * (get_or row l 0 % p) % p) v → Scaling p c row (set out l v) (l + 1)
-scaling-turn p c row out l v lt s e =
-    record {
-      inside = omega arith;
-      long = length-set out l v ∙ s.long;
-      done = λ j h. at j h (ℕ_discrete j l);
-    }
-  where
-    at : (j : ℕ) → j < l + 1 → Dec (j ≡ l) → Residue p (c * (get_or row j 0 % p) % p) (get_or (set out l v) j 0)
-    at j h (yes q) = rw (q, get_or-set_same out l v 0 (omega (arith, s.long))) e
-    at j h (no q) = rw (get_or-set_other out l j v 0 q) (s.done j (omega arith))
-
-pub scaling-ends : (p c : ℕ) (row out : List ℕ) (l : ℕ) → 32 ≤ l → Scaling p c row out l → RowScaled p c row out
-scaling-ends p c row out l h s =
-    record { long = s.long; cells = λ j g. (s.done j (omega arith)).value; below = λ j g. (s.done j (omega arith)).below }

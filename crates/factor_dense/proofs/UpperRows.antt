@@ -3,32 +3,22 @@ use mathlib.Core.Path.{◌≡◌, sym, ap, ◌∙◌}
 use mathlib.Core.Bool.{Bool, true, false, not, ◌&&◌, true≢false}
 use mathlib.Core.List.{List, [], ◌∷◌}
 use Prim.Native.Nat.{ℕ, ◌+◌, ◌%◌}
-use native.Mathlib.Omega.{arith}
 use lib.Dec.{leb}
 use lib.ListN.{length, get_or, take}
 use Rattle.residue.specs.Arithmetic.{Residue}
-use Rattle.residue.specs.Inverse.{inv_mod, Invertible}
+use Rattle.residue.specs.Inverse.{inv_mod}
 use Rattle.sparse.specs.Dense.{nonzeros}
 use Rattle.sparse.proofs.Nonzeros.{nonzeros-one}
 use Rattle.factor_row.specs.Entries.{entry_lists_of}
 use Rattle.factor_dense.specs.declared.taking.DenseStep.{DenseStep}
 use Rattle.factor_dense.specs.Storing.{EntryStored, LeftStored, RowScaled}
 use Rattle.factor_dense.specs.Turn.{dense_step_of, UpperFound}
-use Rattle.factor_dense.specs.Needs.{PlaceReady, LeftReady, DenseUpperReady}
+use Rattle.factor_dense.specs.Needs.{DenseUpperReady}
 
 module _ (p r k at next limit sum width : ℕ) (js row lc₀ lv₀ uc₀ uv₀ : List ℕ) (h : DenseUpperReady p r k at next limit sum width js row (entry_lists_of lc₀ lv₀ uc₀ uv₀)) where
-  pub entry_ready : PlaceReady r next limit lc₀ lv₀
-  entry_ready = record { narrow = h.rank; lists = h.lower }
-
-  pub upper-ready : LeftReady width at (length uc₀) js uc₀ uv₀
-  upper-ready = record { rows = h.narrow; narrow = h.columns; lists = h.upper }
-
   module _ (v : ℕ) (rv : Residue p (get_or row k 0 % p) v) where
     some : v ≡ 0 → ⊥
     some e = h.here (sym rv.value ∙ e)
-
-    pub upper-invertible : Invertible p v
-    upper-invertible = record { prime = h.prime; nonzero = omega (arith, some); below = rv.below }
 
     module _ (x : ℕ) (rx : Residue p (inv_mod p v) x) (new : List ℕ) (s : RowScaled p x row new) (lc lv : List ℕ) (full : Bool) (l : ℕ)
         (e : EntryStored r v next limit lc₀ lv₀ lc lv full l) where

@@ -15,11 +15,8 @@ pub fn left_cells(js: [u32; 32], width: usize, work: &[u64]) -> [u64; 32]
     ensures { LeftCells width js work.now result }
 {
     let mut out = [0u64; 32];
-    let mut l = 0;
-    while l < width {
-        let j = index(js[l]);
-        out[l] = work[j];
-        l += 1;
+    for l in 0..width {
+        out[l] = work[index(js[l])];
     }
     out
 }
@@ -36,10 +33,8 @@ pub fn take_block_row(
     ensures { Subtracted q.p (λ l. c * cells_of block.now t l) row result }
 {
     let mut out = row;
-    let mut l = 0;
-    while l < 32 {
-        out[l] = minus(q, out[l], c, block[t][l]);
-        l += 1;
+    for (l, &x) in block[t].iter().enumerate() {
+        out[l] = minus(q, out[l], c, x);
     }
     out
 }
@@ -64,15 +59,13 @@ pub fn reduce_in_block(
 {
     let mut rest = row;
     let mut xs = [0u32; 32];
-    let mut t = 0;
-    while t < b {
+    for t in 0..b {
         let k = index(ks[t]);
         let x = q.reduce_cell(rest[k]);
         if x != 0 {
             rest = take_block_row(q, block, t, x, rest);
         }
         xs[t] = x;
-        t += 1;
     }
     InBlock {
         row: rest,

@@ -55,9 +55,8 @@ pub fn store_multiples(
     ensures { MultiplesStored s l limit (take b xs) lc.old lv.old lc.new lv.new result.over result.next }
 {
     let mut next = l;
-    let mut t = 0;
-    while t < b {
-        let g = store_entry(s + t, xs[t], next, limit, lc, lv);
+    for (t, &x) in xs[..b].iter().enumerate() {
+        let g = store_entry(s + t, x, next, limit, lc, lv);
         let over = g.over;
         next = g.next;
         if over {
@@ -66,7 +65,6 @@ pub fn store_multiples(
                 next: next,
             };
         }
-        t += 1;
     }
     Gathered {
         over: false,
@@ -88,10 +86,8 @@ pub fn store_left(
     ensures { LeftStored l limit (take width js) (take width row) uc.old uv.old uc.new uv.new result.over result.next }
 {
     let mut next = l;
-    let mut t = 0;
-    while t < width {
-        let j = index(js[t]);
-        let g = store_entry(j, row[t], next, limit, uc, uv);
+    for (&column, &x) in js[..width].iter().zip(&row[..width]) {
+        let g = store_entry(index(column), x, next, limit, uc, uv);
         let over = g.over;
         next = g.next;
         if over {
@@ -100,7 +96,6 @@ pub fn store_left(
                 next: next,
             };
         }
-        t += 1;
     }
     Gathered {
         over: false,
@@ -122,10 +117,8 @@ pub fn scale_row(q: Modulus, c: u32, row: [u64; 32]) -> [u32; 32]
     ensures { RowScaled q.p c row result }
 {
     let mut out = [0u32; 32];
-    let mut l = 0;
-    while l < 32 {
-        out[l] = q.multiply(c, q.reduce_cell(row[l]));
-        l += 1;
+    for (l, &cell) in row.iter().enumerate() {
+        out[l] = q.multiply(c, q.reduce_cell(cell));
     }
     out
 }

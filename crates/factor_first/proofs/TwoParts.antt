@@ -5,12 +5,11 @@ use mathlib.Core.List.{List, ◌++◌, map}
 use mathlib.Core.Option.{some}
 use Prim.Native.Nat.{ℕ, ◌+◌, ◌-◌, ◌≤◌, ◌<◌}
 use native.Mathlib.Omega.{arith}
-use lib.Dec.{leb, ltb}
+use lib.Dec.{ltb}
 use lib.ListN.{length, get_or, take, drop, length-map, length-drop}
 use lib.Seq.{length-take-le, get_or-drop, drop_at}
-use borrow.Author.Tests.{leb-true, lt-ltb}
+use borrow.Author.Tests.{lt-ltb}
 use Rattle.lists.specs.Filled.{zeros}
-use Rattle.lists.proofs.Bools.{and_left, and_right}
 use Rattle.sparse.specs.Matrix.{Compressed, matrix}
 use Rattle.sparse.specs.Set.{storage_of}
 use Rattle.elimination.specs.Pivots.{Found, Turn, pair, other, turns}
@@ -26,25 +25,7 @@ use Rattle.factor_turn.specs.Needs.{TurnReady, PassReady}
 use Rattle.factor_turn.proofs.Schedules.{rows_are, pairs-many}
 use Rattle.factor_turn.proofs.PivotPass.{Passing, passing-ready, passing-over, passing-turn, passing-ends, SameLengths, same-lent}
 use Rattle.factor_turn.specs.Others.{RowsFrom, TurnsLeave, RowsTaken, RestReady}
-use Rattle.factor_others.specs.Needs.{OthersReady}
-use Rattle.factor_first.specs.Dense.{fits_block}
-use Rattle.factor_first.specs.Needs.{RowsReady, RemainingReady}
-
--- ---- what is left after the pairs fits the block
-
-pub block-fits : (n m s : ℕ) (b : Bool) → b ≡ fits_block n m s → b ≡ true → (n ≤ s + 32) × (m ≤ s + 32)
-block-fits n m s b e t =
-    let z : fits_block n m s ≡ true = sym e ∙ t in
-    (omega (arith, leb-true (n - s) 32 (and_left (leb (n - s) 32) (leb (m - s) 32) z)), omega (arith, leb-true (m - s) 32 (and_right (leb (n - s) 32) (leb (m - s) 32) z)))
-
-module _ (p s : ℕ) (A : Compressed) (R C : List ℕ) (L U : Compressed) (w : List ℕ) (from : Progress) (h : RemainingReady p s A (storage_of R C L U w) from) where
-  pub block-ready : (b : Bool) → b ≡ fits_block (length R) (length w) s → b ≡ true → RowsReady p s A (storage_of R C L U w) from
-  block-ready b e t =
-      let few = block-fits (length R) (length w) s b e t in
-      record { ready = h.ready; columns-inside = h.columns-inside; few-rows = few.0; few-columns = omega (arith, few.1, h.ready.lent.columns); columns-order = h.columns-order few.0 few.1 }
-
-  pub others-ready : OthersReady p s A (storage_of R C L U w) from
-  others-ready = record { ready = h.ready; narrow = h.narrow }
+use Rattle.factor_first.specs.Needs.{RemainingReady}
 
 -- ---- the rows after the pairs
 

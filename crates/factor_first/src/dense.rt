@@ -22,12 +22,9 @@ fn tail(s: usize, list: &[u32]) -> [u32; 32]
     requires { (s ≤ length list.now) × (length list.now ≤ s + 32) }
     ensures { TailCopied s list.now result }
 {
+    let rest = &list[s..];
     let mut out = [0u32; 32];
-    let mut k = s;
-    while k < list.len() {
-        out[k - s] = list[k];
-        k += 1;
-    }
+    out[..rest.len()].copy_from_slice(rest);
     out
 }
 
@@ -102,8 +99,7 @@ pub fn find_dense(
     let mut progress = from;
     let mut block = [[0u32; 32]; 32];
     let mut ks = [0u32; 32];
-    let mut k = s;
-    while k < ro.len() {
+    for k in s..ro.len() {
         let i = ro[k];
         let b = progress.r - s;
         let turn = take_dense_row(
@@ -122,7 +118,6 @@ pub fn find_dense(
         let row = turn.row;
         block[b] = row;
         ks[b] = turn.place;
-        k += 1;
     }
     Pass {
         stop: 0,

@@ -83,8 +83,7 @@ pub fn find_pivots(
         total: 0,
         d: 0,
     };
-    let mut k = 0;
-    while k < s {
+    for k in 0..s {
         let i = ro[k];
         progress = take_pair_row(
             q, starts, cols, vals, i, progress, ro, co, ls, lc, lv, us, uc, uv, work,
@@ -96,9 +95,8 @@ pub fn find_pivots(
                 progress: progress,
             };
         }
-        k += 1;
     }
-    if k < ro.len() {
+    if s < ro.len() {
         return find_rest(
             q, starts, cols, vals, s, progress, ro, co, ls, lc, lv, us, uc, uv, work,
         );

@@ -1,7 +1,6 @@
 pub mod Residues
 pub mod Marked
 pub mod Multiples
-pub mod PivotSearch
 pub mod MarkedPivots
 pub mod MarkedRows
 pub mod SettledRows

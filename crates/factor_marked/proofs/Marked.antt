@@ -1,20 +1,18 @@
 -- What is not marked is 0: before a row is taken away, after it, and where a cell is cleared.
-use mathlib.Core.Path.{◌≡◌, sym, ap, ◌∙◌, subst}
+use mathlib.Core.Path.{◌≡◌, sym, ap, ◌∙◌}
 use mathlib.Core.Bool.{Bool, false, true≢false}
 use mathlib.Core.List.{List}
-use Prim.Native.Nat.{ℕ, ◌+◌, ◌≤◌, ◌<◌}
+use Prim.Native.Nat.{ℕ, ◌≤◌, ◌<◌}
 use native.Mathlib.Decide.{ℕ_discrete}
 use native.Mathlib.Omega.{arith}
 use lib.ListN.{length, get_or, set, length-set}
-use lib.Seq.{slice, get_or-set_same, get_or-set_other}
+use lib.Seq.{get_or-set_same, get_or-set_other}
 use Rattle.lists.specs.Filled.{zeros}
 use Rattle.lists.proofs.Filled.{zeros-at}
 use Rattle.sparse.specs.Row.{Below}
-use Rattle.sparse.specs.Matrix.{row_of}
 use Rattle.factor_touch.specs.Touched.{free_block, pivot_block, Covers, ColumnsMarked, NoteReady, Noted}
 use Rattle.factor_touch.proofs.Marking.{free-inside}
 use Rattle.factor_marked.specs.Marking.{Marks}
-use Rattle.factor_marked.specs.Needs.{NoteRowReady}
 
 -- a row that is 0 wherever it was 0 and has none of the columns cs
 abbrev pub Touches : List ℕ → List ℕ → List ℕ → Type 0
@@ -74,16 +72,3 @@ marks-none place touched pending w long longer clear =
   where
     zero : (j : ℕ) → get_or w j 0 ≡ 0
     zero j = ap (λ (l : List ℕ). get_or l j 0) clear ∙ zeros-at (length w) j
-
--- ---- the columns of a stored row, as a part of a list
-
-module _ (full : Bool) (k : ℕ) (starts cols place touched pending : List ℕ) (h : NoteRowReady full k starts cols place touched pending)
-    (a e : ℕ) (ea : a ≡ get_or starts k 0) (ee : e ≡ get_or starts (k + 1) 0) (cs : List ℕ) (ec : cs ≡ slice a e cols) where
-  columns-are : cs ≡ row_of starts k cols
-  columns-are = ec ∙ (λ t. slice (ea t) (ee t) cols)
-
-  pub part-ready : NoteReady full cs place touched pending
-  part-ready = subst (λ (c : List ℕ). NoteReady full c place touched pending) (sym columns-are) h.note
-
-  pub part-noted : (touched' pending' : List ℕ) (full' : Bool) → Noted cs place touched pending touched' pending' full' → Noted (row_of starts k cols) place touched pending touched' pending' full'
-  part-noted touched' pending' full' n = subst (λ (c : List ℕ). Noted c place touched pending touched' pending' full') columns-are n

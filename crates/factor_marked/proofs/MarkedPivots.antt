@@ -16,8 +16,7 @@ use Rattle.sparse.proofs.Nonzeros.{stored-none}
 use Rattle.factor_touch.specs.Touched.{cell_block}
 use Rattle.factor_touch.specs.Searching.{FirstNonzero}
 use Rattle.factor_touch.proofs.Marking.{free-here}
-use Rattle.factor_reduce.specs.Needs.{EntryReady}
-use Rattle.factor_reduce.proofs.Gathering.{entry-none, entry-over, entry-stored, Gathering, gathering-columns, gathering-values, gathering-ends, gathering-ready, gathering-zero, gathering-turn, gathering-over}
+use Rattle.factor_reduce.proofs.Gathering.{entry-none, entry-over, entry-stored, Gathering, gathering-ends, gathering-zero, gathering-turn, gathering-over}
 use Rattle.factor_marked.specs.Marking.{residues, cell_bound, Marks, MultipleMarked, PivotMarked, MultiplesMarked}
 use Rattle.factor_marked.specs.Pivots.{pivot_cell, PivotSearchReady}
 use Rattle.factor_marked.specs.Needs.{PivotStepReady, MarkedGatherReady}
@@ -90,18 +89,6 @@ module _ (p : ℕ) (C : List ℕ) (U : Compressed) (l limit : ℕ) (place touche
     pub marked-long : length w ≡ length w₀
     marked-long = sym (residues-long p w) ∙ s.rows.row.long
 
-    pub marked-columns : length lc ≡ length lc₀
-    marked-columns = gathering-columns p C U l limit w₀ lc₀ lv₀ ready.rows (residues p w) lc lv next k s.rows
-
-    pub marked-values : length lv ≡ length lv₀
-    marked-values = gathering-values p C U l limit w₀ lc₀ lv₀ ready.rows (residues p w) lc lv next k s.rows
-
-    pub marked-cells : length touched ≡ length touched₀
-    marked-cells = s.marks.cell-blocks ∙ sym ready.marks.cell-blocks
-
-    pub marked-pivots : length pending ≡ length pending₀
-    marked-pivots = s.marks.pivot-blocks ∙ sym ready.marks.pivot-blocks
-
     pub marked-ends : length C ≤ k → MultiplesMarked p C U l limit w₀ lc₀ lv₀ touched w lc lv (record { over = false; next = next })
     marked-ends h =
         record {
@@ -163,28 +150,6 @@ module _ (p : ℕ) (C : List ℕ) (U : Compressed) (l limit : ℕ) (place touche
         cleared j b (no a) = d.span.none j (omega arith) b
 
     module _ (h : k < length C) (c : ℕ) (ec : c ≡ vector C k) where
-      entry_ready : EntryReady p k c U next limit (residues p w) lc lv
-      entry_ready = gathering-ready p C U l limit w₀ lc₀ lv₀ ready.rows (residues p w) lc lv next k s.rows h c ec
-
-      pub marked-ready : PivotStepReady p k c U next limit place touched pending w lc lv full
-      marked-ready =
-          record {
-            step = record {
-              positive = positive;
-              formed = rw marked-long ready.rows.upper.formed;
-              inside = entry_ready.step.inside;
-              column = omega (arith, entry_ready.step.column, residues-long p w);
-              few = entry_ready.narrow;
-              unit = entry_ready.step.unit;
-              below = s.below;
-              narrow = omega (arith, ready.narrow, marked-long);
-              long = omega (arith, ready.placed.long, marked-long);
-              places = λ j g. ready.placed.inside j (omega (arith, g, marked-long));
-              marks = s.marks;
-            };
-            lists = entry_ready.lists;
-          }
-
       module _ (touched' pending' w' lc' lv' : List ℕ) (over : Bool) (next' : ℕ) (full' : Bool)
           (d : PivotMarked p k c (matrix U k) next limit place w lc lv touched' pending' w' lc' lv' over next' full') where
         marked_turn : over ≡ false → MarkedGathering p C U l limit place w₀ lc₀ lv₀ touched' pending' w' lc' lv' full' next' (k + 1)
@@ -205,7 +170,7 @@ module _ (p : ℕ) (C : List ℕ) (U : Compressed) (l limit : ℕ) (place touche
         pub marked-full : over ≡ true → (touched'' w'' lc'' lv'' : List ℕ) (next'' : ℕ) → MultiplesMarked p C U l limit w₀ lc₀ lv₀ touched'' w'' lc'' lv'' (record { over = true; next = next'' })
         marked-full o touched'' w'' lc'' lv'' next'' =
             record {
-              gathered = gathering-over p C U l limit w₀ lc₀ lv₀ ready.rows (residues p w) lc lv next k s.rows h c ec (residues p w') lc' lv' over next' d.entry o lc'' lv'' (residues p w'') next'';
+              gathered = rw o at (gathering-over p C U l limit w₀ lc₀ lv₀ ready.rows (residues p w) lc lv next k s.rows h c ec (residues p w') lc' lv' over next' d.entry o lc'' lv'' (residues p w'') next'');
               covers = λ e. absurd (true≢false e);
             }
 

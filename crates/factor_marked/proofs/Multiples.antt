@@ -117,9 +117,6 @@ module _ (p k c : ℕ) (U : Compressed) (place touched pending w : List ℕ) (fu
         touched-only : Touches (row_of U.starts k U.cols) w w₁
         touched-only j g absent = kept j g (entry_absent (row_of U.starts k U.cols) (row_of U.starts k U.vals) j absent)
 
-pub taken-long : (p k c : ℕ) (u : Vector) (place w₀ touched pending w : List ℕ) (x : ℕ) (full : Bool) → MultipleMarked p k c u place w₀ touched pending w x full → length w ≡ length w₀
-taken-long p k c u place w₀ touched pending w x full t = sym (residues-long p w) ∙ t.taken.long ∙ residues-long p w₀
-
 -- the same of lists that are known by other names
 pub marked-as : (p k c : ℕ) (u : Vector) (place w₀ touched touched' pending pending' w w' : List ℕ) (x : ℕ) (full full' : Bool) → touched ≡ touched' → pending ≡ pending' → w ≡ w' → full ≡ full'
     → MultipleMarked p k c u place w₀ touched' pending' (set w' c 0) x full' → MultipleMarked p k c u place w₀ touched pending (set w c 0) x full

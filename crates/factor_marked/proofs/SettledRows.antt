@@ -2,7 +2,7 @@
 use mathlib.Core.Path.{◌≡◌, refl, sym, ap, ◌∙◌}
 use mathlib.Core.Bool.{Bool, true, false, ◌&&◌}
 use mathlib.Core.List.{List}
-use Prim.Native.Nat.{ℕ, ◌+◌, ◌-◌, ◌*◌, ◌%◌, ◌≤◌, ◌<◌}
+use Prim.Native.Nat.{ℕ, ◌+◌, ◌-◌, ◌*◌, ◌%◌, ◌<◌}
 use native.Mathlib.Nat.{mod-lt, mod-eq_of_lt, zero-mod}
 use native.Mathlib.Decide.{ℕ_discrete}
 use native.Mathlib.Omega.{arith}
@@ -16,14 +16,14 @@ use Rattle.lists.specs.Tabulate.{tabulate}
 use Rattle.lists.proofs.Filled.{length-zeros, zeros-at}
 use Rattle.lists.proofs.Tests.{first-ext, first-before, first-here}
 use Rattle.lists.proofs.Tabulate.{tabulate-ext}
-use Rattle.residue.specs.Inverse.{inv_mod, Invertible}
+use Rattle.residue.specs.Inverse.{inv_mod}
 use Rattle.sparse.specs.Row.{Below}
 use Rattle.sparse.specs.Matrix.{Compressed, matrix}
 use Rattle.sparse.specs.Dense.{nonzeros, scaled}
 use Rattle.sparse.specs.Storing.{DenseStored}
-use Rattle.sparse.proofs.Nonzeros.{scaled-tabulate, stored-columns, stored-values}
+use Rattle.sparse.proofs.Nonzeros.{scaled-tabulate}
 use Rattle.factor_touch.specs.Touched.{cell_block, Covers}
-use Rattle.factor_touch.specs.Settling.{SettleReady, RowSettled, StoreSettledReady}
+use Rattle.factor_touch.specs.Settling.{RowSettled, StoreSettledReady}
 use Rattle.factor_reduce.specs.declared.gather.Gathered.{Gathered}
 use Rattle.factor_row.specs.declared.pivot_row.Step.{Step}
 use Rattle.factor_row.specs.Gathering.{Reduction, reduction_by, cut}
@@ -31,9 +31,9 @@ use Rattle.factor_row.specs.Entries.{EntryLists, entry_lists_of}
 use Rattle.factor_row.specs.PivotRow.{PivotOutcome}
 use Rattle.factor_row.specs.Taking.{RowFound}
 use Rattle.factor_row.proofs.PivotRows.{store-ready}
-use Rattle.factor_row.proofs.TakenRows.{first-most, other-over, enough, other-dependent, other-taken}
+use Rattle.factor_row.proofs.TakenRows.{first-most, other-over, other-dependent, other-taken}
 use Rattle.factor_marked.specs.Marking.{residues, RowMarked, lowest, RemainderTaken}
-use Rattle.factor_marked.specs.Needs.{MarkedRowFrom, SettledPivotReady, RemainderReady, MarkedReady}
+use Rattle.factor_marked.specs.Needs.{SettledPivotReady, RemainderReady, MarkedReady}
 use Rattle.factor_marked.proofs.Residues.{residues-long, residue-twice, residues-are}
 
 -- ---- a row and its settled row
@@ -77,13 +77,6 @@ module _ (p : ℕ) (w₀ w : List ℕ) (count low : ℕ) (positive : 0 < p) (s :
 -- ---- it is stored
 
 module _ (p c n r at l total : ℕ) (touched w lc lv uc uv : List ℕ) (h : SettledPivotReady p c n r at l total touched w (entry_lists_of lc lv uc uv)) where
-  pub pivot-invertible : (v : ℕ) → v ≡ get_or w c 0 % p → Invertible p v
-  pivot-invertible v e = record { prime = h.pivot.prime; nonzero = go (ℕ_discrete v 0); below = rw e (mod-lt (get_or w c 0) (omega (arith, h.pivot.prime.two))) }
-    where
-      go : Dec (v ≡ 0) → 0 < v
-      go (yes z) = absurd (h.pivot.here (sym e ∙ z))
-      go (no z) = omega arith
-
   pub pivot-storable : (b : Bool) → b ≡ (leb (total + 1) (length lc) && leb (at + n) (length uc)) → b ≡ true → (x i : ℕ) → x ≡ get_or w c 0 % p → i ≡ inv_mod p x → i < p
       → StoreSettledReady p i at touched w uc uv
   pivot-storable b eb e x i ex ei low =
@@ -99,9 +92,6 @@ module _ (p c n r at l total : ℕ) (touched w lc lv uc uv : List ℕ) (h : Sett
 module _ (p r at l next total : ℕ) (touched w lc lv uc uv : List ℕ) (h : RemainderReady p r at next total touched w (entry_lists_of lc lv uc uv)) where
   positive : 0 < p
   positive = omega (arith, h.prime.two)
-
-  pub settle-ready : SettleReady p touched w
-  settle-ready = record { positive = positive; blocks = h.blocks; covers = h.covers }
 
   module _ (w₁ : List ℕ) (count low : ℕ) (s : RowSettled p w w₁ count low) where
     pub remainder-none : low ≡ length w₁ → RemainderTaken p r at l next total w (entry_lists_of lc lv uc uv) w₁ (entry_lists_of lc lv uc uv) (record { over = false; column = low; at = at; l = l; total = total })
@@ -154,9 +144,6 @@ module _ (p i r at l total : ℕ) (A : Compressed) (columns us place w lc lv uc 
   abbrev reduction : Reduction
   reduction = reduction_by p (length w) r (take r columns) (cut r at us uc uv) (matrix A i)
 
-  pub row-ready : (touched : List ℕ) → length touched ≡ 129 → MarkedRowFrom p i r at l total A columns us uc uv place touched w lc lv
-  row-ready touched e = record { row = h.other.row; placed = h.placed; narrow = h.narrow; blocks = e }
-
   module _ (touched lc₁ lv₁ w₁ : List ℕ) (o : Gathered) (g : RowMarked p l total reduction lc lv touched lc₁ lv₁ w₁ o) where
     pub marked-over : o.over ≡ true → (uc' uv' row' : List ℕ) (found at' l' total' : ℕ) → RowFound p at l total reduction (entry_lists_of lc lv uc uv) (entry_lists_of lc₁ lv₁ uc' uv') row' (record { over = true; column = found; at = at'; l = l'; total = total' })
     marked-over = other-over p i r at l total A columns us w lc lv uc uv h.other lc₁ lv₁ (residues p w₁) o g.gathered
@@ -165,15 +152,6 @@ module _ (p i r at l total : ℕ) (A : Compressed) (columns us place w lc lv uc 
       stored : DenseStored 0 l reduction.multiples lc lv lc₁ lv₁ o.next
       stored = g.gathered.stored e
 
-      pub marked-enough : total + (o.next - l) ≤ length lc
-      marked-enough = omega (arith, enough p i r at l total A columns us w lc lv uc uv h.other lc₁ lv₁ (residues p w₁) o g.gathered e, stored.place)
-
-      pub marked_next : l ≤ o.next
-      marked_next = omega (arith, stored.place)
-
-      row-long : length w₁ ≡ length w
-      row-long = sym (residues-long p w₁) ∙ (g.gathered.remainder e).long
-
       lowest-is : lowest p w₁ ≡ lowest p (residues p w₁)
       lowest-is =
           first-ext (length w₁) (λ j. eqb (get_or w₁ j 0 % p) 0) (λ j. eqb (get_or (residues p w₁) j 0 % p) 0)
@@ -181,26 +159,6 @@ module _ (p i r at l total : ℕ) (A : Compressed) (columns us place w lc lv uc 
           ∙ ap (λ (n : ℕ). first n (λ j. eqb (get_or (residues p w₁) j 0 % p) 0)) (sym (residues-long p w₁))
 
       module _ (total₁ : ℕ) (et : total₁ ≡ total + (o.next - l)) where
-        pub remainder-ready : length touched ≡ 129 → RemainderReady p r at o.next total₁ touched w₁ (entry_lists_of lc₁ lv₁ uc uv)
-        remainder-ready long =
-            record {
-              prime = h.other.prime;
-              blocks = omega (arith, long, row-long, h.narrow);
-              covers = g.covers e;
-              lists = record {
-                narrow = omega (arith, h.other.lists.narrow, row-long);
-                rank = h.other.lists.rank;
-                L-paired = columns-long ∙ h.other.lists.L-paired ∙ sym (stored-values 0 l reduction.multiples lc lv lc₁ lv₁ o.next stored);
-                U-paired = h.other.lists.U-paired;
-                L-place = omega (arith, et, marked_next, h.other.lists.L-place);
-                L-room = omega (arith, et, marked-enough, columns-long);
-                U-room = h.other.lists.U-room;
-              };
-            }
-          where
-            columns-long : length lc₁ ≡ length lc
-            columns-long = stored-columns 0 l reduction.multiples lc lv lc₁ lv₁ o.next stored
-
         pub marked-taken : (row' : List ℕ) (e' : EntryLists) (t : Step) → RemainderTaken p r at l o.next total₁ w₁ (entry_lists_of lc₁ lv₁ uc uv) row' e' t
             → RowFound p at l total reduction (entry_lists_of lc lv uc uv) e' row' t
         marked-taken row' e' t d = go (ℕ_discrete (lowest p w₁) (length w₁))

@@ -127,6 +127,7 @@ pub fn gather_marked(
     let mut full = noted;
     let mut next = l;
     let mut k = next_pivot(pending, co, work, 0);
+    // A while: the next pivot is found by a search, which reads what this turn leaves.
     while k < co.len() {
         let c = index(co[k]);
         let g = gather_pivot(

@@ -12,14 +12,12 @@ fn next_in_pivots(co: &[u32], work: &[u64], from: usize, end: usize) -> usize
     requires { PivotCellsReady co.now work.now from end }
     ensures { FirstNonzero (pivot_cell co.now work.now) end from result }
 {
-    let mut k = from;
-    while k < end {
+    for k in from..end {
         if work[index(co[k])] != 0 {
             return k;
         }
-        k += 1;
     }
-    k
+    end
 }
 
 // A place after k, at whose column the row is 0, up to which it is 0 at all pivot columns.
@@ -40,6 +38,7 @@ pub fn next_pivot(pending: &[u8], co: &[u32], work: &[u64], from: usize) -> usiz
     ensures { FirstNonzero (pivot_cell co.now work.now) (length co.now) from result }
 {
     let mut k = from;
+    // A while: the next place is found by a search, and blocks are passed over.
     while k < co.len() {
         if work[index(co[k])] != 0 {
             return k;

@@ -2,17 +2,17 @@
 use mathlib.Core.Path.{◌≡◌, refl, sym, ap, ◌∙◌}
 use mathlib.Core.Bool.{Bool, true, false, cond, ◌||◌, or-true, or-false}
 use mathlib.Core.List.{List, [], ◌∷◌, ◌++◌}
-use Prim.Native.Nat.{ℕ, zero, suc, ◌+◌, ◌≤◌, ◌<◌}
+use Prim.Native.Nat.{ℕ, ◌+◌, ◌≤◌, ◌<◌}
 use native.Mathlib.Decide.{ℕ_discrete}
 use native.Mathlib.Numerals.{add-one}
 use native.Mathlib.Omega.{arith}
 use lib.Dec.{eqb}
 use lib.ListN.{length, get_or, take, set, length-set, length-append}
-use lib.Seq.{take-suc, length-take-le, get_or-take, get_or-set_same, get_or-set_other}
+use lib.Seq.{take_all, take-suc, length-take-le, get_or-take, get_or-set_same, get_or-set_other}
 use borrow.Author.Tests.{eq-eqb, ne_eqb}
 use Rattle.lists.specs.Filled.{zeros}
 use Rattle.lists.specs.Tabulate.{tabulate}
-use Rattle.lists.proofs.Filled.{Clearing, zeros-at, clearing-starts, clearing-turn, clearing-ends, clearing-cell}
+use Rattle.lists.proofs.Filled.{zeros-at, length-zeros}
 use Rattle.lists.proofs.Tabulate.{length-tabulate, tabulate-at, tabulated}
 use Rattle.algebra.specs.Matrix.{Distinct, vector}
 use Rattle.lists.specs.Tests.{among}
@@ -22,13 +22,13 @@ use Rattle.algebra.proofs.Completion.{completed-length}
 use Rattle.factor_order.specs.Needs.{Completable}
 use Rattle.lists.specs.Stored.{Stored}
 use Rattle.factor_order.specs.Completion.{marked, unmarked, AppendReady, Completed}
-use Rattle.lists.proofs.Stored.{stored-none, stored_one, stored-then, stored-length, stored-to-end}
+use Rattle.lists.proofs.Stored.{stored-none, stored-then, stored-length, stored-to-end}
 use Rattle.factor_order.proofs.Rising.{rising}
 
 -- ---- marking: the marks are those of the numbers passed
 
-pub record Marking (xs w₀ w : List ℕ) (i : ℕ) : Type 0 where
-  pub long : length w ≡ length w₀
+pub record Marking (xs : List ℕ) (n : ℕ) (w : List ℕ) (i : ℕ) : Type 0 where
+  pub long : length w ≡ n
   pub marks : (x : ℕ) → get_or w x 0 ≡ marked (take i xs) x
 
 -- one number more
@@ -36,12 +36,12 @@ among-snoc : (xs : List ℕ) (v x : ℕ) → among x (xs ++ (v ∷ [])) ≡ (amo
 unfolding among
 among-snoc xs v x = among-append xs (v ∷ []) x ∙ ap (λ (b : Bool). among x xs || b) (or-false (eqb x v))
 
-module _ (xs w₀ : List ℕ) where
-  pub marking-starts : w₀ ≡ zeros (length xs) → Marking xs w₀ w₀ 0
+module _ (xs : List ℕ) (n : ℕ) where
+  pub marking-starts : (w : List ℕ) → w ≡ zeros n → Marking xs n w 0
   unfolding among
-  marking-starts z = record { long = refl; marks = λ x. ap (λ (l : List ℕ). get_or l x 0) z ∙ zeros-at (length xs) x }
+  marking-starts w z = record { long = ap length z ∙ length-zeros n; marks = λ x. ap (λ (l : List ℕ). get_or l x 0) z ∙ zeros-at n x }
 
-  pub marking-turn : (w : List ℕ) (i v : ℕ) → i < length xs → v ≡ get_or xs i 0 → v < length w → Marking xs w₀ w i → Marking xs w₀ (set w v 1) (i + 1)
+  pub marking-turn : (w : List ℕ) (i v : ℕ) → i < length xs → v ≡ get_or xs i 0 → v < n → Marking xs n w i → Marking xs n (set w v 1) (i + 1)
   marking-turn w i v h e b s =
       record { long = length-set w v 1 ∙ s.long; marks = λ x. at x (ℕ_discrete v x) ∙ ap (λ (l : List ℕ). marked l x) (sym more) }
     where
@@ -51,29 +51,17 @@ module _ (xs w₀ : List ℕ) where
       at : (x : ℕ) → Dec (v ≡ x) → get_or (set w v 1) x 0 ≡ marked (take i xs ++ (v ∷ [])) x
       at x (yes q) =
           ap (λ (k : ℕ). get_or (set w v 1) k 0) (sym q)
-          ∙ get_or-set_same w v 1 0 b
+          ∙ get_or-set_same w v 1 0 (omega (arith, b, s.long))
           ∙ ap (λ (t : Bool). cond t 1 0) (sym (among-snoc (take i xs) v x ∙ ap (λ (t : Bool). among x (take i xs) || t) (eq-eqb x v (sym q)) ∙ or-true (among x (take i xs))))
       at x (no q) =
           get_or-set_other w v x 1 0 (λ y. q (sym y))
           ∙ s.marks x
           ∙ ap (λ (t : Bool). cond t 1 0) (sym (among-snoc (take i xs) v x ∙ ap (λ (t : Bool). among x (take i xs) || t) (ne_eqb x v (λ e. q (sym e))) ∙ or-false (among x (take i xs))))
 
-  pub marking-ends : (w : List ℕ) (k i : ℕ) → length w₀ ≡ length xs → i ≡ k → Marking xs w₀ w i → w ≡ tabulate (length xs) (marked (take k xs))
-  marking-ends w k i long e s =
-      tabulated (length xs) (marked (take k xs)) w (s.long ∙ long) (λ x h. s.marks x ∙ ap (λ (j : ℕ). marked (take j xs) x) e)
+  pub marking-ends : (w : List ℕ) (i : ℕ) → length xs ≤ i → Marking xs n w i → w ≡ tabulate n (marked xs)
+  marking-ends w i h s = tabulated n (marked xs) w s.long (λ x l. s.marks x ∙ ap (λ (ys : List ℕ). marked ys x) (take_all i xs h))
 
--- ---- appending: the numbers passed that are not marked are written, and their marks cleared
-
--- one number
-pub one-unmarked : (v x : ℕ) → v ≡ 0 → unmarked v x ≡ x ∷ []
-one-unmarked v x e = ap (λ (y : ℕ). unmarked y x) e
-
-pub append-marked : (v x at : ℕ) (l : List ℕ) → (v ≡ 0 → ⊥) → Stored l l at at (unmarked v x)
-append-marked zero x at l h = absurd (h refl)
-append-marked (suc v) x at l h = stored-none
-
-pub append-one : (v x at : ℕ) (l : List ℕ) → v ≡ 0 → Stored l (set l at x) at (at + 1) (unmarked v x)
-append-one v x at l e = rw (one-unmarked v x e) (stored_one l at x)
+-- ---- appending: the numbers passed that are not marked are written
 
 -- a number that is among xs is not among the others
 pub rest-turn : (xs : List ℕ) (x v : ℕ) → v ≡ marked xs x → rest xs (x + 1) ≡ rest xs x ++ unmarked v x
@@ -88,47 +76,37 @@ rest-grows : (xs : List ℕ) (a b : ℕ) → a ≤ b → length (rest xs a) ≤ 
 unfolding rest
 rest-grows xs a b h = rising (λ k. length (rest xs k)) (λ k. omega (arith, length-append (rest xs k) (cond (among k xs) [] (k ∷ [])))) a b h
 
-pub record Appending (k : ℕ) (xs₀ w₀ xs w : List ℕ) (at x : ℕ) : Type 0 where
-  pub clearing : Clearing w₀ w x
-  pub written : Stored xs₀ xs k at (rest (take k xs₀) x)
-
-module _ (k : ℕ) (xs₀ w₀ : List ℕ) (r : AppendReady k xs₀ w₀) where
+module _ (k : ℕ) (xs₀ w : List ℕ) (r : AppendReady k xs₀ w) where
   abbrev given : List ℕ
   given = take k xs₀
 
-  pub marks-long : length w₀ ≡ length xs₀
+  pub marks-long : length w ≡ length xs₀
   marks-long = ap length r.marks ∙ length-tabulate (length xs₀) (marked given)
 
-  pub appending-starts : Appending k xs₀ w₀ xs₀ w₀ k 0
+  pub appending-starts : Stored xs₀ xs₀ k k (rest given 0)
   unfolding rest
-  appending-starts = record { clearing = clearing-starts w₀; written = stored-none }
+  appending-starts = stored-none
 
-  module _ (xs w : List ℕ) (at x : ℕ) (s : Appending k xs₀ w₀ xs w at x) where
-    next : x < length w₀ → rest given (x + 1) ≡ rest given x ++ unmarked (get_or w x 0) x
-    next h =
-        rest-turn given x (get_or w x 0)
-        (clearing-cell w₀ w x h s.clearing ∙ ap (λ (l : List ℕ). get_or l x 0) r.marks ∙ tabulate-at (length xs₀) (marked given) x (omega (arith, marks-long)))
+  module _ (xs : List ℕ) (at x : ℕ) (s : Stored xs₀ xs k at (rest given x)) where
+    next : x < length w → rest given (x + 1) ≡ rest given x ++ unmarked (get_or w x 0) x
+    next h = rest-turn given x (get_or w x 0) (ap (λ (l : List ℕ). get_or l x 0) r.marks ∙ tabulate-at (length xs₀) (marked given) x (omega (arith, marks-long)))
 
-    pub appending-room : x < length w₀ → at + length (unmarked (get_or w x 0) x) ≤ length xs
+    pub appending-room : x < length w → at + length (unmarked (get_or w x 0) x) ≤ length xs
     appending-room h =
         omega (
           arith,
-          s.written.next-is,
-          stored-length s.written,
+          s.next-is,
+          stored-length s,
           ap length (next h) ∙ length-append (rest given x) (unmarked (get_or w x 0) x),
           rest-grows given (x + 1) (length xs₀) (omega (arith, marks-long)),
           r.room,
         )
 
-    pub appending-turn : (xs' : List ℕ) (at' : ℕ) → x < length w₀ → Stored xs xs' at at' (unmarked (get_or w x 0) x) → Appending k xs₀ w₀ xs' (set w x 0) at' (x + 1)
-    appending-turn xs' at' h d = record { clearing = clearing-turn w₀ w x h s.clearing; written = rw (next h) (stored-then s.written d) }
+    pub appending-turn : (xs' : List ℕ) (at' : ℕ) → x < length w → Stored xs xs' at at' (unmarked (get_or w x 0) x) → Stored xs₀ xs' k at' (rest given (x + 1))
+    appending-turn xs' at' h d = rw (next h) (stored-then s d)
 
-    pub appending-ends : length w₀ ≤ x → Completed k xs₀ xs w
-    appending-ends h =
-        record {
-          order = stored-to-end r.room (rw (let e : x ≡ length xs₀ = omega (arith, marks-long, s.clearing.inside) in e) at s.written);
-          cleared = clearing-ends w₀ w x h s.clearing ∙ ap zeros marks-long;
-        }
+    pub appending-ends : x ≡ length w → (w' : List ℕ) → w' ≡ zeros (length w) → Completed k xs₀ xs w'
+    appending-ends e w' z = record { order = stored-to-end r.room (rw (e ∙ marks-long) at s); cleared = z ∙ ap zeros marks-long }
 
 -- the marks of distinct numbers, and as many places as there are others
 pub append-ready : (k : ℕ) (xs w₀ w : List ℕ) → Completable k xs w₀ → w ≡ tabulate (length xs) (marked (take k xs)) → AppendReady k xs w

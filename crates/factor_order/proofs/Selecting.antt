@@ -15,11 +15,10 @@ use Rattle.elimination.specs.Structural.{Pair, paired, chosen, leading}
 use Rattle.lists.specs.Members.{Member}
 use Rattle.elimination.specs.Selection.{pair_at}
 use Rattle.factor_names.specs.Sized.{SmallMatrix}
-use Rattle.factor_names.specs.Named.{ByColumn, Named}
+use Rattle.factor_names.specs.Named.{ByColumn}
 use Rattle.factor_select.specs.Needs.{NameReady}
-use Rattle.factor_arrange.specs.Needs.{ArrangeReady, Arranged}
 use Rattle.factor_order.specs.Needs.{Searchable}
-use Rattle.factor_order.specs.Search.{row_in, Chosen, ChooseReady, PairsFound}
+use Rattle.factor_order.specs.Search.{row_in, Chosen}
 
 -- ---- the pairs of the first columns
 
@@ -91,24 +90,9 @@ module _ (p n m : ℕ) (A : Compressed) (R₀ C₀ w₀ : List ℕ) (h : Searcha
   wide : length w₀ ≡ m
   wide = ap length h.w-clear ∙ length-zeros m
 
-  pub choose-ready : ChooseReady p n A w₀
-  choose-ready = record { formed = rw wide h.formed; rows = h.rows; clear = h.w-clear ∙ ap zeros (sym wide) }
-
   module _ (w : List ℕ) (long : length w ≡ m) where
     sized : SmallMatrix p n (length w) A
     sized = record { formed = rw long h.formed; rows = h.rows; n-small = h.n-small; m-small = rw long h.m-small }
 
     pub name-ready : (v : List ℕ) → v ≡ zeros n → Chosen A n w → NameReady p n A w v
     name-ready v z s = record { sized = sized; leading-named = leading-named A n w s; clear = z }
-
-    pub arrange-ready : (k : ℕ) (v : List ℕ) → Named A n k n w v → ArrangeReady p n A w v R₀ C₀
-    arrange-ready k v s =
-        record {
-          sized = sized;
-          named = subst (λ (wide : ℕ). Named A n wide n w v) (sym s.columns-long) s;
-          R-clear = h.R-clear;
-          C-clear = h.C-clear ∙ ap zeros (sym long);
-        }
-
-    pub pairs-found : (k : ℕ) (R C v : List ℕ) → Arranged n (length w) A k R C → v ≡ zeros (length w) → PairsFound n m A k R C v
-    pairs-found k R C v d z = subst (λ (wide : ℕ). PairsFound n wide A k R C v) long (record { count = d.count; rows = d.rows; columns = d.columns; cleared = z })

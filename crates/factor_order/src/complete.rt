@@ -5,18 +5,15 @@ ghost use Rattle.factor_order.specs.Needs.{Completable};
 ghost use Rattle.lists.specs.Stored.{Stored};
 ghost use Rattle.factor_order.specs.Completion.{marked, unmarked, AppendReady, Completed};
 
-use lists::index;
+use lists::{clear_row, index};
 
 // Marks the first k numbers of the list.
 fn mark(k: usize, list: &[u32], marks: &mut [u64])
     requires { Completable k list.now marks.old }
     ensures { marks.new ≡ tabulate (length list.now) (marked (take k list.now)) }
 {
-    let mut i = 0;
-    while i < k {
-        let x = index(list[i]);
-        marks[x] = 1;
-        i += 1;
+    for &x in &list[..k] {
+        marks[index(x)] = 1;
     }
 }
 
@@ -38,12 +35,10 @@ fn append_unmarked(k: usize, list: &mut [u32], marks: &mut [u64])
     ensures { Completed k list.old list.new marks.new }
 {
     let mut at = k;
-    let mut x = 0;
-    while x < marks.len() {
-        at = append(x as u32, marks[x], at, list);
-        marks[x] = 0;
-        x += 1;
+    for (x, &mark) in marks.iter().enumerate() {
+        at = append(x as u32, mark, at, list);
     }
+    clear_row(marks);
 }
 
 // Completes an order of which the first k numbers are given.

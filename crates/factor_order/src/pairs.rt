@@ -49,10 +49,8 @@ fn choose(starts: &[u32], cols: &[u32], vals: &[u32], p: u32, n: usize, work: &m
     requires { ChooseReady p n (stored_at starts.now cols.now vals.now) work.old }
     ensures { Chosen (stored_before starts.now cols.now vals.now) n work.new }
 {
-    let mut i = 0;
-    while i < n {
+    for i in 0..n {
         consider(starts, cols, vals, p, i, work);
-        i += 1;
     }
 }
 

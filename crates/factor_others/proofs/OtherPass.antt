@@ -1,5 +1,5 @@
 -- The rows that have no structural pivot, taken one by one: what holds before row k, that each turn keeps it, and what it comes to.
-use mathlib.Core.Path.{◌≡◌, sym, ap, ◌∙◌, subst}
+use mathlib.Core.Path.{◌≡◌, ap, ◌∙◌, subst}
 use mathlib.Core.Bool.{true, false}
 use mathlib.Core.List.{List}
 use Prim.Native.Nat.{ℕ, ◌+◌, ◌≤◌, ◌<◌}
@@ -17,9 +17,9 @@ use Rattle.factor_turn.specs.Others.{RowsTaken}
 use Rattle.factor_turn.proofs.Sizes.{rank_most}
 use Rattle.factor_turn.proofs.Readiness.{other-ready}
 use Rattle.factor_turn.proofs.PivotPass.{SameLengths}
-use Rattle.factor_turn.proofs.OtherRows.{Going, state-distinct, ColumnsGrown, going-starts, going-ready, going-over, columns-grown, going-turn, going-ends}
-use Rattle.factor_others.specs.Needs.{PlaceReady, PlacesFilled, EnterReady, PlaceEntered, MarkedTurnReady, OthersReady}
-use Rattle.factor_others.proofs.Places.{placed-fewer, enter-ready, places-grown}
+use Rattle.factor_turn.proofs.OtherRows.{Going, state-distinct, ColumnsGrown, going-ready, going-over, columns-grown, going-turn, going-ends}
+use Rattle.factor_others.specs.Needs.{PlaceReady, EnterReady, PlaceEntered, MarkedTurnReady, OthersReady}
+use Rattle.factor_others.proofs.Places.{enter-ready, places-grown}
 
 -- a row can be taken by way of the blocks that it touches
 pub marked-ready : (p i : ℕ) (place : List ℕ) (A : Compressed) (R C : List ℕ) (L U : Compressed) (w : List ℕ) (from : Progress) → MarkedTurnReady p i place A (storage_of R C L U w) from
@@ -61,14 +61,6 @@ module _ (p s : ℕ) (A : Compressed) (R₀ C₀ : List ℕ) (L₀ U₀ : Compre
           few = omega (arith, rank-first, h.narrow);
           distinct = record { below = λ a b. omega (arith, columns-first.below a b, h.narrow); apart = columns-first.apart };
           none = none;
-        }
-
-    pub taking-starts : (place₀ place : List ℕ) → length place₀ ≡ 2048 → PlacesFilled s C₀ place₀ place → Taking place R₀ C₀ L₀ U₀ w₀ s from₀
-    taking-starts place₀ place long d =
-        record {
-          rows = going-starts p s A R₀ C₀ L₀ U₀ w₀ from₀ h.ready Any (λ f g. omega arith);
-          placed = subst (λ (r : ℕ). Placed r C₀ place m) (sym h.ready.rank) (placed-fewer s C₀ place (length place₀) m (omega (arith, h.narrow)) d.placed);
-          long = d.long ∙ long;
         }
 
     -- ---- a turn

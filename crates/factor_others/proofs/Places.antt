@@ -9,7 +9,7 @@ use lib.Seq.{get_or-set_same, get_or-set_other}
 use Rattle.algebra.specs.Matrix.{Distinct, vector}
 use Rattle.factor_marked.specs.Needs.{PivotOf, Placed}
 use Rattle.factor_turn.proofs.OtherRows.{ColumnsGrown}
-use Rattle.factor_others.specs.Needs.{PlaceReady, PlacesFilled, EnterReady, PlaceEntered}
+use Rattle.factor_others.specs.Needs.{EnterReady, PlaceEntered}
 
 -- one pivot more
 module _ (r : ℕ) (C place : List ℕ) (m : ℕ) (h : Placed r C place m) (c : ℕ) (ec : c ≡ get_or C r 0) (wide : ℕ) (d : Distinct (r + 1) wide (vector C)) (b : c < length place) (few : r ≤ 2048) where
@@ -43,36 +43,6 @@ module _ (s : ℕ) (C place₀ : List ℕ) where
     pub inside : k ≤ s
     pub long : length place ≡ length place₀
     pub placed : Placed k C place (length place₀)
-
-  pub filling-starts : PlaceReady s C place₀ → Filling place₀ 0
-  filling-starts ready =
-      record { inside = omega arith; long = refl; placed = none }
-    where
-      none : Placed 0 C place₀ (length place₀)
-      none =
-          record {
-            long = omega arith;
-            inside = λ j h. omega (arith, ready.none j h);
-            pivots = λ k h. absurd (omega arith);
-            only = λ j h q. absurd (q (ready.none j h));
-          }
-
-  pub filling-turn : PlaceReady s C place₀ → (place : List ℕ) (k c : ℕ) → k < s → c ≡ get_or C k 0 → Filling place k → Filling (set place c k) (k + 1)
-  filling-turn ready place k c b e t =
-      record {
-        inside = omega arith;
-        long = length-set place c k ∙ t.long;
-        placed = place_set k C place (length place₀) t.placed c e (length place₀)
-            (record { below = λ a h. ready.distinct.below a (omega arith); apart = λ a x h g. ready.distinct.apart a x (omega arith) (omega arith) })
-            (omega (arith, e, ready.distinct.below k b, t.long)) (omega (arith, ready.few));
-      }
-
-  pub filling-ends : (place : List ℕ) (k : ℕ) → s ≤ k → Filling place k → PlacesFilled s C place₀ place
-  filling-ends place k b t = record { long = t.long; placed = subst (λ (j : ℕ). Placed j C place (length place₀)) (let e : k ≡ s = omega (arith, t.inside) in e) t.placed }
-
--- the places of fewer columns
-pub placed-fewer : (r : ℕ) (C place : List ℕ) (m m' : ℕ) → m' ≤ m → Placed r C place m → Placed r C place m'
-placed-fewer r C place m m' h t = record { long = omega (arith, t.long); inside = λ j b. t.inside j (omega arith); pivots = t.pivots; only = λ j b. t.only j (omega arith) }
 
 -- ---- a turn
 

@@ -15,10 +15,8 @@ fn fill_places(s: usize, co: &[u32], place: &mut [u32])
     requires { PlaceReady s co.now place.old }
     ensures { PlacesFilled s co.now place.old place.new }
 {
-    let mut k = 0;
-    while k < s {
-        place[index(co[k])] = k as u32;
-        k += 1;
+    for (k, &column) in co[..s].iter().enumerate() {
+        place[index(column)] = k as u32;
     }
 }
 
@@ -87,8 +85,7 @@ pub fn find_others(
     let mut place = [2048u32; 2048];
     fill_places(s, co, &mut place);
     let mut progress = from;
-    let mut k = s;
-    while k < ro.len() {
+    for k in s..ro.len() {
         let i = ro[k];
         let r = progress.r;
         progress = take_marked_row(
@@ -102,7 +99,6 @@ pub fn find_others(
             };
         }
         enter_place(r, progress.r, co, &mut place);
-        k += 1;
     }
     Pass {
         stop: 0,

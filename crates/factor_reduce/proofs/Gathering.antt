@@ -15,10 +15,10 @@ use Rattle.algebra.specs.Reduction.{reduced, multiples}
 use Rattle.sparse.specs.Matrix.{Compressed, matrix}
 use Rattle.sparse.specs.Dense.{nonzeros}
 use Rattle.sparse.specs.Storing.{DenseStored}
-use Rattle.sparse.proofs.Nonzeros.{count-append, nonzeros-zero, nonzeros-one, stored-none, stored-zero, stored_one, stored-then, stored-columns, stored-values}
+use Rattle.sparse.proofs.Nonzeros.{count-append, nonzeros-zero, nonzeros-one, stored-none, stored-zero, stored_one, stored-then}
 use Rattle.factor_reduce.specs.InPlace.{RemainderRow, MultipleTaken}
 use Rattle.factor_reduce.specs.Gathering.{EntryGathered, MultiplesGathered}
-use Rattle.factor_reduce.specs.Needs.{EntryReady, GatherReady}
+use Rattle.factor_reduce.specs.Needs.{GatherReady}
 use Rattle.factor_reduce.proofs.Multiples.{nothing-taken, reduced-next}
 
 -- ---- the multiples as a dense row
@@ -114,12 +114,6 @@ module _ (p : ℕ) (C : List ℕ) (U : Compressed) (l limit : ℕ) (w₀ lc₀ l
       }
 
   module _ (w lc lv : List ℕ) (next k : ℕ) (s : Gathering p C U l limit w₀ lc₀ lv₀ w lc lv next k) where
-    pub gathering-columns : length lc ≡ length lc₀
-    gathering-columns = stored-columns 0 l (multiples p k (vector C) (matrix U) y) lc₀ lv₀ lc lv next s.stored
-
-    pub gathering-values : length lv ≡ length lv₀
-    gathering-values = stored-values 0 l (multiples p k (vector C) (matrix U) y) lc₀ lv₀ lc lv next s.stored
-
     pub gathering-ends : length C ≤ k → MultiplesGathered p (length w₀) C U y l limit lc₀ lv₀ lc lv w false next
     gathering-ends h =
         record {
@@ -135,28 +129,6 @@ module _ (p : ℕ) (C : List ℕ) (U : Compressed) (l limit : ℕ) (w₀ lc₀ l
         stored = rw all s.stored
 
     module _ (h : k < length C) (c : ℕ) (ec : c ≡ vector C k) where
-      pub gathering-inside : c < length w
-      gathering-inside = omega (arith, ec, s.row.long, ready.upper.columns.below k h)
-
-      pub gathering-ready : EntryReady p k c U next limit w lc lv
-      gathering-ready =
-          record {
-            step = record {
-              positive = ready.upper.positive;
-              formed = rw s.row.long ready.upper.formed;
-              inside = omega (arith, ready.upper.many);
-              column = gathering-inside;
-              unit = rw ec (ready.upper.unit k h);
-              below = s.row.below;
-            };
-            narrow = omega (arith, ready.narrow);
-            lists = record {
-              place = s.room;
-              room = omega (arith, ready.lists.room, gathering-columns);
-              paired = gathering-columns ∙ ready.lists.paired ∙ sym gathering-values;
-            };
-          }
-
       -- the cell stands for the multiple
       value : get_or w c 0 % p ≡ reduced p (vector C) (matrix U) k y (vector C k)
       value = ap (λ (j : ℕ). get_or w j 0 % p) ec ∙ s.row.cells (vector C k) (ready.upper.columns.below k h)
@@ -191,12 +163,12 @@ module _ (p : ℕ) (C : List ℕ) (U : Compressed) (l limit : ℕ) (w₀ lc₀ l
             (omega (arith, (d.stored o).place, leb-true (next + length (nonzeros (get_or w c 0 % p ∷ []))) limit (d.fit ∙ ap not o)))
 
         -- the room is used up, and one multiple more is not 0: all together do not fit
-        pub gathering-over : over ≡ true → (lc'' lv'' w'' : List ℕ) (next'' : ℕ) → MultiplesGathered p (length w₀) C U y l limit lc₀ lv₀ lc'' lv'' w'' true next''
+        pub gathering-over : over ≡ true → (lc'' lv'' w'' : List ℕ) (next'' : ℕ) → MultiplesGathered p (length w₀) C U y l limit lc₀ lv₀ lc'' lv'' w'' over next''
         gathering-over o lc'' lv'' w'' next'' =
             record {
-              fit = lt-leb (l + length (nonzeros (multiples p (length C) (vector C) (matrix U) y))) limit more;
-              stored = λ e. absurd (true≢false e);
-              remainder = λ e. absurd (true≢false e);
+              fit = lt-leb (l + length (nonzeros (multiples p (length C) (vector C) (matrix U) y))) limit more ∙ sym (ap not o);
+              stored = λ e. absurd (true≢false (sym o ∙ e));
+              remainder = λ e. absurd (true≢false (sym o ∙ e));
             }
           where
             full : limit < next + length (nonzeros (reduced p (vector C) (matrix U) k y (vector C k) ∷ []))

@@ -96,24 +96,15 @@ pub fn gather_multiples(
     ensures { MultiplesGathered q.p (length work.old) co.now (stored_before us.now uc.now uv.now) (λ j. get_or work.old j 0 % q.p) l limit lc.old lv.old lc.new lv.new work.new result.over result.next }
 {
     let mut next = l;
-    let mut k = 0;
-    while k < co.len() {
-        let c = index(co[k]);
+    for (k, &column) in co.iter().enumerate() {
+        let c = index(column);
         if work[c] != 0 {
             let g = gather_step(q, us, uc, uv, k, c, next, limit, work, lc, lv);
-            let over = g.over;
-            next = g.next;
-            if over {
-                return Gathered {
-                    over: true,
-                    next: next,
-                };
+            if g.over {
+                return g;
             }
+            next = g.next;
         }
-        k += 1;
     }
-    Gathered {
-        over: false,
-        next: next,
-    }
+    Gathered { over: false, next }
 }

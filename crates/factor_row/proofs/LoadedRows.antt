@@ -1,49 +1,25 @@
--- What loading a row of the matrix comes to over lists without bytes, and that the row can then be reduced.
-use mathlib.Core.Path.{◌≡◌, sym, ap, ◌∙◌, subst₂}
-use mathlib.Core.List.{List, []}
+-- A row of the matrix that was loaded can be reduced.
+use mathlib.Core.Path.{◌≡◌, ap, ◌∙◌}
+use mathlib.Core.List.{List}
 use Prim.Native.Nat.{ℕ, ◌+◌, ◌%◌, ◌≤◌, ◌<◌}
 use native.Mathlib.Nat.{mod-eq_of_lt}
 use native.Mathlib.Omega.{arith}
 use lib.ListN.{length, get_or}
-use lib.Seq.{slice}
 use Rattle.lists.specs.Tabulate.{tabulate}
 use Rattle.lists.proofs.Tabulate.{length-tabulate, tabulate-at}
-use Rattle.sparse.specs.Words.{view}
-use Rattle.sparse.specs.Row.{Row, entry}
-use Rattle.sparse.specs.Matrix.{Compressed, row_of, matrix}
-use Rattle.sparse.specs.Storing.{LoadReady}
+use Rattle.sparse.specs.Matrix.{Compressed, matrix}
 use Rattle.sparse.proofs.Rows.{form-row, form-starts, form-paired, form-below}
-use Rattle.sparse.proofs.WordLaws.{view-list}
 use Rattle.sparse.proofs.DenseSteps.{loaded-below}
 use Rattle.factor_reduce.specs.Needs.{EchelonReady}
 use Rattle.factor_row.specs.Needs.{RowLoadable, RowReduceReady}
 
+-- where row i of the matrix lies in the lists
 module _ (p i : ℕ) (A : Compressed) (w : List ℕ) (h : RowLoadable p i A w) where
-  -- where row i lies in the lists
   pub row-starts : (get_or A.starts i 0 ≤ get_or A.starts (i + 1) 0) × (get_or A.starts (i + 1) 0 ≤ length A.cols)
   row-starts = form-starts p (length w) A.starts A.cols A.vals h.formed i h.inside
 
   pub row-paired : length A.cols ≡ length A.vals
   row-paired = form-paired p (length w) A.starts A.cols A.vals h.formed
-
-  module _ (a e : ℕ) (ea : a ≡ get_or A.starts i 0) (ee : e ≡ get_or A.starts (i + 1) 0) (cs vs : List ℕ) (ec : cs ≡ slice a e A.cols) (ev : vs ≡ slice a e A.vals) where
-    columns-are : view cs [] ≡ row_of A.starts i A.cols
-    columns-are = view-list cs ∙ ec ∙ (λ t. slice (ea t) (ee t) A.cols)
-
-    values-are : view vs [] ≡ row_of A.starts i A.vals
-    values-are = view-list vs ∙ ev ∙ (λ t. slice (ea t) (ee t) A.vals)
-
-    pub load-ready : LoadReady p (view cs []) (view vs []) w
-    load-ready =
-        record {
-          row = subst₂ (Row p (length w)) (sym columns-are) (sym values-are) (form-row p (length w) A.starts A.cols A.vals h.formed i);
-          clear = h.clear;
-        }
-
-    pub load-done : (w' : List ℕ) → w' ≡ tabulate (length w) (entry (view cs []) (view vs [])) → w' ≡ tabulate (length w) (matrix A i)
-    load-done w' q = q ∙ (λ t. tabulate (length w) (entry (columns-are t) (values-are t)))
-
--- ---- and ready to be reduced
 
 module _ (p i : ℕ) (A : Compressed) (C : List ℕ) (U : Compressed) (w : List ℕ) (h : RowReduceReady p i A C U w) (w₁ : List ℕ) (e : w₁ ≡ tabulate (length w) (matrix A i)) where
   pub loaded-long : length w₁ ≡ length w

@@ -5,15 +5,14 @@ ghost use Rattle.sparse.specs.Views.{stored_at};
 ghost use Rattle.factor_row.specs.Entries.{row_before};
 ghost use Rattle.factor_row.specs.Needs.{RowLoadable};
 
-use lists::{index, part};
 use sparse::dense::load;
+use sparse::stored::Compressed;
 
 // Puts row i of the matrix into the working row, which is all zero.
 pub fn load_row(starts: &[u32], cols: &[u32], vals: &[u32], i: usize, p: u32, work: &mut [u64])
     requires { RowLoadable p i (stored_at starts.now cols.now vals.now) work.old }
     ensures { work.new ≡ tabulate (length work.old) (row_before starts.now cols.now vals.now i) }
 {
-    let a = index(starts[i]);
-    let e = index(starts[i + 1]);
-    load(part(cols, a, e), &[], part(vals, a, e), &[], p, work);
+    let matrix = Compressed::stored(starts, cols, vals);
+    load(&matrix.row(i), p, work);
 }

@@ -137,14 +137,8 @@ module _ {p n i : ℕ} {A : Compressed} {w v stamps₀ queue₀ : List ℕ} {mar
   -- ---- the next queued column
 
   module _ {stamps₁ stamps queue : List ℕ} {tail head : ℕ} (g : Reaching A n i mark w stamps₁ stamps queue tail head) (more : head < tail) (c : ℕ) (stands : c ≡ get_or queue head 0) where
-    pub next-column : c < length w
-    next-column = subst (λ (x : ℕ). x < length w) (sym stands) (g.trail.distinct.below head more)
-
     next-used : Used w c
     next-used = subst (Used w) (sym stands) (g.trail.used head more)
-
-    pub next-named : 1 ≤ get_or w c 0
-    next-named = omega (arith, next-used)
 
     next-pivot : Member (pair_at (row_at w c) c) ps
     next-pivot = pivot c next-used

@@ -151,13 +151,6 @@ module _ (p n : ℕ) (A : Compressed) (w₀ v₀ stamps₀ queue₀ : List ℕ) 
       let long : length w₀ ≡ length w = sym h.named.columns-long in
       record { sized = subst (λ (m : ℕ). SmallMatrix p n m A) long ready.sized; row = row; before = subst (λ (m : ℕ). Extended A n m i w v stamps queue) long h }
 
-  pub turn-extended : (w' v' stamps' queue' : List ℕ) → Extended A n (length w) (i + 1) w' v' stamps' queue' → Extended A n (length w₀) (i + 1) w' v' stamps' queue'
-  turn-extended w' v' stamps' queue' = subst (λ (m : ℕ). Extended A n m (i + 1) w' v' stamps' queue') h.named.columns-long
-
-  -- the lists keep their lengths
-  pub chosen-long : length v ≡ length v₀
-  chosen-long = h.named.rows_long ∙ sym ready.before.named.rows_long
-
   pub stamps-long : length stamps ≡ length stamps₀
   stamps-long = h.stamps-long ∙ sym ready.before.stamps-long
 

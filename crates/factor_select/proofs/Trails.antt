@@ -1,19 +1,19 @@
 -- The search's lists: what touching one column does to them, and how visits join.
 --   trail-few, trail-room                      the queue has room for each column that has no stamp
 --   Got                                        a column of a row that has the stamp
---   touch-known ..                             one column, by the ways out of `touch`
---   visited-none, visited-turn, visited-all    the columns of a row, one after the other
+--   touch-room, touch-queued                   one column that is queued
+--   visited-none, visited-turn                 the columns of a row, one after the other
 --   visited-still, visited-kept                a stamp stays, and no other cell changes
 use Prim.Native.Nat.{ℕ, zero, suc, ◌+◌, ◌≤◌, ◌<◌}
 use mathlib.Core.Path.{◌≡◌, refl, sym, ap, ◌∙◌, subst}
-use mathlib.Core.Bool.{Bool, true, false, true≢false}
+use mathlib.Core.Bool.{Bool}
 use mathlib.Core.Logic.{◌⊎◌, inl, inr, ⊎_elim}
 use mathlib.Core.List.{List, [], ◌∷◌, ◌++◌}
 use native.Mathlib.Omega.{arith}
 use native.Mathlib.Numerals.{add-one}
 use native.Mathlib.Decide.{ℕ_discrete, dec_lt}
 use lib.ListN.{length, get_or, set, take, length-append, length-set, get_or-append}
-use lib.Seq.{get_or-set_same, get_or-set_other, get_or-append_seam, take-suc, take_all}
+use lib.Seq.{get_or-set_same, get_or-set_other, get_or-append_seam, take-suc}
 use Rattle.algebra.specs.Matrix.{Distinct, vector}
 use Rattle.algebra.proofs.Finite.{pigeons, onto}
 use Rattle.factor_select.specs.Search.{Used, Wanted, Trail, TouchReady, Visited}
@@ -70,14 +70,6 @@ module _ (own : Bool) (w stamps queue : List ℕ) (mark tail j cell : ℕ) (h : 
   inside : j < length stamps
   inside = omega (arith, h.inside, h.trail.stamps-long)
 
-  -- a column that has the stamp, or is not wanted, changes nothing
-  as_it_was : (Wanted own w j → get_or stamps j 0 ≡ mark) → Visited own (j ∷ []) w stamps queue mark tail stamps queue tail
-  as_it_was k = record { trail = h.trail; tail-grows = omega arith; queue-kept = λ t l. refl; stamped = stamped; kept = λ c. inl refl }
-    where
-      stamped : (t : ℕ) → t < 1 → Wanted own w (get_or (j ∷ []) t 0) → get_or stamps (get_or (j ∷ []) t 0) 0 ≡ mark
-      stamped zero l a = k a
-      stamped (suc t) l a = absurd (omega arith)
-
   -- a wanted column gets the stamp
   gets-stamp : Wanted own w j → (queue₁ : List ℕ) (tail₁ : ℕ) → Trail w (set stamps j mark) queue₁ mark tail₁ → tail ≤ tail₁ → ((k : ℕ) → k < tail → get_or queue₁ k 0 ≡ get_or queue k 0)
       → Visited own (j ∷ []) w stamps queue mark tail (set stamps j mark) queue₁ tail₁
@@ -92,37 +84,6 @@ module _ (own : Bool) (w stamps queue : List ℕ) (mark tail j cell : ℕ) (h : 
           → (get_or (set stamps j mark) c 0 ≡ get_or stamps c 0) ⊎ Got own (j ∷ []) w (set stamps j mark) mark c
       kept c (inl s) = inr (0, omega arith, sym s.0, subst (Wanted own w) (sym s.0) a, s.1)
       kept c (inr s) = inl s.1
-
-  pub touch-known : get_or stamps j 0 ≡ mark → Visited own (j ∷ []) w stamps queue mark tail stamps queue tail
-  touch-known e = as_it_was (λ a. e)
-
-  pub touch-left : own ≡ true → cell ≡ 0 → Visited own (j ∷ []) w stamps queue mark tail stamps queue tail
-  touch-left o e = as_it_was (λ a. never a)
-    where
-      never : Wanted own w j → get_or stamps j 0 ≡ mark
-      never (inl f) = absurd (true≢false (sym o ∙ f))
-      never (inr u) = absurd (u (sym h.cell-is ∙ e))
-
-  pub touch-stamped : own ≡ false → cell ≡ 0 → Visited own (j ∷ []) w stamps queue mark tail (set stamps j mark) queue tail
-  touch-stamped o e = gets-stamp (inl o) queue tail trail (omega arith) (λ k l. refl)
-    where
-      all : (c : ℕ) → c < length w → get_or (set stamps j mark) c 0 ≡ mark → Used w c → (k : ℕ) × (k < tail) × (get_or queue k 0 ≡ c)
-      all c l s u = go (cell-either stamps j mark c inside)
-        where
-          go : Cell stamps j mark c → (k : ℕ) × (k < tail) × (get_or queue k 0 ≡ c)
-          go (inl r) = absurd (u (ap (λ (x : ℕ). get_or w x 0) r.0 ∙ sym h.cell-is ∙ e))
-          go (inr r) = h.trail.all c l (sym r.1 ∙ s) u
-
-      trail : Trail w (set stamps j mark) queue mark tail
-      trail =
-          record {
-            stamps-long = length-set stamps j mark ∙ h.trail.stamps-long;
-            queue_long = h.trail.queue_long;
-            distinct = h.trail.distinct;
-            used = h.trail.used;
-            stamped = λ k l. set_keeps stamps j mark (get_or queue k 0) inside (h.trail.stamped k l);
-            all = all;
-          }
 
   -- a used column that has no stamp
   module _ (free : ¬ (get_or stamps j 0 ≡ mark)) (used : ¬ (cell ≡ 0)) where
@@ -251,6 +212,3 @@ module _ (row : List ℕ) (t : ℕ) {own : Bool} {w stamps₀ queue₀ : List �
   pub visited-turn : {stamps queue : List ℕ} {tail : ℕ} → t < length row → Visited own (get_or row t 0 ∷ []) w stamps₁ queue₁ mark tail₁ stamps queue tail
       → Visited own (take (t + 1) row) w stamps₀ queue₀ mark tail₀ stamps queue tail
   visited-turn h u = rw (add-one, take-suc row t 0) (visited-more v u)
-
-  pub visited-all : length row ≤ t → Visited own row w stamps₀ queue₀ mark tail₀ stamps₁ queue₁ tail₁
-  visited-all h = rw take_all at v

@@ -20,13 +20,11 @@ pub fn next_fit(row: &[u32], work: &[u64], mark: u32, stamps: &[u32], from: usiz
     requires { FitReady row.now work.now stamps.now }
     ensures { NextFit row.now work.now stamps.now mark from result }
 {
-    let mut t = from;
-    while t < row.len() {
+    for t in from..row.len() {
         let j = index(row[t]);
         if is_fit(work[j], stamps[j], mark) {
             return t;
         }
-        t += 1;
     }
-    t
+    row.len()
 }

@@ -27,12 +27,10 @@ fn name_rows(
     requires { NameReady p n (stored_at starts.now cols.now vals.now) work.now chosen.old }
     ensures { ByRow chosen.new (leading (stored_before starts.now cols.now vals.now) n (length work.now)) }
 {
-    let mut c = 0;
-    while c < work.len() {
-        if work[c] != 0 {
-            chosen[work[c] as usize - 1] = c as u32 + 1;
+    for (c, &cell) in work.iter().enumerate() {
+        if cell != 0 {
+            chosen[cell as usize - 1] = c as u32 + 1;
         }
-        c += 1;
     }
 }
 
@@ -80,10 +78,8 @@ fn extend_all(
     requires { SelectReady p n (stored_at starts.now cols.now vals.now) work.old chosen.old stamps.old queue.old }
     ensures { Extended (stored_before starts.now cols.now vals.now) n (length work.old) n work.new chosen.new stamps.new queue.new }
 {
-    let mut i = 0;
-    while i < n {
+    for i in 0..n {
         extend_row(starts, cols, vals, p, n, i, work, chosen, stamps, queue);
-        i += 1;
     }
 }
 

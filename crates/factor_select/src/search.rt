@@ -51,11 +51,8 @@ fn visit(
     ensures { Visited own row.now work.now stamps.old queue.old mark from stamps.new queue.new result }
 {
     let mut tail = from;
-    let mut t = 0;
-    while t < row.len() {
-        let j = row[t];
+    for &j in row {
         tail = touch(own, j, work[index(j)], work, mark, stamps, queue, tail);
-        t += 1;
     }
     tail
 }
@@ -82,6 +79,7 @@ pub fn search(
     let mut tail = visit(true, own, work, mark, stamps, queue, 0);
     let mut head = 0;
     let mut t = next_fit(own, work, mark, stamps, 0);
+    // A while: each turn takes a column off the queue, which grows as they are visited, and a search gives the next place.
     while t < own.len() {
         if tail <= head {
             return index(own[t]);

@@ -1,3 +1,2 @@
 pub mod Marking
-pub mod SearchSteps
 pub mod SettleSteps

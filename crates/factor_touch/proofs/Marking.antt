@@ -1,15 +1,14 @@
 -- The loops that mark blocks, one turn at a time.
-use mathlib.Core.Path.{◌≡◌, refl, sym, ap, ◌∙◌}
-use mathlib.Core.Bool.{Bool, true, false, true≢false, cond}
+use mathlib.Core.Path.{◌≡◌, sym, ap, ◌∙◌}
+use mathlib.Core.Bool.{Bool, cond}
 use mathlib.Core.List.{List}
-use Prim.Native.Nat.{ℕ, ◌+◌, ◌-◌, ◌≤◌, ◌<◌}
+use Prim.Native.Nat.{ℕ, ◌+◌, ◌<◌}
 use native.Mathlib.Decide.{ℕ_discrete}
 use native.Mathlib.Omega.{arith}
-use lib.ListN.{length, get_or, set, length-set, get_or-eq_default}
+use lib.ListN.{length, get_or, set, length-set}
 use borrow.Author.Tests.{eq-eqb, ne_eqb}
 use lib.Seq.{get_or-set_same, get_or-set_other}
-use Rattle.factor_touch.specs.Touched.{cell_block, free_block, pivot_block, ColumnsMarked, NoteReady, Noted}
-use Rattle.factor_touch.specs.Marking.{EachMarked}
+use Rattle.factor_touch.specs.Touched.{cell_block, free_block}
 
 -- ---- the block of a column that is no pivot, and of one that is
 
@@ -50,9 +49,6 @@ module _ (block : ℕ → ℕ) (marks₀ : List ℕ) where
     pub passed : (s : ℕ) → s < t → ¬ (get_or marks (block s) 0 ≡ 0)
     pub kept : (b : ℕ) → get_or marks b 0 ≡ 0 → get_or marks₀ b 0 ≡ 0
 
-  pub marking-starts : Marking marks₀ 0
-  marking-starts = record { long = refl; passed = λ s h. absurd (omega arith); kept = λ b z. z }
-
   pub marking-turn : (marks : List ℕ) (t b : ℕ) → b ≡ block t → b < length marks → Marking marks t → Marking (set marks b 1) (t + 1)
   marking-turn marks t b e h m =
       record {
@@ -64,41 +60,3 @@ module _ (block : ℕ → ℕ) (marks₀ : List ℕ) where
       go : (s : ℕ) → s < t + 1 → Dec (s ≡ t) → ¬ (get_or (set marks b 1) (block s) 0 ≡ 0)
       go s g (yes q) = mark_set marks b h (block s) (ap block q ∙ sym e)
       go s g (no q) = λ z. m.passed s (omega arith) (mark-kept marks b h (block s) z)
-
--- the blocks of all columns, and all blocks
-pub columns-marked : (block : ℕ → ℕ) (cs marks₀ marks : List ℕ) (t : ℕ) → length cs ≤ t → Marking (λ s. block (get_or cs s 0)) marks₀ marks t → ColumnsMarked block cs marks₀ marks
-columns-marked block cs marks₀ marks t h m = record { long = m.long; columns = λ s g. m.passed s (omega arith); kept = m.kept }
-
-pub each-marked : (marks₀ marks : List ℕ) (b : ℕ) → length marks ≤ b → Marking (λ s. s) marks₀ marks b → EachMarked marks₀ marks
-each-marked marks₀ marks b h m = record { long = m.long; each = λ k g. m.passed k (omega arith) }
-
--- where all blocks are marked, those of the columns are, and no mark is taken away
-pub all-columns-marked : (block : ℕ → ℕ) (cs marks₀ marks : List ℕ) → ((t : ℕ) → t < length cs → block (get_or cs t 0) < length marks₀)
-    → EachMarked marks₀ marks → ColumnsMarked block cs marks₀ marks
-all-columns-marked block cs marks₀ marks inside m =
-    record { long = m.long; columns = λ t h. m.each (block (get_or cs t 0)) (omega (arith, inside t h, m.long)); kept = λ b z. go b z (ℕ_discrete (length marks₀ - b) 0) }
-  where
-    go : (b : ℕ) → get_or marks b 0 ≡ 0 → Dec (length marks₀ - b ≡ 0) → get_or marks₀ b 0 ≡ 0
-    go b z (yes e) = get_or-eq_default marks₀ 0 (omega arith)
-    go b z (no e) = absurd (m.each b (omega (arith, m.long)) z)
-
--- ---- the blocks of a row
-
-module _ (full : Bool) (cs place touched₀ pending₀ : List ℕ) (ready : NoteReady full cs place touched₀ pending₀) where
-  pub noted-all : (touched pending : List ℕ) → EachMarked touched₀ touched → EachMarked pending₀ pending → Noted cs place touched₀ pending₀ touched pending true
-  noted-all touched pending t q =
-      record {
-        cells = all-columns-marked (free_block place) cs touched₀ touched ready.cells t;
-        pivots = all-columns-marked (pivot_block place) cs pending₀ pending ready.pivots q;
-        all = λ e. (t.each, q.each);
-      }
-
-  pub noted-full : full ≡ true → Noted cs place touched₀ pending₀ touched₀ pending₀ true
-  noted-full e = let m = ready.all e in noted-all touched₀ pending₀ (record { long = refl; each = m.0 }) (record { long = refl; each = m.1 })
-
-  pub note-anyway : NoteReady false cs place touched₀ pending₀
-  note-anyway = record { cells = ready.cells; places = ready.places; pivots = ready.pivots; all = λ e. absurd (true≢false (sym e)) }
-
-pub noted-row : (cs place touched₀ pending₀ touched pending : List ℕ) → ColumnsMarked (free_block place) cs touched₀ touched × ColumnsMarked (pivot_block place) cs pending₀ pending
-    → Noted cs place touched₀ pending₀ touched pending false
-noted-row cs place touched₀ pending₀ touched pending m = record { cells = m.0; pivots = m.1; all = λ e. absurd (true≢false (sym e)) }

@@ -16,7 +16,7 @@ use Rattle.lists.proofs.Filled.{Clearing}
 use Rattle.lists.proofs.Tests.{first-all, first-fails}
 use Rattle.sparse.specs.Scan.{NextNonzero}
 use Rattle.sparse.proofs.Scanning.{over_zeros}
-use Rattle.sparse.proofs.DenseSteps.{Counting, counting-starts, counting-zero, counting-one, counting-ends, StandForZero}
+use Rattle.sparse.proofs.DenseSteps.{Counting, counting-zero, counting-one, counting-ends, StandForZero}
 use Rattle.factor_touch.specs.Touched.{cell_block, Covers}
 use Rattle.factor_touch.specs.Searching.{CellCounted}
 use Rattle.factor_touch.specs.Settling.{RowSettled}
@@ -32,28 +32,7 @@ module _ (p : ℕ) (w₀ : List ℕ) where
     pub none : count ≡ 0 → (low ≡ length w₀) × StandForZero p w₀ j
     pub some : ¬ (count ≡ 0) → low ≡ first (length w₀) (λ k. eqb (get_or w₀ k 0 % p) 0)
 
-  pub settling-starts : Settling w₀ 0 (length w₀) 0
-  settling-starts =
-      record {
-        long = refl;
-        passed = λ k h. absurd (omega arith);
-        ahead = λ k h. refl;
-        counting = counting-starts p w₀;
-        none = λ e. (refl, λ k h. absurd (omega arith));
-        some = λ e. absurd (e refl);
-      }
-
   module _ (w : List ℕ) (count low j : ℕ) (s : Settling w count low j) where
-    pub settling-covers : (touched : List ℕ) → Covers cell_block touched w₀ → Covers cell_block touched w
-    settling-covers touched c k h z = go (ℕ_discrete (j - k) 0)
-      where
-        start : get_or w₀ k 0 ≡ 0
-        start = c k (omega (arith, s.long)) z
-
-        go : Dec (j - k ≡ 0) → get_or w k 0 ≡ 0
-        go (yes e) = s.ahead k (omega arith) ∙ start
-        go (no e) = s.passed k (omega arith) ∙ ap (λ (x : ℕ). x % p) start ∙ zero-mod p
-
     module _ (v : ℕ) (h : j < length w₀) (ev : v ≡ get_or w j 0 % p) where
       cell : v ≡ get_or w₀ j 0 % p
       cell = ev ∙ ap (λ (x : ℕ). x % p) (s.ahead j (omega arith))
@@ -128,7 +107,3 @@ clearing-covers touched w₀ w j s c k h z = ap (λ (l : List ℕ). get_or l k 0
         ∙ ap (λ (n : ℕ). get_or w₀ n 0) (let q : j + (k - j) ≡ k = omega arith in q)
         ∙ c k (omega (arith, s.long)) z
     go (no e) = get_or-append (replicate j 0) (drop j w₀) 0 k (omega (arith, length-replicate {A = ℕ} j 0)) ∙ get_or-replicate j k 0 0 (omega arith)
-
--- a cell that is not 0 is counted
-pub counted-one : (v j count low low' : ℕ) → ¬ (v ≡ 0) → (count ≡ 0 → low' ≡ j) → (¬ (count ≡ 0) → low' ≡ low) → CellCounted v j count low (count + 1) low'
-counted-one v j count low low' h first other = record { zero = λ e. absurd (h e); one = λ e. refl; lowest = λ e. first; higher = λ e. other }

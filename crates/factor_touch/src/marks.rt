@@ -11,14 +11,12 @@ fn mark_row(cols: &[u32], place: &[u32], touched: &mut [u8], pending: &mut [u8])
     requires { NoteReady false cols.now place.now touched.old pending.old }
     ensures { ColumnsMarked (free_block place.now) cols.now touched.old touched.new × ColumnsMarked (pivot_block place.now) cols.now pending.old pending.new }
 {
-    let mut t = 0;
-    while t < cols.len() {
-        let j = index(cols[t]);
+    for &column in cols {
+        let j = index(column);
         let k = index(place[j]);
         let b = if k == 2048 { j / 16 } else { 128 };
         touched[b] = 1;
         pending[k / 16] = 1;
-        t += 1;
     }
 }
 
@@ -26,11 +24,7 @@ fn mark_row(cols: &[u32], place: &[u32], touched: &mut [u8], pending: &mut [u8])
 fn mark_all(marks: &mut [u8])
     ensures { EachMarked marks.old marks.new }
 {
-    let mut b = 0;
-    while b < marks.len() {
-        marks[b] = 1;
-        b += 1;
-    }
+    marks.fill(1);
 }
 
 // Marks the blocks of the cells and of the pivots of a row's columns, or every block where the row has many columns; gives

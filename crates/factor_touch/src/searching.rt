@@ -38,14 +38,14 @@ fn skip_eights(marks: &[u8], from: usize) -> usize
     requires { from ≤ length marks.now }
     ensures { ZeroSpan (vector marks.now) (length marks.now) from result }
 {
-    let mut b = from;
-    while 8 <= marks.len() - b {
+    let eights = (marks.len() - from) / 8;
+    for k in 0..eights {
+        let b = from + 8 * k;
         if !clear_eight(marks, b) {
             return b;
         }
-        b += 8;
     }
-    b
+    from + 8 * eights
 }
 
 // The first marked block from `from` on, or the number of blocks.
@@ -53,14 +53,12 @@ fn next_mark(marks: &[u8], from: usize) -> usize
     requires { from ≤ length marks.now }
     ensures { NextNonzero marks.now from result }
 {
-    let mut b = skip_eights(marks, from);
-    while b < marks.len() {
+    for b in skip_eights(marks, from)..marks.len() {
         if marks[b] != 0 {
             return b;
         }
-        b += 1;
     }
-    b
+    marks.len()
 }
 
 // Where the block of place j is not marked, the first place after it whose block is, or n.
@@ -90,6 +88,7 @@ pub fn next_touched(touched: &[u8], row: &[u64], from: usize) -> usize
     ensures { NextNonzero row.now from result }
 {
     let mut j = from;
+    // A while: a step is as far as the cells are known to be 0.
     while j < row.len() {
         if row[j] != 0 {
             return j;

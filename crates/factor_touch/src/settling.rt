@@ -27,7 +27,7 @@ fn count_cell(found: SettledCells, v: u32, j: usize) -> SettledCells
     let low = if count == 0 { j } else { found.low };
     SettledCells {
         count: count + 1,
-        low: low,
+        low,
     }
 }
 
@@ -41,6 +41,7 @@ pub fn settle(q: Modulus, touched: &[u8], work: &mut [u64]) -> SettledCells
         low: work.len(),
     };
     let mut j = 0;
+    // A while: a search gives the next cell.
     while j < work.len() {
         let v = q.reduce_cell(work[j]);
         work[j] = v as u64;
@@ -65,6 +66,7 @@ pub fn store_settled(
 {
     let mut at = start;
     let mut j = 0;
+    // A while: a search gives the next cell.
     while j < work.len() {
         let v = q.multiply(c, work[j] as u32);
         at = put(v, j as u32, at, cols, vals);

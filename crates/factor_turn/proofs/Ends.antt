@@ -40,10 +40,6 @@ module _ (a m b : List ℕ) (i e : ℕ) (ei : i ≡ length a) (ee : e ≡ length
   part-ready : (k : ℕ) → Mirrored k m → PartReady i e k (a ++ (m ++ b))
   part-ready k h = record { low = omega arith; inside = omega (arith, length-append a (m ++ b), length-append m b); part = rw part-is h }
 
--- the part comes back turned round
-pub part-back : (l part : List ℕ) (a e : ℕ) → part ≡ reverse (take (e - a) (drop a l)) → take a l ++ (part ++ drop (e - a) (drop a l)) ≡ turned_part a e l
-part-back l part a e q = ap (λ (z : List ℕ). take a l ++ (z ++ drop (e - a) (drop a l))) q
-
 -- ---- which parts can be turned round
 
 mirrored-front : (ys : List ℕ) (g k : ℕ) → k ≡ length ys → Mirrored k (ys ++ zeros g)

@@ -2,7 +2,6 @@ pub mod Reversing
 pub mod Ends
 pub mod EndRows
 pub mod Steps
-pub mod Settling
 pub mod Sizes
 pub mod Readiness
 pub mod TurnedRows

@@ -2,31 +2,19 @@
 ghost use Rattle.std.specs.Prelude.{◌≡◌, reverse, ◌<◌, length};
 ghost use Rattle.elimination.specs.Pivots.{Found};
 ghost use Rattle.sparse.specs.Views.{stored_at, stored_before, stored_after};
-ghost use Rattle.factor_turn.specs.Keeping.{exchanged, turned_part, Mirrored, PartReady, KeepReady, Kept, MoveReady, moved_from, FillReady, FillFrom, FillDone};
-
-// Exchanges two numbers of a list.
-fn exchange(list: &mut [u32], i: usize, j: usize)
-    requires { (i < length list.old) × (j < length list.old) }
-    ensures { list.new ≡ exchanged list.old i j }
-{
-    let x = list[i];
-    list[i] = list[j];
-    list[j] = x;
-}
+ghost use Rattle.factor_turn.specs.Keeping.{turned_part, Mirrored, PartReady, KeepReady, Kept, MoveReady, moved_from, FillReady, FillFrom, FillDone};
 
 // Turns a list round that is zero but for its first and its last k numbers.
 fn turn_round(list: &mut [u32], k: usize)
     requires { Mirrored k list.old }
     ensures { list.new ≡ reverse list.old }
 {
-    let mut t = 0;
-    while t < k {
+    for t in 0..k {
         let u = list.len() - 1 - t;
         if u <= t {
             return;
         }
-        exchange(list, t, u);
-        t += 1;
+        list.swap(t, u);
     }
 }
 
@@ -65,10 +53,8 @@ fn add_from(list: &mut [u32], a: usize, l: u32)
     requires { MoveReady a l list.old }
     ensures { list.new ≡ moved_from a l list.old }
 {
-    let mut k = a;
-    while k < list.len() {
-        list[k] = list[k] + l;
-        k += 1;
+    for x in &mut list[a..] {
+        *x += l;
     }
 }
 

@@ -1,5 +1,5 @@
 // Numbers that stand behind their like: what a list sorted by row and column shows of repeated places.
-ghost use Rattle.std.specs.Prelude.{◌≡◌, cond, ◌&&◌, ltb, length};
+ghost use Rattle.std.specs.Prelude.{◌≡◌, length};
 ghost use Rattle.grouping.specs.Grouping.{key_of};
 ghost use Rattle.grouping.specs.Repeats.{same_at, again};
 ghost use Rattle.grouping.specs.Needs.{Numbered, Walkable};
@@ -11,22 +11,7 @@ fn same_place(rows: &[u32], columns: &[u32], a: u32, b: u32) -> bool
     requires { Numbered (length rows.now) (length columns.now) a b }
     ensures { result ≡ same_at (key_of rows.now) (key_of columns.now) a b }
 {
-    if rows[index(a)] != rows[index(b)] {
-        return false;
-    }
-    columns[index(a)] == columns[index(b)]
-}
-
-// The lesser of b and d where b counts, else d.
-fn least(counts: bool, b: u32, d: u32) -> u32
-    ensures { result ≡ cond (counts && ltb b d) b d }
-{
-    if counts {
-        if b < d {
-            return b;
-        }
-    }
-    d
+    rows[index(a)] == rows[index(b)] && columns[index(a)] == columns[index(b)]
 }
 
 // The least number below `count` that stands behind its like, `count` where there is none.
@@ -35,12 +20,10 @@ pub fn first_again(rows: &[u32], columns: &[u32], sorted: &[u32], count: u32) ->
     ensures { result ≡ again (same_at (key_of rows.now) (key_of columns.now)) count sorted.now }
 {
     let mut d = count;
-    let mut k = 0;
-    while k + 1 < sorted.len() {
-        let b = sorted[k + 1];
-        let same = same_place(rows, columns, sorted[k], b);
-        d = least(same, b, d);
-        k += 1;
+    for pair in sorted.windows(2) {
+        if same_place(rows, columns, pair[0], pair[1]) {
+            d = d.min(pair[1]);
+        }
     }
     d
 }

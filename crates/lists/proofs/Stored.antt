@@ -1,11 +1,14 @@
 -- Laws of `Stored`: one run after another, runs up to the end of a list, and a cleared list that they fill.
 use mathlib.Core.Path.{◌≡◌, refl, sym, ap, subst, ◌∙◌}
-use mathlib.Core.List.{List, [], ◌∷◌, ◌++◌, append-nil}
+use mathlib.Core.List.{List, [], ◌∷◌, ◌++◌, append-nil, append_assoc}
 use Prim.Native.Nat.{ℕ, zero, suc, ◌+◌, ◌-◌, ◌≤◌}
 use native.Mathlib.Omega.{arith}
 use native.Mathlib.Nat.{add-zero, sub-zero, zero-sub, suc-sub-suc}
 use lib.ListN.{length, take, drop, set, length-append, drop_of_length-le}
 use lib.Seq.{sets, sets-eq, length-sets}
+use borrow.Rule.Slice.PartMut.{put_mid}
+use Rattle.std.proofs.lemmas.List.Edits.{paste_all}
+use Rattle.std.proofs.lemmas.Slice.{put_mid-paste}
 use Rattle.lists.specs.Filled.{zeros, filled}
 use Rattle.lists.proofs.Filled.{length-zeros}
 use Rattle.lists.proofs.Steps.{sets-append}
@@ -35,6 +38,17 @@ stored-then {b₀} {b₁} {b₂} {at} {mid} {next} {xs} {ys} s t = record {
 -- one number is a run
 pub stored_one : (l : List ℕ) (at x : ℕ) → Stored l (set l at x) at (at + 1) (x ∷ [])
 stored_one l at x = record { now-is = refl; next-is = refl }
+
+-- a part of the list that a run is copied to
+pub stored-part : (l xs ys : List ℕ) (at k : ℕ) → at + length xs ≤ length l → length xs ≡ k → ys ≡ xs → Stored l (put_mid at k l ys) at (at + length xs) xs
+stored-part l xs ys at k room long copied = record {
+  now-is =
+      put_mid-paste at k l ys xs (length xs) copied long refl
+      ∙ paste_all l at xs (length xs) refl
+      ∙ sym (append_assoc (take at l) xs (drop (at + length xs) l))
+      ∙ sym (sets-eq xs l at room);
+  next-is = refl;
+}
 
 -- up to the end of the list
 pub stored-to-end : {l₀ l : List ℕ} {at next : ℕ} {xs : List ℕ} → at + length xs ≡ length l₀ → Stored l₀ l at next xs → l ≡ take at l₀ ++ xs

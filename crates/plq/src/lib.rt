@@ -42,7 +42,7 @@ pub fn plq_make_certificate(text: &[u8], buffer: &mut [u8]) -> u64
     let mut uc = [0u32; ENTRY_CELLS];
     let mut uv = [0u32; ENTRY_CELLS];
     let mut work = [0u64; WORK_CELLS];
-    let s = factor_text(
+    let staged = factor_text(
         text,
         &mut starts,
         &mut cols,
@@ -58,7 +58,7 @@ pub fn plq_make_certificate(text: &[u8], buffer: &mut [u8]) -> u64
         &mut work,
     );
     pack(make_staged(
-        s, &starts, &cols, &vals, &ro, &co, &ls, &lc, &lv, &us, &uc, &uv, buffer, &mut work,
+        staged, &starts, &cols, &vals, &ro, &co, &ls, &lc, &lv, &us, &uc, &uv, buffer, &mut work,
     ))
 }
 

@@ -16,8 +16,8 @@ use Rattle.algebra.specs.Congruence.{◌≈⟨◌⟩◌}
 use Rattle.algebra.specs.Sum.{dot}
 use Rattle.algebra.specs.Matrix.{vector}
 use Rattle.refusals.specs.Refusals.{◌▷◌, unless, number_of, detail_of}
-use Rattle.refusals.specs.declared.Outcome.{Outcome}
-use Rattle.refusals.specs.declared.Outcome.TheVariants.{Passed, Refused}
+use Rattle.refusals.specs.Outcome.{Outcome}
+use Rattle.refusals.specs.Outcome.{Passed, Refused}
 use Rattle.sparse.specs.Matrix.{Compressed, matrix, form}
 use Rattle.sparse.specs.Set.{Set}
 use Rattle.sparse.proofs.Rows.{form-below}

@@ -8,7 +8,7 @@ use Rattle.std.specs.Prelude.{ℕ, ◌%◌, ◌≡◌, Bool, true, leb, eqb}
 use Rattle.lists.specs.Tests.{all, first}
 use Rattle.refusals.specs.Table.{no_permutation, rank_too_large, bad_factors, product_differs}
 use Rattle.refusals.specs.Refusals.{◌▷◌, unless}
-use Rattle.refusals.specs.declared.Outcome.{Outcome}
+use Rattle.refusals.specs.Outcome.{Outcome}
 use Rattle.algebra.specs.Sum.{dot}
 use Rattle.algebra.specs.Matrix.{Vector, Matrix, vector}
 use Rattle.algebra.specs.Factors.{Factors}

@@ -2,14 +2,16 @@
 --   counts-sum     the open words and the closed ones are together all words
 --   totals-last    a report is its other lines, then the totals
 use mathlib.Core.Path.{◌≡◌, refl, sym, ap, ◌∙◌}
+use mathlib.Core.Bool.{Bool, cond}
+use Rattle.std.specs.Prelude.{count_by}
+use Rattle.std.proofs.lemmas.List.Sums.{sum_by-cons}
 use mathlib.Core.List.{List, [], ◌∷◌, ◌++◌, flatten, append_assoc, append-nil}
-use Prim.Native.Nat.{ℕ, suc, ◌+◌, ◌-◌, ◌≤◌, ◌<◌}
+use Prim.Native.Nat.{ℕ, zero, suc, ◌+◌, ◌-◌, ◌≤◌}
 use native.Mathlib.Omega.{arith}
 use lib.Dec.{eqb}
 use lib.ListN.{length, get_or}
-use borrow.Author.Tests.{eq-eqb, ne_eqb}
 use Rattle.lists.specs.Tests.{count}
-use Rattle.lists.proofs.Tests.{count-pass, count-fail, count-both}
+use Rattle.lists.proofs.Tests.{count-both}
 use Rattle.print_text.specs.declared.lines.Summary.{Summary}
 use Rattle.print_text.specs.Lines.{sizes_line, rank_line, open_lines, open_count, closed_count, totals_line}
 use Rattle.print_text.specs.Report.{report_text}
@@ -36,40 +38,18 @@ closed-left cells k e = omega (arith, counts-sum cells)
 pub few-open : (cells : List ℕ) (k : ℕ) → k ≡ open_count cells → k ≤ length cells
 few-open cells k e = omega (arith, counts-sum cells)
 
--- ---- the open ones among the first j cells
+-- ---- the open ones, counted along the list
 
-abbrev open_among : List ℕ → ℕ → ℕ
-open_among cells j = count j (λ i. eqb (get_or cells i 0) 1)
-
--- where the loop stands
-pub record Counted (cells : List ℕ) (counted j : ℕ) : Type 0 where
-  pub inside : j ≤ length cells
-  pub number : counted ≡ open_among cells j
-
-pub counted_none : (cells : List ℕ) → Counted cells 0 0
+count-front : (n : ℕ) (t : ℕ → Bool) → count (suc n) t ≡ cond (t 0) 1 0 + count n (λ i. t (suc i))
 unfolding count
-counted_none cells = record { inside = omega arith; number = refl }
+count-front zero t = omega arith
+count-front (suc n) t = omega (arith, count-front n t)
 
-module _ (cells : List ℕ) (counted j : ℕ) (g : Counted cells counted j) where
-  pub counted-few : counted ≤ j
-  counted-few = omega (arith, g.number, count-both j (λ i. eqb (get_or cells i 0) 1))
+count-along : (p : ℕ → Bool) (xs : List ℕ) → count_by p xs ≡ count (length xs) (λ j. p (get_or xs j 0))
+unfolding count
+count-along p [] = refl
+count-along p (x ∷ xs) = sum_by-cons (λ y. cond (p y) 1 0) x xs ∙ ap (λ (n : ℕ). cond (p x) 1 0 + n) (count-along p xs) ∙ sym (count-front (length xs) (λ j. p (get_or (x ∷ xs) j 0)))
 
-  next : open_among cells (suc j) ≡ open_among cells (j + 1)
-  next = ap (open_among cells) (let q : suc j ≡ j + 1 = omega arith in q)
-
-  -- a word that is open counts, one that is closed does not
-  pub counted-open : j < length cells → get_or cells j 0 ≡ 1 → Counted cells (counted + 1) (j + 1)
-  counted-open h e = record {
-    inside = omega arith;
-    number = ap (λ (k : ℕ). k + 1) g.number ∙ sym (count-pass j _ (eq-eqb (get_or cells j 0) 1 e)) ∙ next;
-  }
-
-  pub counted-closed : j < length cells → (get_or cells j 0 ≡ 1 → ⊥) → Counted cells counted (j + 1)
-  counted-closed h e = record {
-    inside = omega arith;
-    number = g.number ∙ sym (count-fail j _ (ne_eqb (get_or cells j 0) 1 e)) ∙ next;
-  }
-
-  pub counted-all : length cells ≤ j → counted ≡ open_count cells
-  unfolding open_count
-  counted-all h = g.number ∙ ap (open_among cells) (let q : j ≡ length cells = omega (arith, g.inside) in q)
+pub open-along : (cells : List ℕ) → count_by (λ x. eqb x 1) cells ≡ open_count cells
+unfolding open_count
+open-along cells = count-along (λ x. eqb x 1) cells

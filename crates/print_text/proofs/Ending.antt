@@ -5,8 +5,8 @@ use mathlib.Core.List.{List, [], ◌∷◌, ◌++◌, append_assoc, append-nil}
 use Prim.Native.Nat.{ℕ, zero, suc, ◌+◌, ◌-◌, ◌/◌, ◌%◌, ◌^◌, ◌≤◌, ◌<◌}
 use native.Mathlib.Omega.{arith}
 use native.Mathlib.Nat.{lt-suc_self}
-use lib.ListN.{length, take, drop, set, length-set, length-drop}
-use lib.Seq.{take_all, drop-cons, drop-set-lt, get_or-set_same}
+use lib.ListN.{length, drop, set, length-set}
+use lib.Seq.{drop-cons, drop-set-lt, get_or-set_same}
 use Rattle.text_fields.specs.Decimal.{decimal_in, decimal}
 use Rattle.text_fields.proofs.Canonical.{decimal-one, decimal-more, tenth}
 use Rattle.lists.proofs.Steps.{drop-end}
@@ -67,7 +67,3 @@ module _ {x : ℕ} {l : List ℕ} {k high : ℕ} (g : Ending x l k high) where
 
   pub ending-end : (v : ℕ) → high < 10 → v ≡ 48 + high → EndsWith x (set l (k - 1) v) (k - 1)
   ending-end v h e = subst (λ (y : ℕ). EndsWith x (set l (k - 1) y) (k - 1)) (sym e) (ending-end' (k - 1) before h)
-
--- the digits, as the part from their place to the end
-pub digits-part : (x : ℕ) (l : List ℕ) (k : ℕ) → length l ≡ 10 → EndsWith x l k → take (10 - k) (drop k l) ≡ decimal x
-digits-part x l k h e = take_all (10 - k) (drop k l) (omega (arith, length-drop k l)) ∙ e.ending

@@ -5,8 +5,8 @@ use mathlib.Core.Path.{◌≡◌, refl, sym, ap, ◌∙◌}
 use mathlib.Core.List.{List}
 use Prim.Native.Nat.{ℕ}
 use lib.ListN.{length, take}
-use Rattle.refusals.specs.declared.Outcome.{Outcome}
-use Rattle.refusals.specs.declared.Outcome.TheVariants.{Passed, Refused}
+use Rattle.refusals.specs.Outcome.{Outcome}
+use Rattle.refusals.specs.Outcome.{Passed, Refused}
 use Rattle.lists.proofs.Filled.{filled-cut}
 use Rattle.refusals.proofs.Refusals.{RefusedBy}
 use Rattle.byte_buffer.specs.Fills.{Fills}

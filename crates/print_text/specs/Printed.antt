@@ -7,8 +7,8 @@
 use Rattle.std.specs.Prelude.{ℕ, ◌+◌, ◌≡◌, true, cond, List, eqb, length}
 use Rattle.lists.specs.Filled.{zeros}
 use Rattle.lists.specs.Tests.{among}
-use Rattle.refusals.specs.declared.Outcome.{Outcome}
-use Rattle.refusals.specs.declared.Outcome.TheVariants.{Passed, Refused}
+use Rattle.refusals.specs.Outcome.{Outcome}
+use Rattle.refusals.specs.Outcome.{Passed, Refused}
 use Rattle.byte_buffer.specs.Fills.{Fills}
 use Rattle.print_text.specs.Report.{refusal_text}
 

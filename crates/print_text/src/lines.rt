@@ -72,10 +72,8 @@ pub fn put_open_lines(owners: &[u8], cells: &[u32], out: &mut [u8], at: usize) -
     ensures { Stored out.old out.new at result (open_lines 0 owners.now cells.now) }
 {
     let mut next = at;
-    let mut j = 0;
-    while j < cells.len() {
-        next = put_word_line(j as u32, owners[j], cells[j], out, next);
-        j += 1;
+    for (j, cell) in cells.iter().enumerate() {
+        next = put_word_line(j as u32, owners[j], *cell, out, next);
     }
     next
 }

@@ -24,10 +24,11 @@ fn put_digits(x: u32, bytes: &mut [u8]) -> usize
 {
     let mut high = x;
     let mut k = 10;
+    // A while: how many digits are left shows only as they are taken off.
     while 10 <= high {
         k -= 1;
         bytes[k] = digit(high % 10);
-        high = high / 10;
+        high /= 10;
     }
     k -= 1;
     bytes[k] = digit(high);

@@ -2,6 +2,7 @@
 ghost use Rattle.std.specs.Prelude.{◌≤◌, ◌<◌, ◌≡◌, length};
 ghost use Rattle.lists.specs.Stored.{Stored};
 ghost use Rattle.byte_buffer.specs.Fills.{Fills};
+ghost use Rattle.refusals.specs.Faults.{number};
 ghost use Rattle.print_text.specs.Report.{report_text, refusal_text};
 ghost use Rattle.print_text.specs.Printed.{detail_from_one};
 ghost use Rattle.print_text.specs.Needs.{Printable};
@@ -11,6 +12,7 @@ use crate::number::put_labelled;
 use crate::totals::put_totals_line;
 use byte_buffer::put_bytes;
 use lists::clear_bytes;
+use refusals::{Fault, Refusal};
 
 fn put_report(s: Summary, owners: &[u8], cells: &[u32], out: &mut [u8]) -> usize
     requires { Printable s owners.now cells.now out.old }
@@ -41,23 +43,26 @@ pub fn write_report(s: Summary, owners: &[u8], cells: &[u32], out: &mut [u8]) ->
     put_report(s, owners, cells, out)
 }
 
-// Takes the number and the detail of a refusal, and a buffer. Gives the length of the line, which it leaves in the buffer, zero past its end.
-pub fn write_refusal(number: u32, detail: u32, out: &mut [u8]) -> usize
-    requires { length (refusal_text number detail) ≤ length out.old }
-    ensures { Fills out.old out.new result (refusal_text number detail) }
+// Takes a refusal and a buffer. Gives the length of its line, which it leaves in the buffer, zero past its end.
+pub fn write_refusal(refusal: Refusal, out: &mut [u8]) -> usize
+    requires { length (refusal_text (number refusal.fault) refusal.detail) ≤ length out.old }
+    ensures { Fills out.old out.new result (refusal_text (number refusal.fault) refusal.detail) }
 {
     clear_bytes(out);
-    put_refusal(number, detail, out)
+    put_refusal(u32::from(refusal.fault), refusal.detail, out)
 }
 
-// The detail of a refusal as it is printed: where the number is `counted`, it is a row or an index, which counts from 1 in print.
-pub fn from_one(counted: u32, number: u32, detail: u32) -> u32
-    requires { detail < 4294967295 }
-    ensures { result ≡ detail_from_one counted number detail }
+// A refusal as it is printed: where its fault is `counted`, its detail is a row or an index, which counts from 1 in print.
+pub fn from_one(counted: Fault, refusal: Refusal) -> Refusal
+    requires { refusal.detail < 4294967295 }
+    ensures { result ≡ record refusal { detail = detail_from_one (number counted) (number refusal.fault) refusal.detail } }
 {
-    if number == counted {
-        detail + 1
+    if refusal.fault == counted {
+        Refusal {
+            detail: refusal.detail + 1,
+            ..refusal
+        }
     } else {
-        detail
+        refusal
     }
 }

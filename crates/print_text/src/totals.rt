@@ -13,15 +13,7 @@ fn count_open(cells: &[u32]) -> u32
     requires { length cells.now ≤ largest_size }
     ensures { result ≡ open_count cells.now }
 {
-    let mut counted = 0;
-    let mut j = 0;
-    while j < cells.len() {
-        if cells[j] == 1 {
-            counted += 1;
-        }
-        j += 1;
-    }
-    counted
+    cells.iter().filter(|cell| **cell == 1).count() as u32
 }
 
 // `totals open 1 closed 4`; each word is open or closed, so the closed ones are those that are left.

@@ -14,10 +14,8 @@ fn put_values(values: &[u32], out: &mut [u8], at: usize) -> usize
     ensures { Stored out.old out.new at result (values_text values.now) }
 {
     let mut next = at;
-    let mut i = 0;
-    while i < values.len() {
-        next = put_labelled(b" ", values[i], out, next);
-        i += 1;
+    for value in values {
+        next = put_labelled(b" ", *value, out, next);
     }
     next
 }

@@ -1,2 +1,4 @@
 pub mod Table
+pub mod Faults
+pub mod Outcome
 pub mod Refusals

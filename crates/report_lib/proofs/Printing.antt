@@ -5,8 +5,10 @@ use Prim.Native.Nat.{ℕ}
 use lib.ListN.{length, take}
 use Rattle.lists.specs.Filled.{zeros, filled}
 use Rattle.refusals.specs.Table.{storage_too_short}
-use Rattle.refusals.specs.declared.Outcome.{Outcome}
-use Rattle.refusals.specs.declared.Outcome.TheVariants.{Passed, Refused}
+use Rattle.refusals.specs.Outcome.{Outcome}
+use Rattle.refusals.specs.Outcome.{Passed, Refused}
+use Rattle.refusals.specs.declared.Refusal.{Refusal}
+use Rattle.refusals.specs.Faults.{number}
 use Rattle.lists.proofs.Filled.{filled-whole}
 use Rattle.sparse.specs.Matrix.{Compressed}
 use Rattle.sparse.specs.Set.{Set, Storage}
@@ -19,7 +21,7 @@ use Rattle.call_open.proofs.Theorems.{columns-long}
 use Rattle.print_text.specs.declared.lines.Summary.{Summary}
 use Rattle.print_text.specs.Report.{report_text, refusal_text}
 use Rattle.print_text.specs.Printed.{detail_from_one, counted_from_one, printed, Prints}
-use Rattle.stages.specs.declared.Stages.{Stages}
+use Rattle.stages.specs.Results.{Stages}
 use Rattle.text_plan.specs.Held.{held_plan}
 use Rattle.stages.specs.Staged.{held_set}
 use Rattle.stages.proofs.Outcomes.{not-passed}
@@ -96,13 +98,16 @@ module _ (s : Stages) (A : Compressed) (h : Storage) where
       unfolding staged_text
       read_done = ap (λ (o : Outcome). printed o after-reading) (sym passed)
 
-      pub factoring-refused : {k d row : ℕ} → s.factored.outcome ≡ Refused k d → h.work ≡ zeros (length h.work) → row ≡ detail_from_one storage_too_short k d → Fills out out' size (refusal_text k row)
+      pub factoring-refused : (r told : Refusal) → s.factored.outcome ≡ Refused (number r.fault) r.detail → h.work ≡ zeros (length h.work)
+          → told ≡ record r { detail = detail_from_one storage_too_short (number r.fault) r.detail } → Fills out out' size (refusal_text (number told.fault) told.detail)
           → Prints (staged_text s A ow h) size out out' h.work h.work
-      factoring-refused {k = k} e clear q f =
+      factoring-refused r told e clear q f =
           record {
             text-is =
                 subst (Fills out out' size)
-                (ap (refusal_text k) q ∙ ap (λ (o : Outcome). printed (counted_from_one storage_too_short o) (held_text s A os h)) (sym e) ∙ read_done)
+                (ap (λ (t : Refusal). refusal_text (number t.fault) t.detail) q
+                ∙ ap (λ (o : Outcome). printed (counted_from_one storage_too_short o) (held_text s A os h)) (sym e)
+                ∙ read_done)
                 f;
             cleared = clear;
           }

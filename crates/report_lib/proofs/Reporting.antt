@@ -5,19 +5,21 @@ use Prim.Native.Nat.{ℕ, ◌≤◌}
 use lib.ListN.{length, take}
 use Rattle.lists.specs.Filled.{zeros}
 use Rattle.refusals.specs.Refusals.{◌▷◌}
-use Rattle.refusals.specs.declared.Outcome.{Outcome}
-use Rattle.refusals.specs.declared.Outcome.TheVariants.{Passed, Refused}
+use Rattle.refusals.specs.Outcome.{Outcome}
+use Rattle.refusals.specs.Outcome.{Passed, Refused, outcome_of}
+use Rattle.refusals.specs.declared.Refusal.{Refusal}
+use Rattle.std.specs.Prelude.{Result}
 use Rattle.refusals.specs.Table.{storage_too_short}
 use Rattle.lists.proofs.Filled.{length-zeros}
 use Rattle.sparse.specs.Matrix.{Compressed}
 use Rattle.sparse.specs.Set.{Storage}
 use Rattle.text_plan.specs.Call.{ReadAnswer}
-use Rattle.text_plan.specs.declared.Reading.{Reading}
+use Rattle.text_plan.specs.Call.{Reading}
 use Rattle.limits.specs.Limits.{largest_size, work_length}
 use Rattle.call_open.specs.Calls.{open_factors_of}
 use Rattle.print_text.specs.Report.{report_text}
 use Rattle.print_text.specs.Printed.{counted_from_one, printed, Prints}
-use Rattle.stages.specs.declared.Stages.{Stages}
+use Rattle.stages.specs.Results.{Stages}
 use Rattle.stages.specs.Stages.{reading, factored_of}
 use Rattle.stages.specs.Staged.{FactorsHeld, StagedOwned}
 use Rattle.report_lib.specs.Held.{held_summary, held_list, held_text, staged_text}
@@ -112,6 +114,6 @@ module _ (text : List ℕ) (s : Stages) (A : Compressed) (ow w₀ : List ℕ) (h
       after-outcome s.reading.outcome s.factored.outcome (factored_of (reading text)).outcome (λ e. (staged.factors e).outcome-is)
       ∙ ap (λ (r : Reading). r.outcome ▷ (factored_of (reading text)).outcome) staged.reading-is
 
-  pub reported-all : (o : Outcome) (size : ℕ) (out out' w' : List ℕ) → o ≡ (s.reading.outcome ▷ s.factored.outcome) → Prints (staged_text s A ow h) size out out' h.work w'
+  pub reported-all : (o : Result (Unit {0}) Refusal) (size : ℕ) (out out' w' : List ℕ) → outcome_of o ≡ (s.reading.outcome ▷ s.factored.outcome) → Prints (staged_text s A ow h) size out out' h.work w'
       → ReportsAll text (record { outcome = o; size = size }) out out' w₀ w'
   reported-all o size out out' w' e p = record { outcome = e ∙ outcome-is; reports = reported size out out' w' p }

@@ -17,8 +17,8 @@ use Rattle.lists.specs.Tests.{among}
 use Rattle.lists.specs.Filled.{zeros, filled}
 use Rattle.refusals.specs.Table.{text_faults, storage_too_short}
 use Rattle.refusals.specs.Refusals.{number_of, detail_of}
-use Rattle.refusals.specs.declared.Outcome.{Outcome}
-use Rattle.refusals.specs.declared.Outcome.TheVariants.{Passed, Refused}
+use Rattle.refusals.specs.Outcome.{Outcome}
+use Rattle.refusals.specs.Outcome.{Passed, Refused}
 use Rattle.lists.proofs.Filled.{length-zeros, filled-whole, filled-cut}
 use Rattle.refusals.proofs.Refusals.{unless_holds}
 use Rattle.sparse.specs.Matrix.{Compressed}

@@ -14,8 +14,8 @@ use Rattle.lists.specs.Tests.{count}
 use Rattle.lists.proofs.Tests.{count-ext}
 use Rattle.lists.proofs.Tabulate.{tabulate-at}
 use Rattle.refusals.specs.Table.{storage_too_short}
-use Rattle.refusals.specs.declared.Outcome.{Outcome}
-use Rattle.refusals.specs.declared.Outcome.TheVariants.{Passed}
+use Rattle.refusals.specs.Outcome.{Outcome}
+use Rattle.refusals.specs.Outcome.{Passed}
 use Rattle.algebra.specs.Sum.{δ}
 use Rattle.sparse.specs.Matrix.{Compressed}
 use Rattle.sparse.specs.Set.{Set}

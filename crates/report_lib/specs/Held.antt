@@ -12,7 +12,7 @@ use Rattle.call_open.specs.Calls.{Listed, open_factors_of}
 use Rattle.print_text.specs.declared.lines.Summary.{Summary}
 use Rattle.print_text.specs.Report.{report_text}
 use Rattle.print_text.specs.Printed.{counted_from_one, printed}
-use Rattle.stages.specs.declared.Stages.{Stages}
+use Rattle.stages.specs.Results.{Stages}
 use Rattle.text_plan.specs.Held.{held_plan}
 use Rattle.stages.specs.Staged.{held_set}
 

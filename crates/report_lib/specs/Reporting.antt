@@ -11,7 +11,7 @@ use Rattle.std.specs.Prelude.{ℕ, ◌≤◌, ◌≡◌, List, length, take}
 use Rattle.lists.specs.Filled.{zeros}
 use Rattle.refusals.specs.Table.{storage_too_short}
 use Rattle.refusals.specs.Refusals.{◌▷◌}
-use Rattle.refusals.specs.declared.Outcome.{Outcome}
+use Rattle.refusals.specs.Outcome.{Outcome, outcome_of}
 use Rattle.byte_buffer.specs.Fills.{Fills}
 use Rattle.text_plan.specs.Call.{ReadAnswer}
 use Rattle.limits.specs.Limits.{work_length, print_room}
@@ -63,5 +63,5 @@ pub record Reports (text : List ℕ) (size : ℕ) (b₀ b w₀ w : List ℕ) : T
   pub cleared : w ≡ zeros (length w₀)
 
 pub record ReportsAll (text : List ℕ) (r : Reported) (b₀ b w₀ w : List ℕ) : Type 0 where
-  pub outcome : r.outcome ≡ report_outcome text
+  pub outcome : outcome_of r.outcome ≡ report_outcome text
   pub reports : Reports text r.size b₀ b w₀ w

@@ -1,8 +1,10 @@
 // The report of a plan's text.
 #![tactic(auto)]
 
-ghost use Rattle.std.specs.Prelude.{◌≡◌};
+ghost use Rattle.std.specs.Prelude.{◌≡◌, Ok};
+ghost use Rattle.refusals.specs.Outcome.{outcome_of};
 ghost use Rattle.call_open.specs.Calls.{ListsIn};
+ghost use Rattle.stages.specs.Results.{stages_of};
 ghost use Rattle.stages.specs.Staged.{Fits};
 ghost use Rattle.print_text.specs.Printed.{Prints};
 ghost use Rattle.report_lib.specs.Held.{held_summary, held_list, held_text, staged_text};
@@ -14,38 +16,36 @@ use call_open::from_factors::open_columns_from_factors;
 use limits::{ENTRY_CELLS, SIZE_CELLS, START_CELLS};
 use print_text::lines::Summary;
 use print_text::report::{from_one, write_refusal, write_report};
-use refusals::Outcome;
-use refusals::numbers::STORAGE_TOO_SHORT;
-use stages::{Stages, factor_owned, first_refusal};
+use refusals::{Fault, Refusal};
+use stages::{FactoredPlan, Stopped, factor_owned, first_refusal};
 
 // What reporting returns: the first refusal, by reading or by factoring, and the length of what is printed.
-#[derive(Clone, Copy)]
+#[derive(Clone, Copy, Debug, PartialEq, Eq)]
 pub struct Reported {
-    pub outcome: Outcome,
+    pub outcome: Result<(), Refusal>,
     pub size: usize,
 }
 
 // The numbers of a report.
-fn summary(s: Stages) -> Summary
-    ensures { result ≡ held_summary s }
+fn summary(plan: FactoredPlan) -> Summary
+    ensures { result ≡ held_summary (stages_of (Ok plan)) }
 {
-    let r = s.reading;
-    let f = s.factored;
+    let read = plan.stated;
     Summary {
-        modulus: r.p,
-        slots: r.n,
-        words: r.m,
-        entries: r.count,
-        rank: f.rank,
-        structural: f.structural,
-        lower: s.lower,
-        upper: s.upper,
+        modulus: read.p,
+        slots: read.n,
+        words: read.m,
+        entries: read.count,
+        rank: plan.ranks.rank,
+        structural: plan.ranks.structural,
+        lower: plan.lower,
+        upper: plan.upper,
     }
 }
 
 // Lists the open columns from the plan and the set that the stages left in lists.
 fn list_held(
-    s: Stages,
+    plan: FactoredPlan,
     starts: &[u32],
     cols: &[u32],
     vals: &[u32],
@@ -59,26 +59,25 @@ fn list_held(
     uv: &[u32],
     marks: &mut [u32],
     work: &mut [u64],
-) -> Outcome
-    requires { Fits s (stored_at starts.now cols.now vals.now) (storage_at ro.now co.now ls.now lc.now lv.now us.now uc.now uv.now work.old) }
-    ensures { ListsIn (held_list s (stored_before starts.now cols.now vals.now) (storage_before ro.now co.now ls.now lc.now lv.now us.now uc.now uv.now work.old)) result marks work }
+) -> Result<(), Refusal>
+    requires { Fits (stages_of (Ok plan)) (stored_at starts.now cols.now vals.now) (storage_at ro.now co.now ls.now lc.now lv.now us.now uc.now uv.now work.old) }
+    ensures { ListsIn (held_list (stages_of (Ok plan)) (stored_before starts.now cols.now vals.now) (storage_before ro.now co.now ls.now lc.now lv.now us.now uc.now uv.now work.old)) (outcome_of result) marks work }
 {
-    let r = s.reading;
-    let f = s.factored;
-    let n = r.n as usize;
-    let m = r.m as usize;
-    let count = r.count as usize;
-    let rank = f.rank as usize;
-    let lower = s.lower as usize;
-    let upper = s.upper as usize;
+    let read = plan.stated;
+    let n = read.n as usize;
+    let m = read.m as usize;
+    let count = read.count as usize;
+    let rank = plan.ranks.rank as usize;
+    let lower = plan.lower as usize;
+    let upper = plan.upper as usize;
     open_columns_from_factors(
-        r.p,
-        r.n,
-        r.m,
+        read.p,
+        read.n,
+        read.m,
         &starts[..n + 1],
         &cols[..count],
         &vals[..count],
-        f.rank,
+        plan.ranks.rank,
         &ro[..n],
         &co[..m],
         &ls[..n + 1],
@@ -94,7 +93,7 @@ fn list_held(
 
 // Writes what is printed once reading and factoring passed.
 fn report_held(
-    s: Stages,
+    plan: FactoredPlan,
     starts: &[u32],
     cols: &[u32],
     vals: &[u32],
@@ -111,21 +110,21 @@ fn report_held(
     out: &mut [u8],
     work: &mut [u64],
 ) -> usize
-    requires { HeldReady s (stored_at starts.now cols.now vals.now) owners.now (storage_at ro.now co.now ls.now lc.now lv.now us.now uc.now uv.now work.old) marks.old out.old }
-    ensures { Prints (held_text s (stored_before starts.now cols.now vals.now) owners.now (storage_before ro.now co.now ls.now lc.now lv.now us.now uc.now uv.now work.old)) result out.old out.new work.old work.new }
+    requires { HeldReady (stages_of (Ok plan)) (stored_at starts.now cols.now vals.now) owners.now (storage_at ro.now co.now ls.now lc.now lv.now us.now uc.now uv.now work.old) marks.old out.old }
+    ensures { Prints (held_text (stages_of (Ok plan)) (stored_before starts.now cols.now vals.now) owners.now (storage_before ro.now co.now ls.now lc.now lv.now us.now uc.now uv.now work.old)) result out.old out.new work.old work.new }
 {
     let listed = list_held(
-        s, starts, cols, vals, ro, co, ls, lc, lv, us, uc, uv, marks, work,
+        plan, starts, cols, vals, ro, co, ls, lc, lv, us, uc, uv, marks, work,
     );
-    if let Outcome::Refused(number, detail) = listed {
-        return write_refusal(number, detail, out);
+    if let Err(refusal) = listed {
+        return write_refusal(refusal, out);
     }
-    write_report(summary(s), owners, marks, out)
+    write_report(summary(plan), owners, marks, out)
 }
 
 // Writes what is printed of any stages.
 fn report_staged(
-    s: Stages,
+    staged: Result<FactoredPlan, Stopped>,
     starts: &[u32],
     cols: &[u32],
     vals: &[u32],
@@ -142,23 +141,19 @@ fn report_staged(
     out: &mut [u8],
     work: &mut [u64],
 ) -> usize
-    requires { ReportStagedReady s (stored_at starts.now cols.now vals.now) owners.now (storage_at ro.now co.now ls.now lc.now lv.now us.now uc.now uv.now work.old) marks.old out.old }
-    ensures { Prints (staged_text s (stored_before starts.now cols.now vals.now) owners.now (storage_before ro.now co.now ls.now lc.now lv.now us.now uc.now uv.now work.old)) result out.old out.new work.old work.new }
+    requires { ReportStagedReady (stages_of staged) (stored_at starts.now cols.now vals.now) owners.now (storage_at ro.now co.now ls.now lc.now lv.now us.now uc.now uv.now work.old) marks.old out.old }
+    ensures { Prints (staged_text (stages_of staged) (stored_before starts.now cols.now vals.now) owners.now (storage_before ro.now co.now ls.now lc.now lv.now us.now uc.now uv.now work.old)) result out.old out.new work.old work.new }
 {
-    let r = s.reading;
-    let f = s.factored;
-    let reading = r.outcome;
-    if let Outcome::Refused(number, detail) = reading {
-        return write_refusal(number, detail, out);
-    }
-    let factoring = f.outcome;
-    if let Outcome::Refused(number, detail) = factoring {
-        let row = from_one(STORAGE_TOO_SHORT, number, detail);
-        return write_refusal(number, row, out);
-    }
-    let m = r.m as usize;
+    let plan = match staged {
+        Ok(plan) => plan,
+        Err(Stopped::InReading(refusal)) => return write_refusal(refusal, out),
+        Err(Stopped::InFactoring(_, refusal)) => {
+            return write_refusal(from_one(Fault::StorageTooShort, refusal), out);
+        }
+    };
+    let m = plan.stated.m as usize;
     report_held(
-        s,
+        plan,
         starts,
         cols,
         vals,
@@ -198,7 +193,7 @@ pub fn report_all(text: &[u8], out: &mut [u8], work: &mut [u64]) -> Reported
     let mut uv = [0u32; ENTRY_CELLS];
     let mut marks = [0u32; SIZE_CELLS];
     let mut owners = [0u8; SIZE_CELLS];
-    let s = factor_owned(
+    let staged = factor_owned(
         text,
         &mut starts,
         &mut cols,
@@ -215,10 +210,10 @@ pub fn report_all(text: &[u8], out: &mut [u8], work: &mut [u64]) -> Reported
         work,
     );
     let size = report_staged(
-        s, &starts, &cols, &vals, &ro, &co, &ls, &lc, &lv, &us, &uc, &uv, &owners, &mut marks, out,
-        work,
+        staged, &starts, &cols, &vals, &ro, &co, &ls, &lc, &lv, &us, &uc, &uv, &owners, &mut marks,
+        out, work,
     );
-    let outcome = first_refusal(s);
+    let outcome = first_refusal(staged);
     Reported { outcome, size }
 }
 

@@ -105,6 +105,7 @@ impl Modulus {
         let mut t0: u32 = 0;
         let mut t1: u32 = 1;
         let mut odd = false;
+        // A while: Euclid's divisions.
         while x1 != 1 {
             let d = x0 / x1;
             let x2 = x0 - d * x1;

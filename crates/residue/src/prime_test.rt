@@ -16,18 +16,13 @@ const PRIMES: [u32; TABLE_LENGTH] = [
 fn passes_table(p: u32) -> bool
     ensures { result ≡ passes_table p }
 {
-    // taken once: indexed at each step, the constant would be stored as a whole at each step
-    let primes = PRIMES;
-    let mut i: usize = 0;
-    while i < TABLE_LENGTH {
-        let q = primes[i];
+    for q in PRIMES {
         if p < q * q {
             return true;
         }
         if p % q == 0 {
             return false;
         }
-        i += 1;
     }
     true
 }
@@ -37,13 +32,10 @@ fn passes_odd(p: u32) -> bool
     requires { Tabled p }
     ensures { result ≡ is_prime p }
 {
-    let n = p as u64;
-    let mut d: u32 = 257;
-    while d as u64 * d as u64 <= n {
+    for d in (257..=p.isqrt()).step_by(2) {
         if p % d == 0 {
             return false;
         }
-        d += 2;
     }
     true
 }

@@ -22,7 +22,7 @@ use Prim.Native.Nat.{ℕ, ◌+◌, ◌-◌, ◌*◌, ◌≤◌, ◌<◌}
 use native.Mathlib.Omega.{arith}
 use lib.ListN.{length, get_or}
 use lib.Seq.{ext_get_or}
-use Rattle.refusals.specs.declared.Outcome.TheVariants.{Passed}
+use Rattle.refusals.specs.Outcome.{Passed}
 use Rattle.lists.specs.Tests.{among}
 use Rattle.lists.proofs.Tabulate.{length-tabulate, tabulate-at}
 use Rattle.algebra.specs.Congruence.{◌≈⟨◌⟩◌}

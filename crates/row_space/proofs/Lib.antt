@@ -9,6 +9,5 @@ pub mod Freedom
 pub mod Odds
 pub mod Sums
 pub mod Diagonal
-pub mod RowParts
 pub mod LowerLoop
 pub mod UpperLoop

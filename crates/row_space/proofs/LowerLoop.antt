@@ -49,17 +49,12 @@ subtracted-less p v row w w' l small h t =
     go c e = omega (arith, ap (λ (z : ℕ). z * row l) e)
 
 pub record Lowering (p : ℕ) (L : Matrix) (R : Vector) (w₀ w x₀ x : List ℕ) (k : ℕ) : Type 0 where
-  pub inside : k ≤ length w₀
   pub long : length w ≡ length w₀
   pub long-x : length x ≡ length x₀
   pub below : Below (p * p) w
   pub rest : (i : ℕ) → i < k → back_l p L k (residues p w) i ≡ back_l p L (length w₀) (residues p w₀) i
   pub done : (i : ℕ) → k ≤ i → i < length w₀ → get_or x (R i) 0 ≡ back_l p L (length w₀) (residues p w₀) i
   pub other : (t : ℕ) → ((i : ℕ) → k ≤ i → i < length w₀ → R i ≢ t) → get_or x t 0 ≡ get_or x₀ t 0
-
-pub lowering-starts : (p : ℕ) (L : Matrix) (R : Vector) (w x : List ℕ) → Below (p * p) w → Lowering p L R w w x x (length w)
-lowering-starts p L R w x b =
-    record { inside = omega arith; long = refl; long-x = refl; below = b; rest = λ i h. refl; done = λ i h g. absurd (omega arith); other = λ t h. refl }
 
 module _ (p : ℕ) (L : Matrix) (R : Vector) (w₀ w w' x₀ x : List ℕ) (k v t : ℕ) (pos : 0 < p) (h : k < length w₀) (et : t ≡ R k) (ht : t < length x)
     (apart : (i : ℕ) → i < length w₀ → R i ≡ R k → i ≡ k) (ev : v ≡ quotient p L k (residues p w)) (taken : Subtracted p (λ j. v * L k j) w w') (s : Lowering p L R w₀ w x₀ x (suc k)) where
@@ -82,7 +77,6 @@ module _ (p : ℕ) (L : Matrix) (R : Vector) (w₀ w w' x₀ x : List ℕ) (k v 
   unfolding back_l
   lowering-turn =
       record {
-        inside = omega arith;
         long = taken.long ∙ s.long;
         long-x = length-set x t v ∙ s.long-x;
         below = taken.below;
@@ -104,10 +98,10 @@ module _ (p : ℕ) (L : Compressed) (R w₀ x₀ : List ℕ) (d : LowerOrder p L
 
   module _ (w x : List ℕ) where
     -- one turn of the loop, which goes down
-    pub lowering-next : (w' : List ℕ) (k v t : ℕ) → 0 < k → t ≡ get_or R (k - 1) 0 → QuotientTaken p L (k - 1) w w' v
+    pub lowering-next : (w' : List ℕ) (k v t : ℕ) → 0 < k → k ≤ length w₀ → t ≡ get_or R (k - 1) 0 → QuotientTaken p L (k - 1) w w' v
         → Lowering p (matrix L) (vector R) w₀ w x₀ x k → Lowering p (matrix L) (vector R) w₀ w' x₀ (set x t v) (k - 1)
-    lowering-next w' k v t h et turned s =
-        let lt : k - 1 < length w₀ = omega (arith, s.inside) in
+    lowering-next w' k v t h le et turned s =
+        let lt : k - 1 < length w₀ = omega arith in
         lowering-turn p (matrix L) (vector R) w₀ w w' x₀ x (k - 1) v t (omega (arith, d.ready.prime.two)) lt et
         (omega (arith, et, place-below (k - 1) lt, s.long-x))
         (λ i g e. whole.apart i (k - 1) (omega (arith, d.rank)) (omega (arith, d.rank)) e)

@@ -11,7 +11,7 @@ use mathlib.Core.Path.{◌≡◌}
 use mathlib.Core.List.{List}
 use Prim.Native.Nat.{ℕ, ◌*◌, ◌<◌}
 use lib.ListN.{length}
-use Rattle.refusals.specs.declared.Outcome.TheVariants.{Passed}
+use Rattle.refusals.specs.Outcome.{Passed}
 use Rattle.algebra.specs.Congruence.{◌≈⟨◌⟩◌}
 use Rattle.algebra.specs.Sum.{dot}
 use Rattle.algebra.specs.Prime.{Prime}

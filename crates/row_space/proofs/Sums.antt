@@ -16,7 +16,7 @@ use lib.ListN.{length}
 use borrow.Author.Tests.{eq-eqb, ne_eqb}
 use Rattle.lists.specs.Filled.{zeros}
 use Rattle.lists.proofs.Tests.{first-ext}
-use Rattle.refusals.specs.declared.Outcome.TheVariants.{Passed}
+use Rattle.refusals.specs.Outcome.{Passed}
 use Rattle.algebra.specs.Congruence.{◌≈⟨◌⟩◌}
 use Rattle.algebra.specs.Sum.{δ}
 use Rattle.algebra.specs.Prime.{Prime}

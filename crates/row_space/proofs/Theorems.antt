@@ -28,7 +28,7 @@ use native.Mathlib.Omega.{arith}
 use lib.ListN.{length, get_or}
 use lib.Seq.{ext_get_or}
 use Rattle.lists.specs.Filled.{zeros}
-use Rattle.refusals.specs.declared.Outcome.TheVariants.{Passed}
+use Rattle.refusals.specs.Outcome.{Passed}
 use Rattle.lists.proofs.Filled.{zeros-replicate}
 use Rattle.algebra.specs.Congruence.{◌≈⟨◌⟩◌}
 use Rattle.algebra.specs.Sum.{dot, δ}

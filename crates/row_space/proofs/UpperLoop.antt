@@ -2,7 +2,7 @@
 use mathlib.Core.Path.{◌≡◌, refl, sym, ap, ◌∙◌}
 use mathlib.Core.Bool.{cond}
 use mathlib.Core.List.{List}
-use Prim.Native.Nat.{ℕ, zero, suc, ◌-◌, ◌%◌, ◌≤◌, ◌<◌}
+use Prim.Native.Nat.{ℕ, zero, suc, ◌-◌, ◌%◌, ◌<◌}
 use native.Mathlib.Nat.{mod-lt}
 use native.Mathlib.Decide.{ℕ_discrete}
 use native.Mathlib.Omega.{arith}
@@ -28,13 +28,9 @@ back_u-ext p m C U (suc k) z z' h t g =
 
 -- the pivot cells of rows k and above are filled
 pub record Filling (p : ℕ) (C : Vector) (U : Matrix) (r : ℕ) (z₀ z : List ℕ) (k : ℕ) : Type 0 where
-  pub inside : k ≤ r
   pub long : length z ≡ length z₀
   pub small : Below p z
   pub rest : (t : ℕ) → t < length z₀ → back_u p (length z₀) C U k (vector z) t ≡ back_u p (length z₀) C U r (vector z₀) t
-
-pub filling-starts : (p : ℕ) (C : Vector) (U : Matrix) (r : ℕ) (z : List ℕ) → Below p z → Filling p C U r z z r
-filling-starts p C U r z h = record { inside = omega arith; long = refl; small = h; rest = λ t h. refl }
 
 pub set-put : (z : List ℕ) (c v t : ℕ) → c < length z → vector (set z c v) t ≡ put (vector z) c v t
 set-put z c v t h = elim (ℕ_discrete t c) [
@@ -47,7 +43,6 @@ pub filling-turn : (p : ℕ) (C : Vector) (U : Matrix) (r : ℕ) (z₀ z : List 
 unfolding back_u
 filling-turn p C U r z₀ z k v c pos h ec hc ev s =
     record {
-      inside = omega (arith, s.inside);
       long = length-set z c v ∙ s.long;
       small = below_set p z c v s.small (rw ev (mod-lt (p - dot (length z) (U (k - 1)) (vector z) % p) pos));
       rest = λ t g.

@@ -4,7 +4,7 @@ use Rattle.std.specs.Prelude.{ℕ, List, leb, ltb, length, get_or}
 use Rattle.lists.specs.Tests.{first}
 use Rattle.refusals.specs.Table.{question_too_large}
 use Rattle.refusals.specs.Refusals.{unless}
-use Rattle.refusals.specs.declared.Outcome.{Outcome}
+use Rattle.refusals.specs.Outcome.{Outcome}
 
 unfoldable pub question_outcome : ℕ → List ℕ → Outcome
 question_outcome p y =

@@ -5,7 +5,7 @@ pub mod lower;
 pub mod upper;
 
 // The answer to a question: open where the listener can compute it, closed where it stays hidden.
-#[derive(Clone, Copy)]
+#[derive(Clone, Copy, Debug, PartialEq, Eq)]
 pub enum Verdict {
     Open,
     Closed,

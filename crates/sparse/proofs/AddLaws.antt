@@ -27,9 +27,6 @@ pub record AddingRow (d : ℕ) (cols vals w₀ w : List ℕ) (t : ℕ) : Type 0 
   pub long : length w ≡ length w₀
   pub rest : (j : ℕ) → get_or w j 0 + d * entry (drop t cols) (drop t vals) j ≡ get_or w₀ j 0 + d * entry cols vals j
 
-pub adding-row-starts : (d : ℕ) (cols vals w : List ℕ) → AddingRow d cols vals w w 0
-adding-row-starts d cols vals w = record { long = refl; rest = λ j. refl }
-
 pub adding-row-ends : (d : ℕ) (cols vals w₀ w : List ℕ) (t : ℕ) → length cols ≤ t → AddingRow d cols vals w₀ w t → RowAdded d cols vals w₀ w
 adding-row-ends d cols vals w₀ w t h s =
     record {

@@ -78,10 +78,7 @@ loaded-below p width cols vals pos row j h =
 
 -- ---- the product with a vector: the sum and what is still to come make the product
 
--- the two ways in which u is added to the cell x without a division
-pub cell-more : (p x u : ℕ) → x < p * p - u → Cell p 0 (x + u) (x + u)
-cell-more p x u h = record { below = omega arith; less = exact (omega arith) }
-
+-- u is added to the cell x without a division, past p * p
 pub cell-over : (p x u : ℕ) → x < p * p → u < p * p → p * p - u ≤ x → Cell p 0 (x + u) (x - (p * p - u))
 cell-over p x u h k le = record { below = omega arith; less = by-multiples p 0 (omega arith) }
 
@@ -90,9 +87,6 @@ module _ (p : ℕ) (cols vals : List ℕ) (f : ℕ → ℕ) where
     pub inside : t ≤ length cols
     pub below : s < p * p
     pub rest : s + weigh (drop t cols) (drop t vals) f ≈⟨ p ⟩ weigh cols vals f
-
-  pub summing-starts : 0 < p * p → Summing 0 0
-  summing-starts h = record { inside = omega arith; below = h; rest = exact (omega arith) }
 
   pub summing-turn : (s s' t k v : ℕ) → t < length cols → t < length vals → k ≡ get_or cols t 0 → v ≡ get_or vals t 0 → Cell p 0 (s + v * f k) s' → Summing s t → Summing s' (t + 1)
   summing-turn s s' t k v h g ek ev c a =

@@ -1,5 +1,6 @@
 pub mod WordLaws
 pub mod Parts
+pub mod PartLaws
 pub mod Forms
 pub mod Entries
 pub mod Rows

@@ -11,7 +11,7 @@ use lib.Seq.{get_or-set_same, get_or-set_other, get_or-take, get_or-drop, get_or
 use Rattle.sparse.specs.Form.{rises_from}
 use Rattle.sparse.specs.Row.{entry, Row}
 use Rattle.sparse.specs.WorkingRow.{GrownBy, growth, GrowReady}
-use Rattle.sparse.specs.Run.{RowAdded, Neighbours, RunReady, Added, FromReady, AddedFrom}
+use Rattle.sparse.specs.Run.{RowAdded, Neighbours, RunReady, Added}
 use Rattle.sparse.proofs.Entries.{rises-apart, row-columns, entry_at, entry_absent}
 use Rattle.sparse.proofs.AddLaws.{growth-small, add-ready, added-grown}
 
@@ -102,29 +102,6 @@ module _ (w z : List ℕ) (a n : ℕ) (long : length z ≡ n) (inside : a + n �
       ∙ get_or-append-add z (drop n (drop a w)) t 0
       ∙ get_or-drop n (drop a w) t 0
       ∙ get_or-drop a w (n + t) 0
-
--- ---- the values added to a lent part: no other cell is changed
-
-module _ (d a : ℕ) (vals w : List ℕ) (ready : FromReady d a vals w) (n : ℕ) (en : n ≡ length vals) where
-  lent_length : length (take n (drop a w)) ≡ n
-  lent_length = length-take-le n (drop a w) (omega (arith, length-drop a w, ready.inside))
-
-  lent-cell : (t : ℕ) → t < n → get_or (take n (drop a w)) t 0 ≡ get_or w (a + t) 0
-  lent-cell t h = get_or-take n (drop a w) t 0 h ∙ get_or-drop a w t 0
-
-  pub from-run : RunReady d vals (take n (drop a w))
-  from-run = record { paired = omega (arith, lent_length); room = λ t h. let g : t < n = omega (arith, lent_length) in omega (arith, lent-cell t g, ready.room t (omega arith)) }
-
-  pub from-added : (z : List ℕ) → Added d vals (take n (drop a w)) z → AddedFrom d a vals w (take a w ++ (z ++ drop n (drop a w)))
-  from-added z added =
-      let long : length z ≡ n = added.long ∙ lent_length in
-      let room : a + n ≤ length w = omega (arith, ready.inside) in
-      record {
-        long = back-length w z a n long room;
-        left = back-before w z a n long room;
-        sums = λ t h. let g : t < n = omega arith in omega (arith, back-within w z a n long room t g, added.sums t (omega (arith, lent_length)), lent-cell t g);
-        right = λ t. rw (sym en) (back-after w z a n long room t);
-      }
 
 -- ---- the values added to the lent part: the row added
 

@@ -13,7 +13,7 @@ use Rattle.algebra.specs.Matrix.{Matrix}
 use Rattle.algebra.proofs.Congruence.{exact, ◌⊙◌, ◌⊕◌, same_refl, by-multiples, cancel}
 use Rattle.algebra.proofs.Dot.{δ-same, δ-other}
 use Rattle.sparse.specs.Row.{weigh, entry, Below}
-use Rattle.sparse.specs.WorkingRow.{Lessened, Lowered, SubtractedTo, Subtracted, GrownBy}
+use Rattle.sparse.specs.WorkingRow.{Lowered, SubtractedTo, Subtracted, GrownBy}
 use Rattle.sparse.proofs.Entries.{weigh-scale, weigh-step, weigh-end}
 
 -- ---- one cell
@@ -23,17 +23,10 @@ pub product-below : {p a b : ℕ} → a < p → b < p → a * b < p * p
 product-below {p} {a} {b} ha hb =
     omega (arith, mul-le-mul_left {m = b} {n = p} a (omega arith), mul-le-mul_right {m = suc a} {n = p} p (omega arith), suc-mul a p)
 
--- the two ways in which u is taken away from the cell x without a division
-pub cell-less : (p x u : ℕ) → u ≤ x → Lowered p u x (x - u)
-cell-less p x u le = record { within = λ b g h. omega arith; less = exact (omega arith); still = λ e. omega arith }
-
+-- u is taken away from the cell x without a division, where it is more than x
 pub cell-wraps : (p x u : ℕ) → u < p * p → x < u → Lowered p u x (x + (p * p - u))
 cell-wraps p x u h lt =
     record { within = λ b g k. omega arith; less = by-multiples 0 p (omega arith); still = λ e. absurd (omega arith) }
-
--- a cell below p * p stays below
-pub lowered-cell : {p u x r : ℕ} → x < p * p → Lowered p u x r → Lessened p u x r
-lowered-cell {p} h l = record { cell = record { below = l.within (p * p) (omega arith) h; less = l.less }; still = l.still }
 
 pub below_set : (b : ℕ) (w : List ℕ) (k x : ℕ) → Below b w → x < b → Below b (set w k x)
 below_set b w k x h small i g = go (ℕ_discrete i k)
@@ -110,16 +103,6 @@ pub record Combining (p b : ℕ) (M : Matrix) (cols vals w₀ w : List ℕ) (t :
   pub rest : (j : ℕ) → j < length w₀ → get_or w j 0 + weigh cols vals (λ k. M k j) ≈⟨ p ⟩ get_or w₀ j 0 + weigh (drop t cols) (drop t vals) (λ k. M k j)
   pub kept : (j : ℕ) → j < length w₀ → weigh cols vals (λ k. M k j) ≡ 0 → (get_or w j 0 ≡ get_or w₀ j 0) × (weigh (drop t cols) (drop t vals) (λ k. M k j) ≡ 0)
 
-pub combining-starts : (p b : ℕ) (M : Matrix) (cols vals w : List ℕ) → Below b w → Combining p b M cols vals w w 0
-combining-starts p b M cols vals w below =
-    record {
-      inside = omega arith;
-      long = refl;
-      below = below;
-      rest = λ j h. same_refl (get_or w j 0 + weigh cols vals (λ k. M k j));
-      kept = λ j h e. (refl, e);
-    }
-
 -- the bound may be another one after the turn
 pub combining-turn : {a b : ℕ} (p : ℕ) (M : Matrix) (cols vals w₀ w w' : List ℕ) (t k v : ℕ) → t < length cols → t < length vals → k ≡ get_or cols t 0 → v ≡ get_or vals t 0
     → Combining p a M cols vals w₀ w t → SubtractedTo p b (λ j. v * M k j) w w' → Combining p b M cols vals w₀ w' (t + 1)
@@ -155,9 +138,6 @@ combining-ends p M cols vals w₀ w t h s =
 pub record Lowering (p c : ℕ) (cols vals w₀ w : List ℕ) (t : ℕ) : Type 0 where
   pub long : length w ≡ length w₀
   pub so_far : (b : ℕ) → p * p ≤ b → Below b w₀ → Combining p b (λ k j. c * δ k j) cols vals w₀ w t
-
-pub lowering-starts : (p c : ℕ) (cols vals w : List ℕ) → Lowering p c cols vals w w 0
-lowering-starts p c cols vals w = record { long = refl; so_far = λ b wide below. combining-starts p b (λ k j. c * δ k j) cols vals w below }
 
 pub lowering-turn : (p c : ℕ) (cols vals w₀ w : List ℕ) (t k v r : ℕ) → t < length cols → t < length vals → k ≡ get_or cols t 0 → v ≡ get_or vals t 0 → k < length w
     → Lowering p c cols vals w₀ w t → Lowered p (c * v) (get_or w k 0) r → Lowering p c cols vals w₀ (set w k r) (t + 1)

@@ -2,6 +2,7 @@ pub mod Words
 pub mod Form
 pub mod Row
 pub mod Matrix
+pub mod Part
 pub mod Set
 pub mod Views
 pub mod WorkingRow

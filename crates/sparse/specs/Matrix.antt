@@ -1,6 +1,6 @@
 -- A matrix stored by compressed rows: the plan, L and U alike.
 --   row_of starts k xs      the part of the list xs that belongs to row k
---   Compressed             row starts, columns and values
+--   Compressed             row starts, columns and values: what a value of the type `Compressed` is in a contract
 --   compressed, viewed     the same from three lists, and from three pairs of a list and bytes
 --   matrix h               the matrix that the lists hold; an entry that is not stored is 0
 --   form p width h         the lists are well formed
@@ -10,14 +10,13 @@ use Rattle.algebra.specs.Matrix.{Matrix}
 use Rattle.sparse.specs.Words.{view}
 use Rattle.sparse.specs.Form.{well_formed}
 use Rattle.sparse.specs.Row.{entry}
+use Rattle.sparse.specs.declared.stored
 
 abbrev pub row_of : List ℕ → ℕ → List ℕ → List ℕ
 row_of starts k xs = slice (get_or starts k 0) (get_or starts (k + 1) 0) xs
 
-pub record Compressed : Type 0 where
-  pub starts : List ℕ
-  pub cols : List ℕ
-  pub vals : List ℕ
+abbrev pub Compressed : Type 0
+Compressed = stored.Compressed.Compressed
 
 abbrev pub compressed : List ℕ → List ℕ → List ℕ → Compressed
 compressed starts cols vals = record { starts = starts; cols = cols; vals = vals }

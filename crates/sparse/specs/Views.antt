@@ -9,6 +9,7 @@
 --   viewed_set_at, viewed_set_before            the set in eight such pairs
 --   vector_before, matrix_before                a pair as a vector, and three pairs as a matrix
 --   storage_at, storage_before, storage_after   the lists that factoring fills
+--   set_in f                                    the set of factors that a value of the type `Factors` holds
 -- A contract passes these what is behind each list: x.now of a `&`, x.old and x.new of a `&mut`.
 use Rattle.std.specs.Prelude.{ℕ, List}
 use denote.MutBor.{MutBor}
@@ -17,6 +18,7 @@ use Rattle.sparse.specs.Words.{view}
 use Rattle.algebra.specs.Matrix.{Vector, Matrix, vector}
 use Rattle.sparse.specs.Matrix.{Compressed, compressed, matrix}
 use Rattle.sparse.specs.Set.{Set, set_of, Storage, storage_of}
+use Rattle.sparse.specs.declared.set.Factors.{Factors}
 
 abbrev pub LentList : Type 0
 LentList = Both (MutBor (List ℕ)) (MutBor (List ℕ))
@@ -76,3 +78,6 @@ storage_before ro co ls lc lv us uc uv work = storage_of ro co (stored_before ls
 
 abbrev pub storage_after : (ro co ls lc lv us uc uv work : List ℕ) → Storage
 storage_after ro co ls lc lv us uc uv work = storage_of ro co (stored_after ls lc lv) (stored_after us uc uv) work
+
+abbrev pub set_in : Factors → Set
+set_in f = set_of f.r f.ro f.co f.l f.u

@@ -2,6 +2,7 @@
 --   le32 a b c d       the 32-bit number of four bytes, least significant first
 --   words bytes        the 32-bit little-endian numbers that bytes hold; fewer than four bytes at the end hold none
 --   view list bytes    the list meant by a stored list and by bytes, of which one is empty
+--   numbers            the same, always unfolded: what a value of the type `Words` is in a contract
 use Rattle.std.specs.Prelude.{ℕ, ◌+◌, ◌*◌, List, [], ◌∷◌, ◌++◌}
 
 abbrev pub le32 : ℕ → ℕ → ℕ → ℕ → ℕ
@@ -16,3 +17,6 @@ words (a ∷ b ∷ c ∷ d ∷ rest) = le32 a b c d ∷ words rest
 
 unfoldable pub view : List ℕ → List ℕ → List ℕ
 view list bytes = list ++ words bytes
+
+abbrev pub numbers : List ℕ → List ℕ → List ℕ
+numbers list bytes = view list bytes

@@ -17,13 +17,11 @@ pub fn copy_scaled(
     requires { CopyReady q.p c at rc.now rv.now cols.old vals.old }
     ensures { Copied q.p c at rc.now rv.now cols.old vals.old cols.new vals.new result }
 {
-    let mut t = 0;
-    while t < rc.len() {
+    for t in 0..rc.len() {
         let v = rv[t];
         let product = q.multiply(c, v);
         cols[at + t] = rc[t];
         vals[at + t] = product;
-        t += 1;
     }
-    at + t
+    at + rc.len()
 }

@@ -8,25 +8,21 @@ ghost use Rattle.residue.specs.Arithmetic.{Residue, Residues};
 ghost use Rattle.sparse.specs.Row.{entry, weigh};
 ghost use Rattle.sparse.specs.WorkingRow.{Cell};
 ghost use Rattle.sparse.specs.Storing.{LoadReady, DotReady, Room, DenseStored};
-ghost use Rattle.sparse.specs.Views.{view_at, view_before};
 
 use crate::scan::next_nonzero;
-use crate::words::{count, word};
+use crate::stored::SparseRow;
 use lists::index;
 use residue::Modulus;
 
 // Puts a sparse row into a working row that is all zero. The modulus bounds the cells and is not computed with.
-pub fn load(cols: &[u32], cb: &[u8], vals: &[u32], vb: &[u8], p: u32, work: &mut [u64])
-    requires { LoadReady p (view_at cols.now cb.now) (view_at vals.now vb.now) work.old }
-    ensures { work.new ≡ tabulate (length work.old) (entry (view_before cols.now cb.now) (view_before vals.now vb.now)) }
+pub fn load(row: &SparseRow, p: u32, work: &mut [u64])
+    requires { LoadReady p row.now.cols row.now.vals work.old }
+    ensures { work.new ≡ tabulate (length work.old) (entry row.now.cols row.now.vals) }
 {
-    let n = count(cols, cb);
-    let mut t = 0;
-    while t < n {
-        let j = index(word(cols, cb, t));
-        let v = word(vals, vb, t);
+    for t in 0..row.cols.len() {
+        let j = index(row.cols.at(t));
+        let v = row.vals.at(t);
         work[j] = work[j] + v as u64;
-        t += 1;
     }
 }
 
@@ -42,18 +38,15 @@ fn add_product(q: Modulus, s: u64, v: u32, x: u32) -> u64
 }
 
 // The product of a sparse row and a vector of residues.
-pub fn dot(q: Modulus, cols: &[u32], cb: &[u8], vals: &[u32], vb: &[u8], z: &[u32]) -> u32
-    requires { DotReady q.p (view_at cols.now cb.now) (view_at vals.now vb.now) z.now }
-    ensures { Residue q.p (weigh (view_before cols.now cb.now) (view_before vals.now vb.now) (vector z.now) % q.p) result }
+pub fn dot(q: Modulus, row: &SparseRow, z: &[u32]) -> u32
+    requires { DotReady q.p row.now.cols row.now.vals z.now }
+    ensures { Residue q.p (weigh row.now.cols row.now.vals (vector z.now) % q.p) result }
 {
-    let n = count(cols, cb);
     let mut s: u64 = 0;
-    let mut t = 0;
-    while t < n {
-        let j = index(word(cols, cb, t));
-        let v = word(vals, vb, t);
+    for t in 0..row.cols.len() {
+        let j = index(row.cols.at(t));
+        let v = row.vals.at(t);
         s = add_product(q, s, v, z[j]);
-        t += 1;
     }
     q.reduce(s)
 }
@@ -72,6 +65,7 @@ pub fn first_nonzero(q: Modulus, work: &[u64]) -> usize
     ensures { result ≡ first (length work.now) (λ j. eqb (get_or work.now j 0 % q.p) 0) }
 {
     let mut j = 0;
+    // A while: the search gives the next place.
     while j < work.len() {
         if !is_zero(q, work[j]) {
             return j;

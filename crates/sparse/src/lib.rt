@@ -1,6 +1,5 @@
-// Matrices stored by compressed rows. Each list of numbers comes as a pair, a stored list and bytes of a certificate
-// (`cols` and `cb`), of which one is empty: the list meant is the first followed by the words of the second.
-// `copying` and `lookup` are for stored lists alone.
+// Matrices stored by compressed rows, and the working row. `words` has lists of numbers that are stored or held by the bytes of a certificate,
+// `stored` the rows and matrices made of them, `set` a set of factors. What writes or changes a row takes lists: `copying`, `lookup`, `dense::put`.
 #![tactic(auto)]
 
 pub mod copying;
@@ -10,4 +9,6 @@ pub mod growing;
 pub mod kernel;
 pub mod lookup;
 pub mod scan;
+pub mod set;
+pub mod stored;
 pub mod words;

@@ -8,12 +8,8 @@ pub fn value_at(cols: &[u32], vals: &[u32], j: u32) -> u32
     requires { LookupReady cols.now vals.now }
     ensures { result ≡ entry cols.now vals.now j }
 {
-    let mut t = 0;
-    while t < cols.len() {
-        if cols[t] == j {
-            return vals[t];
-        }
-        t += 1;
+    match cols.iter().position(|&col| col == j) {
+        Some(t) => vals[t],
+        None => 0,
     }
-    0
 }

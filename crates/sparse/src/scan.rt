@@ -39,14 +39,12 @@ fn next_by_one(row: &[u64], from: usize) -> usize
     requires { from ≤ length row.now }
     ensures { NextNonzero row.now from result }
 {
-    let mut j = from;
-    while j < row.len() {
+    for j in from..row.len() {
         if row[j] != 0 {
             return j;
         }
-        j += 1;
     }
-    j
+    row.len()
 }
 
 // The same; cell by cell only where fewer than eight are left.
@@ -55,6 +53,7 @@ pub fn next_nonzero(row: &[u64], from: usize) -> usize
     ensures { NextNonzero row.now from result }
 {
     let mut j = from;
+    // A while: the step is not one.
     while 8 <= row.len() - j {
         let run = zeros_of_eight(row, j);
         j += run;

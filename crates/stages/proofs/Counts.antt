@@ -6,8 +6,8 @@ use Prim.Native.Nat.{ℕ, ◌≤◌}
 use native.Mathlib.Omega.{arith}
 use lib.ListN.{length, get_or}
 use Rattle.refusals.specs.Refusals.{◌▷◌, unless, detail_of}
-use Rattle.refusals.specs.declared.Outcome.{Outcome}
-use Rattle.refusals.specs.declared.Outcome.TheVariants.{Passed, Refused}
+use Rattle.refusals.specs.Outcome.{Outcome}
+use Rattle.refusals.specs.Outcome.{Passed, Refused}
 use Rattle.residue.specs.Range.{is_modulus}
 use Rattle.residue.proofs.Primes.{modulus-prime}
 use Rattle.sparse.specs.Matrix.{Compressed, matrix, form}
@@ -25,6 +25,7 @@ use Rattle.call_factor.specs.Lengths.{lent_lengths, lent_outcome}
 use Rattle.call_factor.specs.Calls.{unless_refused, factor_call_of}
 use Rattle.call_factor.specs.declared.Lent.{Lent}
 use Rattle.call_factor.proofs.Theorems.{lent-good}
+use Rattle.stages.proofs.Outcomes.{not-passed}
 use Rattle.stages.proofs.Rows.{row_inside}
 
 pub record Counted (n : ℕ) (o : Factorization) : Type 0 where
@@ -34,9 +35,10 @@ pub record Counted (n : ℕ) (o : Factorization) : Type 0 where
   pub upper-paired : length o.U.cols ≡ length o.U.vals
   pub rank-small : o.rank ≤ n
   pub detail-small : detail_of o.outcome ≤ n
+  pub emptied : {k d : ℕ} → o.outcome ≡ Refused k d → (length o.L.vals ≡ 0) × (length o.U.vals ≡ 0)
 
 counted-refusal : (n c d : ℕ) → d ≤ n → Counted n (refusal c d)
-counted-refusal n c d h = record { lower_last = refl; lower-paired = refl; upper-last = refl; upper-paired = refl; rank-small = omega arith; detail-small = h }
+counted-refusal n c d h = record { lower_last = refl; lower-paired = refl; upper-last = refl; upper-paired = refl; rank-small = omega arith; detail-small = h; emptied = λ e. (refl, refl) }
 
 -- the tests before factoring have no detail
 no-detail : (t : Bool) (k : ℕ) (o : Outcome) → detail_of o ≡ 0 → detail_of (unless t k 0 ▷ o) ≡ 0
@@ -68,6 +70,7 @@ module _ (p n m : ℕ) (A : Compressed) (l : Lent) where
           upper-paired = (compress-lengths (uppers_of end)).paired;
           rank-small = stored.factors.rank-rows;
           detail-small = omega arith;
+          emptied = λ e. absurd (not-passed e refl);
         }
       where
         end : Found

@@ -10,19 +10,22 @@ use Rattle.residue.proofs.Primes.{modulus-prime}
 use Rattle.sparse.specs.Matrix.{Compressed, compressed}
 use Rattle.sparse.specs.Set.{set_of, Storage}
 use Rattle.text_plan.specs.Call.{ReadAnswer}
-use Rattle.text_owners.specs.Call.{text_call_of, GivesText}
-use Rattle.text_plan.specs.declared.Reading.{Reading}
+use Rattle.text_owners.specs.Call.{TextAnswer, text_call_of, GivesText}
+use Rattle.text_plan.specs.Call.{Reading, reading_of}
+use Rattle.text_plan.specs.declared.Stated.{Stated}
+use Rattle.refusals.specs.declared.Refusal.{Refusal}
+use Rattle.std.specs.Prelude.{Result}
 use Rattle.limits.specs.Limits.{largest_entries}
 use Rattle.call_plan.specs.Accepted.{GoodPlan}
 use Rattle.factor_all.specs.Factorization.{Factorization, factoring, Leaves}
 use Rattle.factor_all.specs.OwnSet.{own_set}
-use Rattle.factor_all.specs.declared.factor.Factored.{Factored}
+use Rattle.factor_all.specs.Factored.{Factored}
 use Rattle.factor_all.proofs.OwnSet.{own-set, own-outcome}
 use Rattle.call_factor.specs.Lengths.{lent_of, lent_outcome}
-use Rattle.refusals.specs.declared.Outcome.TheVariants.{Passed, Refused}
+use Rattle.refusals.specs.Outcome.{Passed, Refused}
 use Rattle.call_factor.specs.Calls.{factor_call_of}
 use Rattle.call_factor.specs.declared.Lent.{Lent}
-use Rattle.stages.specs.declared.Stages.{Stages}
+use Rattle.stages.specs.Results.{Stages}
 use Rattle.stages.specs.Stages.{read_text, lent_for, factored_of, set_factored}
 use Rattle.text_plan.specs.Held.{held_plan}
 use Rattle.text_owners.proofs.Theorems.{read-good}
@@ -78,6 +81,13 @@ module _ (r : Reading) (A : Compressed) (f : Factored) (h : Storage) (plan : Hel
       ∙ filled-cell (length (take (n + 1) h.U.starts)) f.rank o.U.starts
       ∙ ap (λ (k : ℕ). get_or o.U.starts k 0) left.rank
       ∙ c.upper-last
+
+  -- a refusal leaves no entries
+  pub none-lower : {k d : ℕ} → f.outcome ≡ Refused k d → get_or h.L.starts n 0 ≡ 0
+  none-lower e = lower-count ∙ (c.emptied (sym left.outcome ∙ e)).0
+
+  pub none-upper : {k d : ℕ} → f.outcome ≡ Refused k d → get_or h.U.starts f.rank 0 ≡ 0
+  none-upper e = upper-count ∙ (c.emptied (sym left.outcome ∙ e)).1
 
   fits : Fits result A h
   fits =
@@ -156,6 +166,18 @@ module _ (r : Reading) (A : Compressed) (f : Factored) (h : Storage) (plan : Hel
 
 -- ---- reading, then factoring
 
+-- what a call gave, by what its result is
+pub given-as : {x y : Result Stated Refusal} {g : TextAnswer} {starts columns values ow : List ℕ} → x ≡ y → GivesText g (reading_of x) starts columns values ow
+    → GivesText g (reading_of y) starts columns values ow
+given-as {g = g} {starts = starts} {columns = columns} {values = values} {ow = ow} = subst (λ (x : Result Stated Refusal). GivesText g (reading_of x) starts columns values ow)
+
+pub lengths-same : (h' h : Storage) → length h'.R ≡ length h.R → length h'.C ≡ length h.C
+    → length h'.L.starts ≡ length h.L.starts → length h'.L.cols ≡ length h.L.cols → length h'.L.vals ≡ length h.L.vals
+    → length h'.U.starts ≡ length h.U.starts → length h'.U.cols ≡ length h.U.cols → length h'.U.vals ≡ length h.U.vals
+    → length h'.work ≡ length h.work → lent_of h' ≡ lent_of h
+lengths-same h' h rows columns ls lc lv us uc uv work t =
+    record { rows = rows t; columns = columns t; ls = ls t; lc = lc t; lv = lv t; us = us t; uc = uc t; uv = uv t; work = work t }
+
 module _ (text : List ℕ) (A₀ A : Compressed) (ow₀ ow : List ℕ) (h : Storage) (o : OwnedLists A₀ ow₀ h) (r : Reading)
     (read : GivesText (text_call_of text (length A₀.starts) (length A₀.cols) (length A₀.vals) (length ow₀)) r A.starts A.cols A.vals ow) where
   abbrev d : StageLists A₀ h
@@ -221,3 +243,16 @@ module _ (text : List ℕ) (A₀ A : Compressed) (ow₀ ow : List ℕ) (h : Stor
 
       pub staged : StagedOwned text (record { reading = r; factored = f; lower = get_or h'.L.starts r.n 0; upper = get_or h'.U.starts f.rank 0 }) A ow h.work h'
       staged = of-text r A f h' in-lists limits set-lists left text ow h.work (ap (λ (l : Lent). l.work) same) given
+
+      pub factoring-refused : {k d : ℕ} → f.outcome ≡ Refused k d → StagedOwned text (record { reading = r; factored = f; lower = 0; upper = 0 }) A ow h.work h'
+      factoring-refused e =
+          subst (λ (x : Type 0). x)
+          (λ t. StagedOwned text
+          (record {
+            reading = r;
+            factored = f;
+            lower = none-lower r A f h' in-lists limits set-lists left e t;
+            upper = none-upper r A f h' in-lists limits set-lists left e t;
+          })
+          A ow h.work h')
+          staged

@@ -6,7 +6,7 @@ use native.Mathlib.Omega.{arith}
 use lib.ListN.{length}
 use Rattle.refusals.specs.Refusals.{number_of}
 use Rattle.text_plan.specs.Call.{ReadAnswer, Gives}
-use Rattle.text_plan.specs.declared.Reading.{Reading}
+use Rattle.text_plan.specs.Call.{Reading}
 use Rattle.text_plan.specs.Held.{held_plan, plan_of}
 use Rattle.text_owners.specs.Call.{owners_length, TextAnswer, text_call_of, GivesText}
 use Rattle.text_owners.proofs.Theorems.{read-exactly, holds-stated, read-good, read-cleared}

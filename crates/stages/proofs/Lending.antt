@@ -7,10 +7,10 @@ use lib.ListN.{length, take, drop, length-append, take-append-drop}
 use lib.Seq.{length-take-le, take_at}
 use Rattle.sparse.specs.Matrix.{Compressed, compressed}
 use Rattle.sparse.specs.Set.{Storage, storage_of}
-use Rattle.text_plan.specs.declared.Reading.{Reading}
+use Rattle.text_plan.specs.Call.{Reading}
 use Rattle.factor_all.specs.Factorization.{Leaves}
-use Rattle.factor_all.specs.declared.factor.Factored.{Factored}
-use Rattle.refusals.specs.declared.Outcome.TheVariants.{Passed}
+use Rattle.factor_all.specs.Factored.{Factored}
+use Rattle.refusals.specs.Outcome.{Passed}
 use Rattle.call_factor.specs.Lengths.{lent_of, lent_outcome}
 use Rattle.call_factor.specs.Accepted.{LentRight}
 use Rattle.call_factor.specs.Calls.{factor_call_of}

@@ -7,3 +7,4 @@ pub mod Counts
 pub mod Factored
 pub mod ReadText
 pub mod Passing
+pub mod Stopping

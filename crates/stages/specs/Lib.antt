@@ -1,4 +1,5 @@
 pub mod Stages
+pub mod Results
 pub mod Lists
 pub mod Staged
 pub mod Meaning

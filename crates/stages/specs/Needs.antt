@@ -7,9 +7,9 @@ use Rattle.sparse.specs.Matrix.{Compressed, compressed}
 use Rattle.sparse.specs.Set.{Storage, storage_of}
 use Rattle.limits.specs.Limits.{largest_size, work_length}
 use Rattle.text_plan.specs.Held.{held_plan}
-use Rattle.text_plan.specs.declared.Reading.{Reading}
+use Rattle.text_plan.specs.Call.{Reading}
 use Rattle.factor_all.specs.Factorization.{Leaves}
-use Rattle.factor_all.specs.declared.factor.Factored.{Factored}
+use Rattle.factor_all.specs.Factored.{Factored}
 use Rattle.call_plan.specs.Accepted.{GoodPlan}
 use Rattle.call_factor.specs.Calls.{factor_call_of}
 use Rattle.stages.specs.Stages.{lent_for}

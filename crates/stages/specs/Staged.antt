@@ -8,13 +8,13 @@
 use Rattle.std.specs.Prelude.{ℕ, ◌+◌, ◌≤◌, ◌≡◌, List, length, take}
 use Rattle.lists.specs.Filled.{zeros}
 use Rattle.refusals.specs.Refusals.{◌▷◌, detail_of}
-use Rattle.refusals.specs.declared.Outcome.{Outcome}
-use Rattle.refusals.specs.declared.Outcome.TheVariants.{Passed}
+use Rattle.refusals.specs.Outcome.{Outcome}
+use Rattle.refusals.specs.Outcome.{Passed}
 use Rattle.sparse.specs.Matrix.{Compressed, compressed}
 use Rattle.sparse.specs.Set.{Set, set_of, Storage}
 use Rattle.text_plan.specs.Call.{ReadAnswer}
 use Rattle.limits.specs.Limits.{largest_size}
-use Rattle.stages.specs.declared.Stages.{Stages}
+use Rattle.stages.specs.Results.{Stages}
 use Rattle.stages.specs.Stages.{reading, owners_read, factored_of, set_factored}
 use Rattle.text_plan.specs.Held.{held_plan, plan_of}
 use Rattle.stages.specs.Lists.{Held}

@@ -1,31 +1,54 @@
 // A plan's text, read and then factored: the stages that the calls on a text begin with. They work in lists of the largest lengths.
 #![tactic(auto)]
 
-ghost use Rattle.std.specs.Prelude.{◌≡◌};
+ghost use Rattle.std.specs.Prelude.{◌≡◌, Ok};
+ghost use Rattle.factor_all.specs.Factored.{factored_of};
+ghost use Rattle.refusals.specs.Outcome.{outcome_of};
 ghost use Rattle.sparse.specs.Views.{stored_at, stored_before, stored_after, storage_at, storage_after};
 ghost use Rattle.stages.specs.Lists.{StageLists, OwnedLists};
 ghost use Rattle.stages.specs.Needs.{Lendable, HeldFactored};
+ghost use Rattle.stages.specs.Results.{stages_of, refusal_in};
 ghost use Rattle.stages.specs.Staged.{stages_outcome, Staged, StagedOwned};
+ghost use Rattle.text_plan.specs.Call.{reading_of};
 
 use call_factor::factor_accepted;
-use factor_all::factor::Factored;
+use factor_all::factor::Ranks;
 use limits::SIZE_CELLS;
 use lists::clear_row;
-use refusals::Outcome;
-use text_plan::Reading;
+use refusals::Refusal;
+use text_plan::Stated;
 
-// What the stages return: what reading returned, what factoring returned after it, and the entry counts of L and U.
-#[derive(Clone, Copy)]
-pub struct Stages {
-    pub reading: Reading,
-    pub factored: Factored,
+// What the stages find where none refuses: what reading returned, what factoring returned after it, and the entry counts of L and U.
+#[derive(Clone, Copy, Debug, PartialEq, Eq)]
+pub struct FactoredPlan {
+    pub stated: Stated,
+    pub ranks: Ranks,
     pub lower: u32,
     pub upper: u32,
 }
 
+// The stage that refused. Factoring refuses a plan that was read, so what its text states is known.
+#[derive(Clone, Copy, Debug, PartialEq, Eq)]
+pub enum Stopped {
+    InReading(Refusal),
+    InFactoring(Stated, Refusal),
+}
+
+// The refusal alone, for callers that treat both stages alike.
+impl From<Stopped> for Refusal {
+    ghost from_gives = { λ stopped r. r ≡ refusal_in stopped };
+
+    fn from(stopped: Stopped) -> Refusal {
+        match stopped {
+            Stopped::InReading(refusal) => refusal,
+            Stopped::InFactoring(_, refusal) => refusal,
+        }
+    }
+}
+
 // Factors the plan that a reading left in lists: what it read passes the tests of factoring, which are not made again.
 fn factor_held(
-    r: Reading,
+    stated: Stated,
     starts: &[u32],
     cols: &[u32],
     vals: &[u32],
@@ -38,17 +61,17 @@ fn factor_held(
     uc: &mut [u32],
     uv: &mut [u32],
     work: &mut [u64],
-) -> Factored
-    requires { Lendable r (stored_at starts.now cols.now vals.now) (storage_at ro.old co.old ls.old lc.old lv.old us.old uc.old uv.old work.old) }
-    ensures { HeldFactored r (stored_before starts.now cols.now vals.now) result (storage_after ro.new co.new ls.new lc.new lv.new us.new uc.new uv.new work.new) }
+) -> Result<Ranks, Refusal>
+    requires { Lendable (reading_of (Ok stated)) (stored_at starts.now cols.now vals.now) (storage_at ro.old co.old ls.old lc.old lv.old us.old uc.old uv.old work.old) }
+    ensures { HeldFactored (reading_of (Ok stated)) (stored_before starts.now cols.now vals.now) (factored_of result) (storage_after ro.new co.new ls.new lc.new lv.new us.new uc.new uv.new work.new) }
 {
-    let n = r.n as usize;
-    let m = r.m as usize;
-    let count = r.count as usize;
+    let n = stated.n as usize;
+    let m = stated.m as usize;
+    let count = stated.count as usize;
     factor_accepted(
-        r.p,
-        r.n,
-        r.m,
+        stated.p,
+        stated.n,
+        stated.m,
         &starts[..n + 1],
         &cols[..count],
         &vals[..count],
@@ -80,37 +103,29 @@ pub fn factor_owned(
     uc: &mut [u32],
     uv: &mut [u32],
     work: &mut [u64],
-) -> Stages
+) -> Result<FactoredPlan, Stopped>
     requires { OwnedLists (stored_at starts.old cols.old vals.old) owners.old (storage_at ro.old co.old ls.old lc.old lv.old us.old uc.old uv.old work.old) }
-    ensures { StagedOwned text.now result (stored_after starts.new cols.new vals.new) owners.new work.old (storage_after ro.new co.new ls.new lc.new lv.new us.new uc.new uv.new work.new) }
+    ensures { StagedOwned text.now (stages_of result) (stored_after starts.new cols.new vals.new) owners.new work.old (storage_after ro.new co.new ls.new lc.new lv.new us.new uc.new uv.new work.new) }
 {
-    let reading = text_owners::read(text, starts, cols, vals, owners);
-    let read = reading.outcome;
-    let Outcome::Passed = read else {
-        clear_row(work);
-        let factored = Factored {
-            outcome: Outcome::Passed,
-            rank: 0,
-            structural: 0,
-        };
-        return Stages {
-            reading,
-            factored,
-            lower: 0,
-            upper: 0,
-        };
+    let stated = match text_owners::read(text, starts, cols, vals, owners) {
+        Ok(stated) => stated,
+        Err(refusal) => {
+            clear_row(work);
+            return Err(Stopped::InReading(refusal));
+        }
     };
-    let factored = factor_held(
-        reading, starts, cols, vals, ro, co, ls, lc, lv, us, uc, uv, work,
-    );
-    let lower = ls[reading.n as usize];
-    let upper = us[factored.rank as usize];
-    Stages {
-        reading,
-        factored,
-        lower,
-        upper,
-    }
+    let ranks = match factor_held(
+        stated, starts, cols, vals, ro, co, ls, lc, lv, us, uc, uv, work,
+    ) {
+        Ok(ranks) => ranks,
+        Err(refusal) => return Err(Stopped::InFactoring(stated, refusal)),
+    };
+    Ok(FactoredPlan {
+        stated,
+        ranks,
+        lower: ls[stated.n as usize],
+        upper: us[ranks.rank as usize],
+    })
 }
 
 // The same for those who do not look at the owners.
@@ -128,9 +143,9 @@ pub fn factor_text(
     uc: &mut [u32],
     uv: &mut [u32],
     work: &mut [u64],
-) -> Stages
+) -> Result<FactoredPlan, Stopped>
     requires { StageLists (stored_at starts.old cols.old vals.old) (storage_at ro.old co.old ls.old lc.old lv.old us.old uc.old uv.old work.old) }
-    ensures { Staged text.now result (stored_after starts.new cols.new vals.new) work.old (storage_after ro.new co.new ls.new lc.new lv.new us.new uc.new uv.new work.new) }
+    ensures { Staged text.now (stages_of result) (stored_after starts.new cols.new vals.new) work.old (storage_after ro.new co.new ls.new lc.new lv.new us.new uc.new uv.new work.new) }
 {
     let mut owners = [0u8; SIZE_CELLS];
     factor_owned(
@@ -152,14 +167,11 @@ pub fn factor_text(
 }
 
 // The first refusal of the stages, if any, by reading or by factoring: a row counts from 0 here, from 1 in print.
-pub fn first_refusal(s: Stages) -> Outcome
-    ensures { result ≡ stages_outcome s }
+pub fn first_refusal(staged: Result<FactoredPlan, Stopped>) -> Result<(), Refusal>
+    ensures { outcome_of result ≡ stages_outcome (stages_of staged) }
 {
-    let r = s.reading;
-    let f = s.factored;
-    let reading = r.outcome;
-    let Outcome::Passed = reading else {
-        return reading;
-    };
-    f.outcome
+    match staged {
+        Ok(_) => Ok(()),
+        Err(stopped) => Err(stopped.into()),
+    }
 }

@@ -30,12 +30,8 @@ fn read_some(input: &mut impl Read, part: &mut [u8]) -> io::Result<usize>
 {
     for _ in 0..u64::MAX {
         match input.read(part) {
-            Ok(size) => return Ok(size),
-            Err(e) => {
-                if e.kind() != ErrorKind::Interrupted {
-                    return Err(e);
-                }
-            }
+            Err(e) if e.kind() == ErrorKind::Interrupted => continue,
+            done => return done,
         }
     }
     Err(Error::from(ErrorKind::Interrupted))
@@ -46,6 +42,7 @@ fn read_on(input: &mut impl Read, text: &mut [u8]) -> io::Result<usize>
     ensures { ReadsAtMost result text.new }
 {
     let mut size = 0;
+    // A while: a turn goes on by as many bytes as were read.
     while size < text.len() {
         let more = read_some(input, &mut text[size..])?;
         if more == 0 {

@@ -23,8 +23,8 @@ use Rattle.lists.specs.Filled.{zeros, filled}
 use Rattle.lists.proofs.Filled.{length-zeros, filled_none}
 use Rattle.refusals.specs.Table.{text_faults, set_faults, storage_too_short, wrong_length, question_too_large}
 use Rattle.refusals.specs.Refusals.{◌▷◌, unless, number_of, detail_of}
-use Rattle.refusals.specs.declared.Outcome.{Outcome}
-use Rattle.refusals.specs.declared.Outcome.TheVariants.{Passed, Refused}
+use Rattle.refusals.specs.Outcome.{Outcome}
+use Rattle.refusals.specs.Outcome.{Passed, Refused}
 use Rattle.refusals.proofs.Refusals.{RefusedBy, both-passed, refused-unless, refused-then, zero-passed}
 use Rattle.algebra.specs.Matrix.{vector}
 use Rattle.sparse.specs.Matrix.{Compressed}
@@ -41,7 +41,7 @@ use Rattle.call_check.specs.Passing.{StoredPasses, CertificatePasses}
 use Rattle.call_check.proofs.Theorems.{factors-exactly, rest-numbers, after-plan}
 use Rattle.call_answer.specs.Calls.{answer_number, answer_detail, answer_of, question_lengths, question_after, Given, given, answer_factors_of, answer_certificate_of, Answers}
 use Rattle.call_answer.specs.Meaning.{Askable, AnswersRight}
-use Rattle.call_answer.specs.declared.Answer.{Answer}
+use Rattle.call_answer.specs.Answer.{Answer}
 use Rattle.call_answer.proofs.Ways.{answered-number, answered-detail}
 use Rattle.call_answer.proofs.Theorems.{stored-answered, stored-right, stored-solved, bytes-answered, bytes-right, bytes-solved}
 use Rattle.call_owned.specs.Owned.{given_after}

@@ -5,22 +5,22 @@ use Prim.Native.Nat.{ℕ}
 use lib.ListN.{length}
 use Rattle.lists.specs.Filled.{zeros, filled}
 use Rattle.refusals.specs.Refusals.{◌▷◌}
-use Rattle.refusals.specs.declared.Outcome.{Outcome}
-use Rattle.refusals.specs.declared.Outcome.TheVariants.{Passed, Refused}
-use Rattle.refusals.proofs.Refusals.{refused, after-passed}
+use Rattle.refusals.specs.Outcome.{Outcome}
+use Rattle.refusals.specs.Outcome.{Passed, Refused}
+use Rattle.refusals.proofs.Refusals.{after-passed, then-after}
 use Rattle.lists.proofs.Filled.{filled_none}
 use Rattle.sparse.specs.Matrix.{Compressed}
 use Rattle.sparse.specs.Set.{Storage}
 use Rattle.text_plan.specs.Call.{ReadAnswer}
-use Rattle.text_plan.specs.declared.Reading.{Reading}
+use Rattle.text_plan.specs.Call.{Reading}
 use Rattle.limits.specs.Limits.{work_length}
 use Rattle.certificate.specs.Layout.{certificate_of}
 use Rattle.call_write.specs.Call.{write_outcome, bytes_given}
 use Rattle.factor_all.specs.Factorization.{Factorization}
-use Rattle.stages.specs.declared.Stages.{Stages}
+use Rattle.stages.specs.Results.{Stages}
 use Rattle.stages.specs.Stages.{reading, factored_of, set_factored}
 use Rattle.text_plan.specs.Held.{plan_of}
-use Rattle.stages.specs.Staged.{FactorsHeld, Staged}
+use Rattle.stages.specs.Staged.{stages_outcome, FactorsHeld, Staged}
 use Rattle.text_calls.specs.Calls.{packed, make_read_of, make_text_of, certificate_for, Makes}
 use Rattle.text_calls.specs.Held.{held_certificate, written_of, staged_outcome, Puts}
 use Rattle.text_calls.specs.Needs.{StagedFits}
@@ -40,21 +40,16 @@ module _ (s : Stages) (A : Compressed) (h : Storage) (b₀ b : List ℕ) where
   abbrev made : Outcome → Type 0
   made o = Puts (staged_outcome s A h (length b₀)) (held_certificate s h) o b₀ b
 
-  pub read-refused : {k d : ℕ} → s.reading.outcome ≡ Refused k d → b ≡ zeros (length b₀) → made s.reading.outcome
+  pub stages-refused : {k d : ℕ} → Refused k d ≡ stages_outcome s → b ≡ zeros (length b₀) → made (Refused k d)
   unfolding staged_outcome
-  read-refused e =
-      refusal (staged_outcome s A h (length b₀)) (held_certificate s h) s.reading.outcome b₀ b e
-      (refused s.reading.outcome s.reading.outcome (s.factored.outcome ▷ writing-is) _ _ e refl)
+  stages-refused e =
+      refusal (staged_outcome s A h (length b₀)) (held_certificate s h) _ b₀ b refl
+      (ap (λ (o : Outcome). o ▷ writing-is) e ∙ then-after s.reading.outcome s.factored.outcome writing-is)
 
   module _ (z : s.reading.outcome ≡ Passed) where
     read_done : (s.factored.outcome ▷ writing-is) ≡ staged_outcome s A h (length b₀)
     unfolding staged_outcome
     read_done = sym (after-passed s.reading.outcome (s.factored.outcome ▷ writing-is) z)
-
-    pub factor-refused : {k d : ℕ} → s.factored.outcome ≡ Refused k d → b ≡ zeros (length b₀) → made s.factored.outcome
-    factor-refused e =
-        refusal (staged_outcome s A h (length b₀)) (held_certificate s h) s.factored.outcome b₀ b e
-        (refused s.factored.outcome s.factored.outcome writing-is _ _ e refl ∙ read_done)
 
     pub written : s.factored.outcome ≡ Passed → (o : Outcome) → Puts writing-is (held_certificate s h) o b₀ b → made o
     written q o = subst (λ (x : Outcome). Puts x (held_certificate s h) o b₀ b) (sym (after-passed s.factored.outcome writing-is q) ∙ read_done)

@@ -13,8 +13,8 @@ use native.Mathlib.Omega.{arith}
 use Rattle.lists.specs.Tests.{among}
 use Rattle.refusals.specs.Table.{storage_too_short, wrong_length}
 use Rattle.refusals.specs.Refusals.{◌▷◌, unless, number_of, detail_of}
-use Rattle.refusals.specs.declared.Outcome.{Outcome}
-use Rattle.refusals.specs.declared.Outcome.TheVariants.{Passed, Refused}
+use Rattle.refusals.specs.Outcome.{Outcome}
+use Rattle.refusals.specs.Outcome.{Passed, Refused}
 use Rattle.refusals.proofs.Refusals.{RefusedBy, number-from, refused-unless, zero-passed}
 use Rattle.text_calls.specs.Calls.{packed}
 use Rattle.text_calls.specs.Meaning.{PackedFrom}

@@ -8,7 +8,7 @@ use mathlib.Core.List.{List}
 use Prim.Native.Nat.{ℕ, ◌≤◌}
 use lib.ListN.{length}
 use Rattle.refusals.specs.Refusals.{number_of}
-use Rattle.refusals.specs.declared.Outcome.{Outcome}
+use Rattle.refusals.specs.Outcome.{Outcome}
 use Rattle.sparse.specs.Matrix.{Compressed}
 use Rattle.sparse.specs.Set.{Set, Storage}
 use Rattle.certificate.specs.Layout.{certificate_of, Sized}
@@ -17,11 +17,11 @@ use Rattle.call_check.specs.Calls.{check_factors_of, check_certificate_of, Check
 use Rattle.call_check.specs.Passing.{StoredPasses}
 use Rattle.call_check.proofs.Theorems.{certificate-exactly, stored-certificate, stored-passes, bytes-pass}
 use Rattle.call_write.specs.Call.{write_outcome, WritesCertificate}
-use Rattle.call_write.specs.declared.Written.{Written}
+use Rattle.call_write.specs.Written.{Written}
 use Rattle.call_write.proofs.Theorems.{written-exactly}
 use Rattle.factor_all.specs.Factorization.{Leaves}
 use Rattle.factor_all.specs.OwnSet.{own_set}
-use Rattle.factor_all.specs.declared.factor.Factored.{Factored}
+use Rattle.factor_all.specs.Factored.{Factored}
 use Rattle.call_factor.specs.Calls.{factor_call_of}
 use Rattle.call_factor.specs.declared.Lent.{Lent}
 use Rattle.call_factor.proofs.Theorems.{factored-exactly, factored-set, factored-passes}

@@ -1,20 +1,19 @@
 -- Reporting into a buffer: one law for each way out of putting bytes in it, and what comes of the report of a text.
 use mathlib.Core.Path.{◌≡◌, refl, sym, ap, ◌∙◌}
-use mathlib.Core.Bool.{Bool}
 use mathlib.Core.List.{List}
-use Prim.Native.Nat.{ℕ, ◌-◌, ◌≤◌, ◌<◌}
+use Prim.Native.Nat.{ℕ, ◌-◌, ◌≤◌}
 use native.Mathlib.Omega.{arith}
 use lib.Dec.{leb}
 use lib.ListN.{length, take, length-append}
-use borrow.Author.Tests.{le-leb, lt-leb}
+use borrow.Author.Tests.{leb-true}
 use Rattle.lists.specs.Filled.{zeros, filled}
 use Rattle.lists.specs.Stored.{Stored}
 use Rattle.lists.proofs.Stored.{stored-filled}
 use Rattle.refusals.specs.Table.{wrong_length}
 use Rattle.refusals.specs.Refusals.{◌▷◌, unless}
-use Rattle.refusals.specs.declared.Outcome.{Outcome}
-use Rattle.refusals.specs.declared.Outcome.TheVariants.{Passed, Refused}
-use Rattle.refusals.proofs.Refusals.{refused, after-passed}
+use Rattle.refusals.specs.Outcome.{Outcome}
+use Rattle.refusals.specs.Outcome.{Passed, Refused, outcome_of}
+use Rattle.refusals.proofs.Refusals.{refused, unless-true, after-passed}
 use Rattle.certificate.specs.Writing.{room_for}
 use Rattle.call_write.specs.Call.{bytes_given}
 use Rattle.print_text.proofs.Shown.{fills-shown}
@@ -28,21 +27,21 @@ module _ (o : Outcome) (bytes b₀ b : List ℕ) where
   abbrev whole : Outcome
   whole = o ▷ room_for (length b₀) bytes
 
-  pub refused-before : {k d : ℕ} → o ≡ Refused k d → b ≡ zeros (length b₀) → Puts whole bytes o b₀ b
-  refused-before e = refusal whole bytes o b₀ b e (refused o o (room_for (length b₀) bytes) _ _ e refl)
+  pub refused-before : {k d : ℕ} → o ≡ Refused k d → b ≡ zeros (length b₀) → Puts whole bytes (Refused k d) b₀ b
+  refused-before e = refusal whole bytes (Refused _ _) b₀ b refl (refused (Refused _ _) o (room_for (length b₀) bytes) _ _ refl (sym e))
 
-  module _ (passed : o ≡ Passed) where
-    -- the outcome by the test of the buffer
-    tested : (t : Bool) → leb (length bytes) (length b₀) ≡ t → unless t wrong_length 0 ≡ whole
-    tested t e = sym (after-passed o (room_for (length b₀) bytes) passed ∙ ap (λ (u : Bool). unless u wrong_length 0) e)
+  module _ (passed : o ≡ Passed) (k : ℕ) (same : k ≡ length b₀) where
+    tested : unless (leb (length bytes) k) wrong_length 0 ≡ whole
+    tested = ap (λ (n : ℕ). room_for n bytes) same ∙ sym (after-passed o (room_for (length b₀) bytes) passed)
 
-    pub too_short : length b₀ < length bytes → b ≡ zeros (length b₀) → Puts whole bytes (Refused wrong_length 0) b₀ b
-    too_short h = refusal whole bytes (Refused wrong_length 0) b₀ b refl (tested _ (lt-leb (length bytes) (length b₀) h))
+    pub too_short : {n d : ℕ} → Refused n d ≡ unless (leb (length bytes) k) wrong_length 0 → b ≡ zeros (length b₀) → Puts whole bytes (Refused n d) b₀ b
+    too_short e = refusal whole bytes (Refused _ _) b₀ b refl (e ∙ tested)
 
-    pub put : length bytes ≤ length b₀ → (b₁ : List ℕ) (next : ℕ) → b₁ ≡ zeros (length b₀) → Stored b₁ b 0 next bytes → Puts whole bytes Passed b₀ b
-    put h b₁ next z s =
-        let is = tested _ (le-leb (length bytes) (length b₀) h) in
-        record { outcome = is; buffer = stored-filled (length b₀) h z s ∙ ap (λ (r : Outcome). filled (length b₀) (bytes_given r bytes)) is }
+    pub put : Passed ≡ unless (leb (length bytes) k) wrong_length 0 → (b₁ : List ℕ) (next : ℕ) → b₁ ≡ zeros (length b₀) → Stored b₁ b 0 next bytes → Puts whole bytes Passed b₀ b
+    put e b₁ next z s =
+        let is = e ∙ tested in
+        let h = leb-true (length bytes) k (unless-true _ _ _ (sym e)) in
+        record { outcome = is; buffer = stored-filled (length b₀) (omega (arith, h, same)) z s ∙ ap (λ (r : Outcome). filled (length b₀) (bytes_given r bytes)) is }
 
 -- ---- the report of a text: p₀ and p are the buffer in which it was printed, before and after
 
@@ -56,10 +55,10 @@ module _ (text : List ℕ) (r : Reported) (p₀ p w₀ w : List ℕ) (call : Rep
       let f = call.reports.report in
       omega (arith, f.size_is, ap length f.buffer-is, length-append (report_of text) (zeros (length p₀ - length (report_of text))))
 
-  pub reports-text : (b₀ b : List ℕ) (o : Outcome) (z : ℕ) → z ≡ packed o → Puts (r.outcome ▷ room_for (length b₀) (take r.size p)) (take r.size p) o b₀ b → ReportsText text z b₀ b
+  pub reports-text : (b₀ b : List ℕ) (o : Outcome) (z : ℕ) → z ≡ packed o → Puts (outcome_of r.outcome ▷ room_for (length b₀) (take r.size p)) (take r.size p) o b₀ b → ReportsText text z b₀ b
   unfolding report_text_of
   reports-text b₀ b o z e puts =
-      let is : (r.outcome ▷ room_for (length b₀) (take r.size p)) ≡ report_text_of text (length b₀) = λ t. call.outcome t ▷ room_for (length b₀) (bytes-are t) in
+      let is : (outcome_of r.outcome ▷ room_for (length b₀) (take r.size p)) ≡ report_text_of text (length b₀) = λ t. call.outcome t ▷ room_for (length b₀) (bytes-are t) in
       record {
         number = e ∙ ap packed (puts.outcome ∙ is);
         buffer = puts.buffer ∙ (λ t. filled (length b₀) (bytes_given (is t) (bytes-are t)));

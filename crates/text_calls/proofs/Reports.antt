@@ -22,7 +22,7 @@ use Rattle.lists.specs.Tests.{among}
 use Rattle.lists.specs.Filled.{zeros, filled}
 use Rattle.refusals.specs.Table.{text_faults, storage_too_short, wrong_length}
 use Rattle.refusals.specs.Refusals.{◌▷◌}
-use Rattle.refusals.specs.declared.Outcome.{Outcome}
+use Rattle.refusals.specs.Outcome.{Outcome}
 use Rattle.refusals.proofs.Refusals.{then-after}
 use Rattle.limits.specs.Limits.{largest_entries, print_room}
 use Rattle.certificate.specs.Writing.{room_for}

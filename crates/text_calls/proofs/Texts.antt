@@ -26,8 +26,8 @@ use Rattle.lists.specs.Tests.{among}
 use Rattle.refusals.specs.Table.{text_faults, set_faults, storage_too_short, wrong_length}
 use Rattle.lists.specs.Filled.{zeros, filled}
 use Rattle.refusals.specs.Refusals.{◌▷◌}
-use Rattle.refusals.specs.declared.Outcome.{Outcome}
-use Rattle.refusals.specs.declared.Outcome.TheVariants.{Passed, Refused}
+use Rattle.refusals.specs.Outcome.{Outcome}
+use Rattle.refusals.specs.Outcome.{Passed, Refused}
 use Rattle.lists.proofs.Filled.{filled-cut}
 use Rattle.refusals.proofs.Refusals.{RefusedBy, both-passed, after-passed, refused-then}
 use Rattle.algebra.specs.Matrix.{vector}

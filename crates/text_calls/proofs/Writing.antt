@@ -22,8 +22,8 @@ use Rattle.lists.specs.Filled.{zeros, filled}
 use Rattle.lists.proofs.Filled.{filled_none}
 use Rattle.refusals.specs.Table.{text_faults, storage_too_short, wrong_length}
 use Rattle.refusals.specs.Refusals.{◌▷◌}
-use Rattle.refusals.specs.declared.Outcome.{Outcome}
-use Rattle.refusals.specs.declared.Outcome.TheVariants.{Passed, Refused}
+use Rattle.refusals.specs.Outcome.{Outcome}
+use Rattle.refusals.specs.Outcome.{Passed, Refused}
 use Rattle.refusals.proofs.Refusals.{RefusedBy, both-passed, after-passed, refused-then}
 use Rattle.certificate.specs.Writing.{room_for}
 use Rattle.limits.specs.Limits.{largest_entries}

@@ -13,14 +13,14 @@
 use Rattle.std.specs.Prelude.{ℕ, ◌+◌, ◌*◌, ◌≡◌, List, length}
 use Rattle.lists.specs.Filled.{filled}
 use Rattle.refusals.specs.Refusals.{◌▷◌, number_of, detail_of}
-use Rattle.refusals.specs.declared.Outcome.{Outcome}
+use Rattle.refusals.specs.Outcome.{Outcome}
 use Rattle.text_plan.specs.Call.{ReadAnswer}
 use Rattle.limits.specs.Limits.{work_length}
 use Rattle.certificate.specs.Layout.{certificate_of}
 use Rattle.certificate.specs.Writing.{room_for}
 use Rattle.call_check.specs.Calls.{check_certificate_of}
 use Rattle.call_write.specs.Call.{write_outcome, bytes_given}
-use Rattle.call_answer.specs.declared.Answer.{Answer}
+use Rattle.call_answer.specs.Answer.{Answer}
 use Rattle.stages.specs.Stages.{reading, factored_of, set_factored}
 use Rattle.text_plan.specs.Held.{plan_of}
 use Rattle.report_lib.specs.Reporting.{report_of, report_outcome}

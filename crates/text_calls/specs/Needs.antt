@@ -2,11 +2,11 @@
 --   CheckLists A w       lists for a plan, of the largest lengths, and a working row
 --   StagedFits s A h     what stands in the lists fits them, where there is anything
 use Rattle.std.specs.Prelude.{◌≡◌, ℕ, List, length}
-use Rattle.refusals.specs.declared.Outcome.TheVariants.{Passed}
+use Rattle.refusals.specs.Outcome.{Passed}
 use Rattle.sparse.specs.Matrix.{Compressed}
 use Rattle.sparse.specs.Set.{Storage}
 use Rattle.limits.specs.Limits.{work_length}
-use Rattle.stages.specs.declared.Stages.{Stages}
+use Rattle.stages.specs.Results.{Stages}
 use Rattle.stages.specs.Lists.{Largest}
 use Rattle.stages.specs.Staged.{Fits}
 

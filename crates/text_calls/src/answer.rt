@@ -1,33 +1,32 @@
 // An answer as planning programs in C see it.
 ghost use Rattle.std.specs.Prelude.{◌+◌, ◌*◌, ◌≡◌};
-ghost use Rattle.call_answer.specs.Calls.{answer_number, answer_detail};
+ghost use Rattle.call_answer.specs.Calls.{answer_number, answer_detail, given_answer};
 ghost use Rattle.text_calls.specs.Calls.{verdict_byte, AnswersText};
 
 use crate::pack;
 use answer_lib::answer_text;
-use call_answer::Answer;
 use limits::WORK_CELLS;
-use refusals::Outcome;
+use refusals::Refusal;
+use row_space::Verdict;
 
 // 1 where an answer is open, else 0.
-pub fn verdict_byte(answer: Answer) -> u8
-    ensures { result ≡ verdict_byte answer }
+pub fn verdict_byte(answer: Result<Verdict, Refusal>) -> u8
+    ensures { result ≡ verdict_byte (given_answer answer) }
 {
     match answer {
-        Answer::Refused(_, _) => 0,
-        Answer::Open => 1,
-        Answer::Closed => 0,
+        Ok(Verdict::Open) => 1,
+        Ok(Verdict::Closed) => 0,
+        Err(_) => 0,
     }
 }
 
 // An answer as one number: that of its refusal, else 0.
-pub fn pack_answer(answer: Answer) -> u64
-    ensures { result ≡ answer_number answer + 256 * answer_detail answer }
+pub fn pack_answer(answer: Result<Verdict, Refusal>) -> u64
+    ensures { result ≡ answer_number (given_answer answer) + 256 * answer_detail (given_answer answer) }
 {
     match answer {
-        Answer::Refused(number, detail) => pack(Outcome::Refused(number, detail)),
-        Answer::Open => 0,
-        Answer::Closed => 0,
+        Ok(_) => 0,
+        Err(refusal) => pack(Err(refusal)),
     }
 }
 

@@ -2,9 +2,10 @@
 #![tactic(auto)]
 
 ghost use Rattle.std.specs.Prelude.{◌≡◌};
+ghost use Rattle.refusals.specs.Outcome.{outcome_of};
 ghost use Rattle.text_calls.specs.Calls.{packed};
 
-use refusals::Outcome;
+use refusals::Refusal;
 
 pub mod answer;
 pub mod check;
@@ -12,11 +13,11 @@ pub mod make;
 pub mod report;
 
 // An outcome as one number: the table's number plus 256 times its detail.
-pub fn pack(o: Outcome) -> u64
-    ensures { result ≡ packed o }
+pub fn pack(outcome: Result<(), Refusal>) -> u64
+    ensures { result ≡ packed (outcome_of outcome) }
 {
-    match o {
-        Outcome::Passed => 0,
-        Outcome::Refused(number, detail) => number as u64 + 256 * detail as u64,
+    match outcome {
+        Ok(()) => 0,
+        Err(refusal) => u32::from(refusal.fault) as u64 + 256 * refusal.detail as u64,
     }
 }

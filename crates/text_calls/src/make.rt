@@ -1,5 +1,7 @@
 // Making a certificate of what the stages left in lists.
-ghost use Rattle.std.specs.Prelude.{length};
+ghost use Rattle.std.specs.Prelude.{length, Ok};
+ghost use Rattle.refusals.specs.Outcome.{outcome_of};
+ghost use Rattle.stages.specs.Results.{stages_of};
 ghost use Rattle.stages.specs.Staged.{Fits};
 ghost use Rattle.text_calls.specs.Held.{held_certificate, written_of, staged_outcome, Puts};
 ghost use Rattle.text_calls.specs.Needs.{StagedFits};
@@ -7,12 +9,12 @@ ghost use Rattle.sparse.specs.Views.{stored_at, stored_before, storage_at, stora
 
 use call_write::write_certificate;
 use lists::clear_bytes;
-use refusals::Outcome;
-use stages::Stages;
+use refusals::Refusal;
+use stages::{FactoredPlan, Stopped};
 
 // Writes the certificate of the set that the stages left in lists.
 fn write_held(
-    s: Stages,
+    plan: FactoredPlan,
     starts: &[u32],
     cols: &[u32],
     vals: &[u32],
@@ -26,26 +28,25 @@ fn write_held(
     uv: &[u32],
     buffer: &mut [u8],
     work: &mut [u64],
-) -> Outcome
-    requires { Fits s (stored_at starts.now cols.now vals.now) (storage_at ro.now co.now ls.now lc.now lv.now us.now uc.now uv.now work.old) }
-    ensures { Puts (written_of s (stored_before starts.now cols.now vals.now) (storage_before ro.now co.now ls.now lc.now lv.now us.now uc.now uv.now work.old) (length buffer.old)) (held_certificate s (storage_before ro.now co.now ls.now lc.now lv.now us.now uc.now uv.now work.old)) result buffer.old buffer.new }
+) -> Result<(), Refusal>
+    requires { Fits (stages_of (Ok plan)) (stored_at starts.now cols.now vals.now) (storage_at ro.now co.now ls.now lc.now lv.now us.now uc.now uv.now work.old) }
+    ensures { Puts (written_of (stages_of (Ok plan)) (stored_before starts.now cols.now vals.now) (storage_before ro.now co.now ls.now lc.now lv.now us.now uc.now uv.now work.old) (length buffer.old)) (held_certificate (stages_of (Ok plan)) (storage_before ro.now co.now ls.now lc.now lv.now us.now uc.now uv.now work.old)) (outcome_of result) buffer.old buffer.new }
 {
-    let r = s.reading;
-    let n = r.n as usize;
-    let m = r.m as usize;
-    let count = r.count as usize;
-    let factored = s.factored;
-    let rank = factored.rank as usize;
-    let lower = s.lower as usize;
-    let upper = s.upper as usize;
-    let written = write_certificate(
-        r.p,
-        r.n,
-        r.m,
+    let read = plan.stated;
+    let n = read.n as usize;
+    let m = read.m as usize;
+    let count = read.count as usize;
+    let rank = plan.ranks.rank as usize;
+    let lower = plan.lower as usize;
+    let upper = plan.upper as usize;
+    write_certificate(
+        read.p,
+        read.n,
+        read.m,
         &starts[..n + 1],
         &cols[..count],
         &vals[..count],
-        factored.rank,
+        plan.ranks.rank,
         &ro[..n],
         &co[..m],
         &ls[..n + 1],
@@ -56,13 +57,13 @@ fn write_held(
         &uv[..upper],
         buffer,
         work,
-    );
-    written.outcome
+    )?;
+    Ok(())
 }
 
 // What comes of the stages: a refusal, which leaves the buffer all zero, or the certificate.
 pub fn make_staged(
-    s: Stages,
+    staged: Result<FactoredPlan, Stopped>,
     starts: &[u32],
     cols: &[u32],
     vals: &[u32],
@@ -76,23 +77,17 @@ pub fn make_staged(
     uv: &[u32],
     buffer: &mut [u8],
     work: &mut [u64],
-) -> Outcome
-    requires { StagedFits s (stored_at starts.now cols.now vals.now) (storage_at ro.now co.now ls.now lc.now lv.now us.now uc.now uv.now work.old) }
-    ensures { Puts (staged_outcome s (stored_before starts.now cols.now vals.now) (storage_before ro.now co.now ls.now lc.now lv.now us.now uc.now uv.now work.old) (length buffer.old)) (held_certificate s (storage_before ro.now co.now ls.now lc.now lv.now us.now uc.now uv.now work.old)) result buffer.old buffer.new }
+) -> Result<(), Refusal>
+    requires { StagedFits (stages_of staged) (stored_at starts.now cols.now vals.now) (storage_at ro.now co.now ls.now lc.now lv.now us.now uc.now uv.now work.old) }
+    ensures { Puts (staged_outcome (stages_of staged) (stored_before starts.now cols.now vals.now) (storage_before ro.now co.now ls.now lc.now lv.now us.now uc.now uv.now work.old) (length buffer.old)) (held_certificate (stages_of staged) (storage_before ro.now co.now ls.now lc.now lv.now us.now uc.now uv.now work.old)) (outcome_of result) buffer.old buffer.new }
 {
-    let read = s.reading;
-    let reading = read.outcome;
-    let Outcome::Passed = reading else {
-        clear_bytes(buffer);
-        return reading;
-    };
-    let factored = s.factored;
-    let factoring = factored.outcome;
-    let Outcome::Passed = factoring else {
-        clear_bytes(buffer);
-        return factoring;
-    };
-    write_held(
-        s, starts, cols, vals, ro, co, ls, lc, lv, us, uc, uv, buffer, work,
-    )
+    match staged {
+        Ok(plan) => write_held(
+            plan, starts, cols, vals, ro, co, ls, lc, lv, us, uc, uv, buffer, work,
+        ),
+        Err(stopped) => {
+            clear_bytes(buffer);
+            Err(stopped.into())
+        }
+    }
 }

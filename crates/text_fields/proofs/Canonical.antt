@@ -11,7 +11,7 @@ use lib.ListN.{length, get_or, length-append}
 use lib.Arith.{digits_div, digits_mod}
 use lib.Dec.{ltb, eqb}
 use borrow.Author.Tests.{lt-ltb, le-ltb, ltb-true, ltb-false, eqb-true, eqb-false}
-use Rattle.text_fields.specs.declared.numbers.Number.TheVariants.{Value, NotNumber}
+use Rattle.std.specs.Prelude.{Some, None}
 use Rattle.text_fields.specs.Number.{digits_from, number_in, zero_alone}
 use Rattle.text_fields.specs.Decimal.{decimal_in, decimal}
 use Rattle.text_fields.proofs.Values.{number-else}
@@ -97,25 +97,25 @@ record Printed (f : ℕ) (l : List ℕ) (n : ℕ) : Type 0 where
   below : n < 10 ^ f
   text : l ≡ decimal_in f n
 
-pub value_inj : {m n : ℕ} → Value m ≡ Value n → m ≡ n
-value_inj e = cc
+pub some_inj : {m n : ℕ} → Some m ≡ Some n → m ≡ n
+some_inj e = cc
 
-value_not : {n : ℕ} → NotNumber ≡ Value n → ⊥
-value_not e = let z : ◌≡◌ {A = ℕ} 0 1 = cc in omega arith
+some_not : {n : ℕ} → None ≡ Some n → ⊥
+some_not e = let z : ◌≡◌ {A = ℕ} 0 1 = cc in omega arith
 
-digit-out : (v b n : ℕ) (bs : List ℕ) → digits_from v (b ∷ bs) ≡ Value n → (48 ≤ b) × (b ≤ 57) × (digits_from (v * 10 + (b - 48)) bs ≡ Value n)
+digit-out : (v b n : ℕ) (bs : List ℕ) → digits_from v (b ∷ bs) ≡ Some n → (48 ≤ b) × (b ≤ 57) × (digits_from (v * 10 + (b - 48)) bs ≡ Some n)
 unfolding digits_from
 digit-out v b n bs e = go (ltb b 48) (ltb 57 b) refl refl e
   where
-    go : (t u : Bool) → ltb b 48 ≡ t → ltb 57 b ≡ u → cond t NotNumber (cond u NotNumber (digits_from (v * 10 + (b - 48)) bs)) ≡ Value n
-        → (48 ≤ b) × (b ≤ 57) × (digits_from (v * 10 + (b - 48)) bs ≡ Value n)
-    go true u p q x = absurd (value_not x)
-    go false true p q x = absurd (value_not x)
+    go : (t u : Bool) → ltb b 48 ≡ t → ltb 57 b ≡ u → cond t None (cond u None (digits_from (v * 10 + (b - 48)) bs)) ≡ Some n
+        → (48 ≤ b) × (b ≤ 57) × (digits_from (v * 10 + (b - 48)) bs ≡ Some n)
+    go true u p q x = absurd (some_not x)
+    go false true p q x = absurd (some_not x)
     go false false p q x = (ltb-false b 48 p, ltb-false 57 b q, x)
 
-digits-back : (bs : List ℕ) (f v n : ℕ) → 0 < v → v < 10 ^ f → digits_from v bs ≡ Value n → Printed (f + length bs) (decimal_in f v ++ bs) n
+digits-back : (bs : List ℕ) (f v n : ℕ) → 0 < v → v < 10 ^ f → digits_from v bs ≡ Some n → Printed (f + length bs) (decimal_in f v ++ bs) n
 unfolding digits_from
-digits-back [] f v n z h e = rw (add-zero, append-nil) (rw (← value_inj e) (record { below = h; text = refl }))
+digits-back [] f v n z h e = rw (add-zero, append-nil) (rw (← some_inj e) (record { below = h; text = refl }))
 digits-back (b ∷ bs) f v n z h e =
     let o = digit-out v b n bs e in
     let d : ℕ = b - 48 in
@@ -131,44 +131,44 @@ zero-text : (b n : ℕ) (bs : List ℕ) → b ≡ 48 → [] ≡ bs → 0 ≡ n �
 unfolding decimal
 zero-text b n bs e c z = rw (← z, ← c, e, decimal-one 9 0 (omega arith))
 
-digits-text : (b n : ℕ) (bs : List ℕ) → length bs ≤ 9 → (b ≡ 48 → ⊥) → digits_from 0 (b ∷ bs) ≡ Value n → (n < 10 ^ 10) × (b ∷ bs ≡ decimal n)
+digits-text : (b n : ℕ) (bs : List ℕ) → length bs ≤ 9 → (b ≡ 48 → ⊥) → digits_from 0 (b ∷ bs) ≡ Some n → (n < 10 ^ 10) × (b ∷ bs ≡ decimal n)
 unfolding decimal
 digits-text b n bs short q x =
     let o = digit-out 0 b n bs x in
     let d : ℕ = b - 48 in
     let small : d < 10 = omega (arith, o) in
-    let start : digits_from d bs ≡ Value n = rw (← zero-add d) o.2 in
+    let start : digits_from d bs ≡ Some n = rw (← zero-add d) o.2 in
     let p = digits-back bs 1 d n (omega (arith, o)) small start in
     let same : decimal_in 1 d ++ bs ≡ b ∷ bs = rw (decimal-one 0 d small) (ap (λ (k : ℕ). k ∷ bs) (omega (arith, o))) in
     let wide : decimal_in 10 n ≡ decimal_in (suc (length bs)) n = decimal-room (length bs) 9 n (rw (← one-add (length bs)) p.below) short in
     let more : 10 ^ suc (length bs) ≤ 10 ^ 10 = pow-le-pow_right {n = 10} (omega arith) (suc-le-suc short) in
     (lt_of_lt_of_le (rw (← one-add (length bs)) p.below) more, sym same ∙ p.text ∙ ap (λ (k : ℕ). decimal_in k n) (one-add (length bs)) ∙ sym wide)
 
-pub number-prints : (l : List ℕ) (n : ℕ) → number_in l ≡ Value n → (n < 10 ^ 10) × (l ≡ decimal n)
+pub number-prints : (l : List ℕ) (n : ℕ) → number_in l ≡ Some n → (n < 10 ^ 10) × (l ≡ decimal n)
 unfolding number_in
-number-prints [] n e = absurd (value_not e)
+number-prints [] n e = absurd (some_not e)
 number-prints (b ∷ bs) n e = go (ltb 10 (suc (length bs))) (eqb b 48) bs refl refl refl e
   where
-    go : (t u : Bool) (cs : List ℕ) → cs ≡ bs → ltb 10 (suc (length bs)) ≡ t → eqb b 48 ≡ u → cond t NotNumber (cond u (zero_alone cs) (digits_from 0 (b ∷ bs))) ≡ Value n
+    go : (t u : Bool) (cs : List ℕ) → cs ≡ bs → ltb 10 (suc (length bs)) ≡ t → eqb b 48 ≡ u → cond t None (cond u (zero_alone cs) (digits_from 0 (b ∷ bs))) ≡ Some n
         → (n < 10 ^ 10) × (b ∷ bs ≡ decimal n)
-    go true u cs c p q x = absurd (value_not x)
-    go false true [] c p q x = (omega (arith, value_inj x), zero-text b n bs (eqb-true b 48 q) c (value_inj x))
-    go false true (k ∷ ks) c p q x = absurd (value_not x)
+    go true u cs c p q x = absurd (some_not x)
+    go false true [] c p q x = (omega (arith, some_inj x), zero-text b n bs (eqb-true b 48 q) c (some_inj x))
+    go false true (k ∷ ks) c p q x = absurd (some_not x)
     go false false cs c p q x = digits-text b n bs (omega (arith, ltb-false 10 (suc (length bs)) p)) (eqb-false b 48 q) x
 
 -- and the printed ones are accepted
-number-not-zero : (n : ℕ) → 0 < n → n < 10 ^ 10 → number_in (decimal_in 10 n) ≡ Value n
+number-not-zero : (n : ℕ) → 0 < n → n < 10 ^ 10 → number_in (decimal_in 10 n) ≡ Some n
 unfolding digits_from
 number-not-zero n z h =
     let head : 48 < get_or (decimal_in 10 n) 0 0 = head_of 9 n z h in
-    let whole : digits_from 0 (decimal_in 10 n) ≡ Value n = ap (λ (l : List ℕ). digits_from 0 l) (sym (append-nil (decimal_in 10 n))) ∙ digits_of 9 n [] h in
+    let whole : digits_from 0 (decimal_in 10 n) ≡ Some n = ap (λ (l : List ℕ). digits_from 0 l) (sym (append-nil (decimal_in 10 n))) ∙ digits_of 9 n [] h in
     number-else (decimal_in 10 n) (λ e. long (decimal_in 10 n) e head) (decimal-length 10 n) (λ e. omega arith) ∙ whole
   where
     long : (l : List ℕ) → length l ≡ 0 → 48 < get_or l 0 0 → ⊥
     long [] e k = omega arith
     long (x ∷ xs) e k = omega arith
 
-pub number-printed : (n : ℕ) → n < 10 ^ 10 → number_in (decimal n) ≡ Value n
+pub number-printed : (n : ℕ) → n < 10 ^ 10 → number_in (decimal n) ≡ Some n
 unfolding number_in decimal decimal_in
 number-printed zero h = refl
 number-printed (suc n) h = number-not-zero (suc n) (zero-lt-suc n) h

@@ -4,12 +4,15 @@ use mathlib.Core.List.{List, [], ◌∷◌}
 use mathlib.Core.Bool.{Bool, true, false, cond}
 use Prim.Native.Nat.{ℕ, suc, ◌+◌, ◌≤◌, ◌<◌, zero-le, suc-le-suc}
 use native.Mathlib.Nat.{le_of_suc-le-suc, not-suc-le-zero, le_refl, suc_inj}
-use native.Mathlib.Numerals.{add-one}
+use native.Mathlib.Numerals.{add-one, one-add}
 use native.Mathlib.Omega.{arith}
 use lib.ListN.{length, get_or, take, drop, length-drop}
 use lib.Seq.{drop-cons, drop-length, drop-drop}
-use lib.Dec.{eqb}
-use borrow.Author.Tests.{eq-eqb, ne_eqb}
+use lib.Dec.{eqb, ltb}
+use borrow.Author.Tests.{eq-eqb, ne_eqb, ltb-false}
+use Rattle.std.specs.Prelude.{unwrap_or, Some, None}
+use Rattle.std.specs.List.{position, position_or_len}
+use Rattle.std.proofs.lemmas.List.Recursion.{is_position_or_len}
 use Rattle.text_fields.specs.Pieces.{Pieces, last, more, prepend, pieces, first_piece}
 
 pub pieces-hit : (s b : ℕ) (bs : List ℕ) → b ≡ s → pieces s (b ∷ bs) ≡ more [] (pieces s bs)
@@ -45,6 +48,23 @@ pub first-le : (s : ℕ) (l : List ℕ) → length (first_piece (pieces s l)) �
 unfolding pieces
 first-le s [] = le_refl 0
 first-le s (b ∷ bs) = step-le b (length bs) (pieces s bs) (eqb b s) (first-le s bs)
+
+-- its length: how many bytes precede the first separator
+first-long : (s : ℕ) (l : List ℕ) → length (first_piece (pieces s l)) ≡ position_or_len (λ b. eqb b s) l
+unfolding pieces
+first-long s l = is_position_or_len (λ r. length (first_piece (pieces s r))) (λ b. eqb b s) refl (λ b bs. step b (pieces s bs) (eqb b s)) l
+  where
+    step : (b : ℕ) (p : Pieces) (t : Bool) → length (first_piece (cond t (more [] p) (prepend b p))) ≡ cond t 0 (1 + length (first_piece p))
+    step b p true = refl
+    step b (last r) false = sym (one-add (length r))
+    step b (more r q) false = sym (one-add (length r))
+
+pub first-found : (s : ℕ) (l : List ℕ) → unwrap_or (position (λ b. eqb b s) l) (length l) ≡ length (first_piece (pieces s l))
+first-found s l = rw (first-long s l) (go (ltb (position_or_len (λ b. eqb b s) l) (length l)) refl)
+  where
+    go : (t : Bool) → ltb (position_or_len (λ b. eqb b s) l) (length l) ≡ t → unwrap_or (cond t (Some (position_or_len (λ b. eqb b s) l)) None) (length l) ≡ position_or_len (λ b. eqb b s) l
+    go true e = refl
+    go false e = omega (arith, ltb-false (position_or_len (λ b. eqb b s) l) (length l) e, first-long s l, first-le s l)
 
 step-prefix : (b : ℕ) (bs : List ℕ) (p : Pieces) (t : Bool) → take (length (first_piece p)) bs ≡ first_piece p
     → take (length (first_piece (cond t (more [] p) (prepend b p)))) (b ∷ bs) ≡ first_piece (cond t (more [] p) (prepend b p))

@@ -9,7 +9,7 @@ use borrow.Author.Tests.{eqb-true}
 use Rattle.text_fields.specs.Pieces.{Pieces, last, more, prepend, pieces, joined}
 use Rattle.text_fields.specs.Decimal.{decimal_in, decimal, signed_text}
 use Rattle.text_fields.specs.declared.numbers.Signed.{Signed}
-use Rattle.text_fields.specs.declared.numbers.Signed.TheVariants.{Plus, Minus, NotSigned}
+use Rattle.text_fields.specs.declared.numbers.Signed.TheVariants.{Plus, Minus}
 use Rattle.text_fields.proofs.Cuts.{pieces-hit, pieces-miss}
 
 -- no byte of l is s
@@ -38,7 +38,6 @@ pub free-signed : (s : ℕ) (v : Signed) → s < 45 → Free s (signed_text v)
 unfolding signed_text
 free-signed s (Plus n) h = free-decimal s n (omega arith)
 free-signed s (Minus n) h = ((λ e. omega arith), free-decimal s n (omega arith))
-free-signed s NotSigned h = tt
 
 pub pieces-free : (s : ℕ) (l : List ℕ) → Free s l → pieces s l ≡ last l
 unfolding pieces

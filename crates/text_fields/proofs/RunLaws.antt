@@ -3,16 +3,14 @@ use mathlib.Core.Path.{◌≡◌, refl, sym, ap, ◌∙◌}
 use mathlib.Core.List.{List, [], ◌∷◌}
 use mathlib.Core.Bool.{Bool, true, false, cond}
 use Prim.Native.Nat.{ℕ, suc, ◌+◌, ◌-◌, ◌*◌, ◌^◌, ◌≤◌, ◌<◌}
-use native.Mathlib.Nat.{add-zero, sub_self}
+use native.Mathlib.Nat.{add-zero}
 use native.Mathlib.Numerals.{add-one}
 use native.Mathlib.Decide.{ℕ_discrete}
 use native.Mathlib.Omega.{arith}
 use lib.ListN.{length, get_or, drop}
 use lib.Seq.{drop-cons, get_or-take, get_or-drop}
-use Rattle.text_fields.specs.declared.numbers.Number.{Number}
-use Rattle.text_fields.specs.declared.numbers.Number.TheVariants.{Value, NotNumber}
+use Rattle.std.specs.Prelude.{Option, Some, None}
 use Rattle.text_fields.specs.declared.runs.Field.{Field}
-use Rattle.text_fields.specs.declared.runs.Field.TheVariants as field
 use Rattle.text_fields.specs.Pieces.{pieces}
 use Rattle.text_fields.specs.Scan.{piece_from, size_from}
 use Rattle.text_fields.specs.Number.{digits_from, number_in}
@@ -55,9 +53,6 @@ pub record Reading (l : List ℕ) (from v e : ℕ) : Type 0 where
   pub says : (s : ℕ) → s < 48 → digits_from 0 (piece_from s l from) ≡ digits_from v (piece_from s l e)
 
 module _ (l : List ℕ) (from : ℕ) where
-  pub reading-starts : Reading l from 0 from
-  reading-starts = record { least = omega arith; small = rw (sub_self from) (omega arith); long = λ s h. omega arith; says = λ s h. refl }
-
   pub reading-digit : (v e : ℕ) → Reading l from v e → e < length l → Digit (get_or l e 0) → Reading l from (v * 10 + (get_or l e 0 - 48)) (e + 1)
   reading-digit v e r h d =
       record {
@@ -72,21 +67,17 @@ module _ (l : List ℕ) (from : ℕ) where
       step : (s : ℕ) → s < 48 → piece_from s l e ≡ get_or l e 0 ∷ piece_from s l (e + 1)
       step s g = piece-step s l e h (λ q. omega arith)
 
-  pub reading-ends : (v e : ℕ) → Reading l from v e → e ≤ length l → e ≤ from + 10 → (e < length l → e < from + 10 → ¬ (Digit (get_or l e 0))) → DigitRun l from v e
-  reading-ends v e r i m stops =
-      record { least = r.least; inside = i; most = m; stops = stops; long = r.long; says = r.says }
-
 -- ---- the field that a run of digits starts
 
 module _ (s : ℕ) (small : s < 48) (l : List ℕ) (from v e : ℕ) (d : DigitRun l from v e) where
   -- it does not end with the digits: another byte follows, or an eleventh digit
-  other-number : ¬ (size_from s l e ≡ 0) → number_in (piece_from s l from) ≡ NotNumber
+  other-number : ¬ (size_from s l e ≡ 0) → number_in (piece_from s l from) ≡ None
   other-number z = go (ℕ_discrete e (from + 10))
     where
       at : (e < length l) × ¬ (get_or l e 0 ≡ s)
       at = piece_inside s l e d.inside z
 
-      go : Dec (e ≡ from + 10) → number_in (piece_from s l from) ≡ NotNumber
+      go : Dec (e ≡ from + 10) → number_in (piece_from s l from) ≡ None
       go (yes q) = number-long (piece_from s l from) (omega (arith, d.long s small, z))
       go (no q) =
           number-other (piece_from s l from)
@@ -94,8 +85,8 @@ module _ (s : ℕ) (small : s < 48) (l : List ℕ) (from v e : ℕ) (d : DigitRu
           ∙ ap (digits_from v) (piece-step s l e at.0 at.1)
           ∙ digits-other v (get_or l e 0) (piece_from s l (e + 1)) (d.stops at.0 (omega (arith, d.most))))
 
-  pub field-other : ¬ (size_from s l e ≡ 0) → field.NotNumber ≡ field_at s l from
-  field-other z = sym (ap (λ (n : Number). field_of n (from + size_from s l from)) (other-number z))
+  pub field-other : ¬ (size_from s l e ≡ 0) → None ≡ field_at s l from
+  field-other z = sym (ap (λ (n : Option ℕ). field_of n (from + size_from s l from)) (other-number z))
 
   -- it ends with them
   module _ (z : size_from s l e ≡ 0) where
@@ -112,48 +103,48 @@ module _ (s : ℕ) (small : s < 48) (l : List ℕ) (from v e : ℕ) (d : DigitRu
         go (yes q) = rw q
         go (no q) = ap (λ (b : ℕ). well_written b (e - from)) (piece-head s l from (omega (arith, size)))
 
-    number : number_in (piece_from s l from) ≡ cond (well_written (get_or l from 0) (e - from)) (Value v) NotNumber
+    number : number_in (piece_from s l from) ≡ cond (well_written (get_or l from 0) (e - from)) (Some v) None
     unfolding digits_from
     number =
         number-form (piece_from s l from) (omega (arith, size, d.most))
-        ∙ (λ k. cond (written_same k) ((d.says s small ∙ ap (digits_from v) (empty (piece_from s l e) z)) k) NotNumber)
+        ∙ (λ k. cond (written_same k) ((d.says s small ∙ ap (digits_from v) (empty (piece_from s l e) z)) k) None)
 
-    pub field-ends : (t : Bool) → t ≡ well_written (get_or l from 0) (e - from) → cond t (field.Value v e) field.NotNumber ≡ field_at s l from
-    field-ends t q = sym ((λ k. field_of (number k) (end k)) ∙ ap (λ (w : Bool). field_of (cond w (Value v) NotNumber) e) (sym q) ∙ go t)
+    pub field-ends : (t : Bool) → t ≡ well_written (get_or l from 0) (e - from) → cond t (Some (record { n = v; end = e })) None ≡ field_at s l from
+    field-ends t q = sym ((λ k. field_of (number k) (end k)) ∙ ap (λ (w : Bool). field_of (cond w (Some v) None) e) (sym q) ∙ go t)
       where
-        go : (w : Bool) → field_of (cond w (Value v) NotNumber) e ≡ cond w (field.Value v e) field.NotNumber
+        go : (w : Bool) → field_of (cond w (Some v) None) e ≡ cond w (Some (record { n = v; end = e })) None
         go true = refl
         go false = refl
 
 -- ---- what `field_from` says, for a caller: the number of the field from a place on, and its end
 
 pub record Said (s : ℕ) (l : List ℕ) (from n e : ℕ) : Type 0 where
-  pub number : number_in (piece_from s l from) ≡ Value n
+  pub number : number_in (piece_from s l from) ≡ Some n
   pub end : from + size_from s l from ≡ e
 
-abbrev number_of : Field → Number
-number_of (field.Value n e) = Value n
-number_of field.NotNumber = NotNumber
+abbrev number_of : Option Field → Option ℕ
+number_of (Some f) = Some f.n
+number_of None = None
 
-abbrev end_of : ℕ → Field → ℕ
-end_of k (field.Value n e) = e
-end_of k field.NotNumber = k
+abbrev end_of : ℕ → Option Field → ℕ
+end_of k (Some f) = f.end
+end_of k None = k
 
-number-of : (x : Number) (k : ℕ) → x ≡ number_of (field_of x k)
-number-of (Value n) k = refl
-number-of NotNumber k = refl
+number-of : (x : Option ℕ) (k : ℕ) → x ≡ number_of (field_of x k)
+number-of (Some n) k = refl
+number-of None k = refl
 
-end-of : (x : Number) (k : ℕ) → k ≡ end_of k (field_of x k)
-end-of (Value n) k = refl
-end-of NotNumber k = refl
+end-of : (x : Option ℕ) (k : ℕ) → k ≡ end_of k (field_of x k)
+end-of (Some n) k = refl
+end-of None k = refl
 
 module _ (s : ℕ) (l : List ℕ) (from : ℕ) where
-  pub field-said : (n e : ℕ) → field_at s l from ≡ field.Value n e → Said s l from n e
-  field-said n e q =
+  pub field-said : (f : Field) → field_at s l from ≡ Some f → Said s l from f.n f.end
+  field-said f q =
       record {
         number = number-of (number_in (piece_from s l from)) (from + size_from s l from) ∙ ap number_of q;
         end = end-of (number_in (piece_from s l from)) (from + size_from s l from) ∙ ap (end_of (from + size_from s l from)) q;
       }
 
-  pub field-unsaid : field_at s l from ≡ field.NotNumber → number_in (piece_from s l from) ≡ NotNumber
+  pub field-unsaid : field_at s l from ≡ None → number_in (piece_from s l from) ≡ None
   field-unsaid q = number-of (number_in (piece_from s l from)) (from + size_from s l from) ∙ ap number_of q

@@ -5,7 +5,7 @@
 --   Proper v          v has a text: a minus stands before no 0
 use Rattle.std.specs.Prelude.{ℕ, zero, suc, ◌+◌, ◌/◌, ◌%◌, ◌<◌, List, [], ◌∷◌, ◌++◌, cond, ltb}
 use Rattle.text_fields.specs.declared.numbers.Signed.{Signed}
-use Rattle.text_fields.specs.declared.numbers.Signed.TheVariants.{Plus, Minus, NotSigned}
+use Rattle.text_fields.specs.declared.numbers.Signed.TheVariants.{Plus, Minus}
 
 unfoldable pub decimal_in : ℕ → ℕ → List ℕ
 decimal_in zero n = []
@@ -17,9 +17,7 @@ decimal n = decimal_in 10 n
 unfoldable pub signed_text : Signed → List ℕ
 signed_text (Plus n) = decimal n
 signed_text (Minus n) = 45 ∷ decimal n
-signed_text NotSigned = []
 
 abbrev pub Proper : Signed → Type 0
 Proper (Plus n) = Unit {0}
 Proper (Minus n) = 0 < n
-Proper NotSigned = ⊥

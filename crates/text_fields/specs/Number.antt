@@ -7,43 +7,39 @@
 --   signed_of l        the number with a sign: a minus, or none, before a number
 --   is_negative v      v has a minus
 --   magnitude v       v without its sign
-use Rattle.std.specs.Prelude.{ℕ, ◌+◌, ◌-◌, ◌*◌, List, [], ◌∷◌, Bool, true, false, cond, length, eqb, ltb}
-use Rattle.text_fields.specs.declared.numbers.Number.{Number}
-use Rattle.text_fields.specs.declared.numbers.Number.TheVariants.{Value, NotNumber}
+use Rattle.std.specs.Prelude.{ℕ, ◌+◌, ◌-◌, ◌*◌, List, [], ◌∷◌, Bool, true, false, cond, length, eqb, ltb, Option, Some, None}
 use Rattle.text_fields.specs.declared.numbers.Signed.{Signed}
-use Rattle.text_fields.specs.declared.numbers.Signed.TheVariants.{Plus, Minus, NotSigned}
+use Rattle.text_fields.specs.declared.numbers.Signed.TheVariants.{Plus, Minus}
 
-unfoldable pub digits_from : ℕ → List ℕ → Number
-digits_from v [] = Value v
-digits_from v (b ∷ bs) = let r = digits_from (v * 10 + (b - 48)) bs in cond (ltb b 48) NotNumber (cond (ltb 57 b) NotNumber r)
+unfoldable pub digits_from : ℕ → List ℕ → Option ℕ
+digits_from v [] = Some v
+digits_from v (b ∷ bs) = let r = digits_from (v * 10 + (b - 48)) bs in cond (ltb b 48) None (cond (ltb 57 b) None r)
 
 -- a zero stands alone
-abbrev pub zero_alone : List ℕ → Number
-zero_alone [] = Value 0
-zero_alone (c ∷ cs) = NotNumber
+abbrev pub zero_alone : List ℕ → Option ℕ
+zero_alone [] = Some 0
+zero_alone (c ∷ cs) = None
 
-unfoldable pub number_in : List ℕ → Number
-number_in [] = NotNumber
-number_in (b ∷ bs) = cond (ltb 10 (length (b ∷ bs))) NotNumber (cond (eqb b 48) (zero_alone bs) (digits_from 0 (b ∷ bs)))
+unfoldable pub number_in : List ℕ → Option ℕ
+number_in [] = None
+number_in (b ∷ bs) = cond (ltb 10 (length (b ∷ bs))) None (cond (eqb b 48) (zero_alone bs) (digits_from 0 (b ∷ bs)))
 
-abbrev pub positive : Number → Signed
-positive (Value n) = Plus n
-positive NotNumber = NotSigned
+abbrev pub positive : Option ℕ → Option Signed
+positive (Some n) = Some (Plus n)
+positive None = None
 
-abbrev pub negative : Number → Signed
-negative (Value n) = cond (eqb n 0) NotSigned (Minus n)
-negative NotNumber = NotSigned
+abbrev pub negative : Option ℕ → Option Signed
+negative (Some n) = cond (eqb n 0) None (Some (Minus n))
+negative None = None
 
-unfoldable pub signed_of : List ℕ → Signed
-signed_of [] = NotSigned
+unfoldable pub signed_of : List ℕ → Option Signed
+signed_of [] = None
 signed_of (b ∷ bs) = cond (eqb b 45) (negative (number_in bs)) (positive (number_in (b ∷ bs)))
 
 abbrev pub is_negative : Signed → Bool
 is_negative (Plus n) = false
 is_negative (Minus n) = true
-is_negative NotSigned = false
 
 abbrev pub magnitude : Signed → ℕ
 magnitude (Plus n) = n
 magnitude (Minus n) = n
-magnitude NotSigned = 0

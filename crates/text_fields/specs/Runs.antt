@@ -6,19 +6,16 @@
 --   Digit b             the byte b is a digit
 --   DigitRun l from v e the digits of l from a place on, ten at most, say v and end at e: whatever separates fields and is no
 --                       digit, the piece from there on is those digits and the piece from e on
-use Rattle.std.specs.Prelude.{ℕ, ◌+◌, ◌-◌, ◌≤◌, ◌<◌, ◌≡◌, List, Bool, ◌&&◌, ◌||◌, not, length, get_or, eqb}
+use Rattle.std.specs.Prelude.{ℕ, ◌+◌, ◌-◌, ◌≤◌, ◌<◌, ◌≡◌, List, Bool, ◌&&◌, ◌||◌, not, length, get_or, eqb, Option, Some, None}
 use Rattle.text_fields.specs.Scan.{piece_from, size_from}
 use Rattle.text_fields.specs.Number.{digits_from, number_in}
-use Rattle.text_fields.specs.declared.numbers.Number.{Number}
-use Rattle.text_fields.specs.declared.numbers.Number.TheVariants.{Value, NotNumber}
 use Rattle.text_fields.specs.declared.runs.Field.{Field}
-use Rattle.text_fields.specs.declared.runs.Field.TheVariants as field
 
-abbrev pub field_of : Number → ℕ → Field
-field_of (Value n) end = field.Value n end
-field_of NotNumber end = field.NotNumber
+abbrev pub field_of : Option ℕ → ℕ → Option Field
+field_of (Some n) end = Some (record { n = n; end = end })
+field_of None end = None
 
-abbrev pub field_at : ℕ → List ℕ → ℕ → Field
+abbrev pub field_at : ℕ → List ℕ → ℕ → Option Field
 field_at s l from = field_of (number_in (piece_from s l from)) (from + size_from s l from)
 
 pub record Limit (size from r : ℕ) : Type 0 where

@@ -1,111 +1,58 @@
 // The numbers that fields say: decimal, one to ten digits, no leading zero, a minus only before a number other than 0.
 ghost use Rattle.std.specs.Prelude.{◌≡◌, ◌≤◌, length};
-ghost use Rattle.text_fields.specs.Number.{digits_from, number_in, signed_of, positive, negative};
+ghost use Rattle.text_fields.specs.Number.{digits_from, number_in, signed_of};
 
-// The bytes of the digits `0` and `9`, and of the minus.
-pub const ZERO: u8 = 48;
+// The bytes of the digit `0` and of the minus.
+pub const ZERO: u8 = b'0';
 
-pub const NINE: u8 = 57;
+const MINUS: u8 = b'-';
 
-const MINUS: u8 = 45;
-
-// A field as a number without sign.
-#[derive(Clone, Copy)]
-pub enum Number {
-    Value(u64),
-    NotNumber,
-}
-
-// A field as a number with a sign: `Minus(n)` is -n, and n is not 0.
-#[derive(Clone, Copy)]
+// A number with a sign: `Minus(n)` is -n, and n is not 0.
+#[derive(Clone, Copy, Debug, PartialEq, Eq)]
 pub enum Signed {
     Plus(u64),
     Minus(u64),
-    NotSigned,
-}
-
-// A byte as a number of the width that values have.
-pub fn wide(x: u8) -> u64
-    ensures { result ≡ x }
-{
-    x as u64
 }
 
 // The number that at most ten digits say.
-fn digits(field: &[u8]) -> Number
+fn digits(field: &[u8]) -> Option<u64>
     requires { length field.now ≤ 10 }
     ensures { result ≡ digits_from 0 field.now }
 {
     let mut v: u64 = 0;
-    let mut k = 0;
-    while k < field.len() {
-        let b = field[k];
-        if b < ZERO {
-            return Number::NotNumber;
+    for b in field {
+        if !b.is_ascii_digit() {
+            return None;
         }
-        if NINE < b {
-            return Number::NotNumber;
-        }
-        v = v * 10 + wide(b - ZERO);
-        k += 1;
+        v = v * 10 + u64::from(*b - ZERO);
     }
-    Number::Value(v)
+    Some(v)
 }
 
 // The number that a field says.
-pub fn number_of(field: &[u8]) -> Number
+pub fn number_of(field: &[u8]) -> Option<u64>
     ensures { result ≡ number_in field.now }
 {
     let n = field.len();
-    if n == 0 {
-        return Number::NotNumber;
+    if n == 0 || 10 < n {
+        return None;
     }
-    if 10 < n {
-        return Number::NotNumber;
+    if field[0] != ZERO {
+        return digits(field);
     }
-    if field[0] == ZERO {
-        if n == 1 {
-            return Number::Value(0);
-        }
-        return Number::NotNumber;
-    }
-    digits(field)
-}
-
-fn with_plus(n: Number) -> Signed
-    ensures { result ≡ positive n }
-{
-    match n {
-        Number::Value(v) => Signed::Plus(v),
-        Number::NotNumber => Signed::NotSigned,
-    }
-}
-
-fn with_minus(n: Number) -> Signed
-    ensures { result ≡ negative n }
-{
-    match n {
-        Number::Value(v) => {
-            if v == 0 {
-                Signed::NotSigned
-            } else {
-                Signed::Minus(v)
-            }
-        }
-        Number::NotNumber => Signed::NotSigned,
-    }
+    if n == 1 { Some(0) } else { None }
 }
 
 // The number with a sign that a field says.
-pub fn signed_of(field: &[u8]) -> Signed
+pub fn signed_of(field: &[u8]) -> Option<Signed>
     ensures { result ≡ signed_of field.now }
 {
-    if field.len() == 0 {
-        return Signed::NotSigned;
+    if field.is_empty() {
+        return None;
     }
-    if field[0] == MINUS {
-        with_minus(number_of(&field[1..]))
-    } else {
-        with_plus(number_of(field))
+    if field[0] != MINUS {
+        return Some(Signed::Plus(number_of(field)?));
     }
+    let n = number_of(&field[1..])?;
+    if n == 0 { None } else { Some(Signed::Minus(n)) }
 }

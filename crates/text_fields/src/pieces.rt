@@ -1,5 +1,6 @@
 // The pieces of a text between separator bytes.
-ghost use Rattle.std.specs.Prelude.{◌≡◌, ◌+◌, ◌≤◌, length, drop};
+ghost use Rattle.std.specs.Prelude.{◌≡◌, ◌+◌, ◌≤◌, ◌==◌, length, drop};
+ghost use Rattle.std.specs.List.{position};
 ghost use Rattle.text_fields.specs.Pieces.{pieces, first_piece};
 ghost use Rattle.text_fields.specs.Scan.{OfEight};
 
@@ -35,19 +36,20 @@ fn before_of_eight(text: &[u8], j: usize, separator: u8) -> usize
     8
 }
 
+// Where the first separator of a text stands.
+fn first_separator(text: &[u8], separator: u8) -> Option<usize>
+    ensures { result ≡ position (λ b. b == separator) text.now }
+{
+    text.iter().position(|b| *b == separator)
+}
+
 // Where the piece that starts at `at` ends: at the next separator, or at the text's end; byte by byte.
 fn end_by_one(text: &[u8], at: usize, separator: u8) -> usize
     requires { at ≤ length text.now }
     ensures { result ≡ at + length (first_piece (pieces separator (drop at text.now))) }
 {
-    let mut e = at;
-    while e < text.len() {
-        if text[e] == separator {
-            return e;
-        }
-        e += 1;
-    }
-    e
+    let rest = &text[at..];
+    at + first_separator(rest, separator).unwrap_or(rest.len())
 }
 
 // The same; byte by byte only where fewer than eight are left.
@@ -56,6 +58,7 @@ pub fn piece_end(text: &[u8], at: usize, separator: u8) -> usize
     ensures { result ≡ at + length (first_piece (pieces separator (drop at text.now))) }
 {
     let mut e = at;
+    // A while: it goes on by eight bytes, and the last few are gone through one by one.
     while 8 <= text.len() - e {
         let run = before_of_eight(text, e, separator);
         e += run;

@@ -3,20 +3,20 @@ ghost use Rattle.std.specs.Prelude.{◌≡◌, ◌-◌, ◌≤◌, ◌<◌, leng
 ghost use Rattle.text_fields.specs.Scan.{size_from};
 ghost use Rattle.text_fields.specs.Runs.{Limit, DigitRun, well_written, field_at};
 
-use crate::numbers::{NINE, ZERO, wide};
+use crate::numbers::ZERO;
 
 // A run of digits: the number that they say, and the place after them.
-#[derive(Clone, Copy)]
+#[derive(Clone, Copy, Debug, PartialEq, Eq)]
 pub struct Run {
     pub value: u64,
     pub end: usize,
 }
 
-// A field as a number without sign, and the place after it.
-#[derive(Clone, Copy)]
-pub enum Field {
-    Value { n: u64, end: usize },
-    NotNumber,
+// A field that is a number without sign, and the place after it.
+#[derive(Clone, Copy, Debug, PartialEq, Eq)]
+pub struct Field {
+    pub n: u64,
+    pub end: usize,
 }
 
 // Where a run that starts at `from` ends at the latest: after ten digits, or at the line's end.
@@ -37,19 +37,14 @@ fn digit_run(line: &[u8], from: usize) -> Run
 {
     let stop = run_limit(line.len(), from);
     let mut value: u64 = 0;
-    let mut end = from;
-    while end < stop {
+    for end in from..stop {
         let b = line[end];
-        if b < ZERO {
+        if !b.is_ascii_digit() {
             return Run { value, end };
         }
-        if NINE < b {
-            return Run { value, end };
-        }
-        value = value * 10 + wide(b - ZERO);
-        end += 1;
+        value = value * 10 + u64::from(b - ZERO);
     }
-    Run { value, end }
+    Run { value, end: stop }
 }
 
 // Whether a field ends at a place, a separator or the line's end: the piece from there on is empty.
@@ -78,19 +73,16 @@ fn well_written(line: &[u8], from: usize, end: usize) -> bool
 }
 
 // The number that the field from `from` on says.
-pub fn field_from(line: &[u8], from: usize, separator: u8) -> Field
+pub fn field_from(line: &[u8], from: usize, separator: u8) -> Option<Field>
     requires { (from ≤ length line.now) × (separator < 48) }
     ensures { result ≡ field_at separator line.now from }
 {
     let run = digit_run(line, from);
-    if !ends_here(line, run.end, separator) {
-        return Field::NotNumber;
+    if !ends_here(line, run.end, separator) || !well_written(line, from, run.end) {
+        return None;
     }
-    if !well_written(line, from, run.end) {
-        return Field::NotNumber;
-    }
-    Field::Value {
+    Some(Field {
         n: run.value,
         end: run.end,
-    }
+    })
 }

@@ -10,7 +10,7 @@ use Rattle.text_fields.specs.Pieces.{Pieces, more, pieces, first_piece}
 use Rattle.text_fields.proofs.Cuts.{first-prefix, piece-end, piece-last, piece-more}
 use Rattle.text_judge.specs.Line.{three, not_three, fields_of}
 use Rattle.text_judge.specs.Spaces.{fields_at}
-use Rattle.text_judge.specs.declared.header.Spaces.TheVariants.{At}
+use Rattle.std.specs.Prelude.{Some}
 
 -- a piece is the part of the line that it covers
 piece-part : (l r : List ℕ) (at : ℕ) → r ≡ first_piece (pieces 32 (drop at l)) → take (length r) (drop at l) ≡ r
@@ -59,7 +59,7 @@ module _ (l a : List ℕ) (ea : a ≡ first_piece (pieces 32 (drop 0 l))) where
           sym (piece-part l b (length a + 1) eb)
           ∙ ap (λ (k : ℕ). take k (drop (length a + 1) l)) (sym (add-sub_cancel_left (length a + 1) (length b)))
 
-      pub two-spaces : length l ≤ third + length c → fields_of (pieces 32 l) ≡ fields_at l (At (length a) (length a + 1 + length b))
+      pub two-spaces : length l ≤ third + length c → fields_of (pieces 32 l) ≡ fields_at l (Some (record { first = length a; second = length a + 1 + length b }))
       unfolding fields_of
       two-spaces h =
           ap fields_of (two-cut ∙ ap (λ (t : Pieces). more a (more b t)) (piece-last 32 l c third hb ec (omega (arith, third-end))))

@@ -7,17 +7,17 @@ use lib.Dec.{eqb, leb, ltb}
 use borrow.Author.Tests.{eqb-true, leb-true, ltb-true}
 use Rattle.lists.proofs.Bools.{and_left, and_right}
 use Rattle.text_fields.specs.declared.numbers.Signed.{Signed}
-use Rattle.text_fields.specs.declared.numbers.Signed.TheVariants.{Plus, Minus, NotSigned}
-use Rattle.text_judge.specs.declared.line.Line.{Line}
-use Rattle.text_judge.specs.declared.line.Line.TheVariants.{Triple, NotTriple}
+use Rattle.text_fields.specs.declared.numbers.Signed.TheVariants.{Plus, Minus}
+use Rattle.std.specs.Prelude.{Option, Some, None}
+use Rattle.text_judge.specs.Line.{with_signed}
+use Rattle.text_judge.specs.declared.line.Triple.{Triple}
 use Rattle.text_judge.specs.declared.judge.Sizes.{Sizes}
-use Rattle.text_judge.specs.declared.judge.Verdict.TheVariants.{Refused, Last, Entry}
-use Rattle.text_judge.specs.Judge.{judge_line, residue_at, in_range, is_last, is_zero, within, precedes}
+use Rattle.text_judge.specs.Judge.{Refused, Last, Entry, judge_line, residue_at, in_range, is_last, is_zero, within, precedes}
 
 -- the line of an entry: its fields, each test passed
-pub record IsEntry (stands full : Bool) (s : Sizes) (l : Line) (i j v : ℕ) : Type 0 where
+pub record IsEntry (stands full : Bool) (s : Sizes) (l : Option Triple) (i j v : ℕ) : Type 0 where
   pub sign : Signed
-  pub line : l ≡ Triple i j sign
+  pub line : l ≡ with_signed i j (Some sign)
   pub row_inside : within i s.n ≡ true
   pub column-inside : within j s.m ≡ true
   pub order : stands ≡ true
@@ -40,30 +40,30 @@ entry-last e = let z : ◌≡◌ {A = ℕ} 0 1 = cc in absurd (omega arith)
 false-true : {A : Type 0} → false ≡ true → A
 false-true e = let z : ◌≡◌ {A = ℕ} 0 1 = cc in absurd (omega arith)
 
-pub judged-entry : (stands full : Bool) (s : Sizes) (l : Line) (i j v : ℕ) → judge_line stands full s l ≡ Entry i j v → IsEntry stands full s l i j v
+pub judged-entry : (stands full : Bool) (s : Sizes) (l : Option Triple) (i j v : ℕ) → judge_line stands full s l ≡ Entry i j v → IsEntry stands full s l i j v
 unfolding judge_line
-judged-entry stands full s NotTriple i j v e = refused-entry e
-judged-entry stands full s (Triple a b w) i j v e =
-    go (is_last a b w) (within a s.n && within b s.m) stands (in_range w) (not (eqb (residue_at s.modulus.p w) 0) && full) refl refl refl refl e
+judged-entry stands full s None i j v e = refused-entry e
+judged-entry stands full s (Some l) i j v e =
+    go (is_last l.i l.j l.v) (within l.i s.n && within l.j s.m) stands (in_range l.v) (not (eqb (residue_at s.modulus.p l.v) 0) && full) refl refl refl refl e
   where
-    go : (x₁ x₂ x₃ x₄ x₅ : Bool) → (within a s.n && within b s.m) ≡ x₂ → stands ≡ x₃ → in_range w ≡ x₄ → (not (eqb (residue_at s.modulus.p w) 0) && full) ≡ x₅
-        → cond x₁ Last (cond x₂ (cond x₃ (cond x₄ (cond x₅ (Refused 7) (Entry a b (residue_at s.modulus.p w))) (Refused 6)) (Refused 5)) (Refused 4)) ≡ Entry i j v
-        → IsEntry stands full s (Triple a b w) i j v
+    go : (x₁ x₂ x₃ x₄ x₅ : Bool) → (within l.i s.n && within l.j s.m) ≡ x₂ → stands ≡ x₃ → in_range l.v ≡ x₄ → (not (eqb (residue_at s.modulus.p l.v) 0) && full) ≡ x₅
+        → cond x₁ Last (cond x₂ (cond x₃ (cond x₄ (cond x₅ (Refused 7) (Entry l.i l.j (residue_at s.modulus.p l.v))) (Refused 6)) (Refused 5)) (Refused 4)) ≡ Entry i j v
+        → IsEntry stands full s (Some l) i j v
     go true x₂ x₃ x₄ x₅ p₂ p₃ p₄ p₅ q = last_entry q
     go false false x₃ x₄ x₅ p₂ p₃ p₄ p₅ q = refused-entry q
     go false true false x₄ x₅ p₂ p₃ p₄ p₅ q = refused-entry q
     go false true true false x₅ p₂ p₃ p₄ p₅ q = refused-entry q
     go false true true true true p₂ p₃ p₄ p₅ q = refused-entry q
     go false true true true false p₂ p₃ p₄ p₅ q =
-        let ea : a ≡ i = cc in
-        let eb : b ≡ j = cc in
-        let ev : residue_at s.modulus.p w ≡ v = cc in
+        let ea : l.i ≡ i = cc in
+        let eb : l.j ≡ j = cc in
+        let ev : residue_at s.modulus.p l.v ≡ v = cc in
         rw (← ea, ← eb, ← ev)
         (record {
-          sign = w;
+          sign = l.v;
           line = refl;
-          row_inside = and_left (within a s.n) (within b s.m) p₂;
-          column-inside = and_right (within a s.n) (within b s.m) p₂;
+          row_inside = and_left (within l.i s.n) (within l.j s.m) p₂;
+          column-inside = and_right (within l.i s.n) (within l.j s.m) p₂;
           order = p₃;
           range = p₄;
           value = refl;
@@ -73,24 +73,23 @@ judged-entry stands full s (Triple a b w) i j v e =
 zero-sign : (v : Signed) → is_zero v ≡ true → v ≡ Plus 0
 zero-sign (Plus n) e = ap Plus (eqb-true n 0 e)
 zero-sign (Minus n) e = false-true e
-zero-sign NotSigned e = false-true e
 
-last-is : (i j : ℕ) (v : Signed) → is_last i j v ≡ true → Triple i j v ≡ Triple 0 0 (Plus 0)
+last-is : (i j : ℕ) (v : Signed) → is_last i j v ≡ true → with_signed i j (Some v) ≡ with_signed 0 0 (Some (Plus 0))
 last-is i j v e =
     let a = and_left (eqb i 0 && eqb j 0) (is_zero v) e in
     rw (eqb-true i 0 (and_left (eqb i 0) (eqb j 0) a), eqb-true j 0 (and_right (eqb i 0) (eqb j 0) a), zero-sign v (and_right (eqb i 0 && eqb j 0) (is_zero v) e))
 
 -- the last line is `0 0 0`
-pub judged-last : (stands full : Bool) (s : Sizes) (l : Line) → judge_line stands full s l ≡ Last → l ≡ Triple 0 0 (Plus 0)
+pub judged-last : (stands full : Bool) (s : Sizes) (l : Option Triple) → judge_line stands full s l ≡ Last → l ≡ with_signed 0 0 (Some (Plus 0))
 unfolding judge_line
-judged-last stands full s NotTriple e = refused-last e
-judged-last stands full s (Triple a b w) e =
-    go (is_last a b w) (within a s.n && within b s.m) stands (in_range w) (not (eqb (residue_at s.modulus.p w) 0) && full) refl e
+judged-last stands full s None e = refused-last e
+judged-last stands full s (Some l) e =
+    go (is_last l.i l.j l.v) (within l.i s.n && within l.j s.m) stands (in_range l.v) (not (eqb (residue_at s.modulus.p l.v) 0) && full) refl e
   where
-    go : (x₁ x₂ x₃ x₄ x₅ : Bool) → is_last a b w ≡ x₁
-        → cond x₁ Last (cond x₂ (cond x₃ (cond x₄ (cond x₅ (Refused 7) (Entry a b (residue_at s.modulus.p w))) (Refused 6)) (Refused 5)) (Refused 4)) ≡ Last
-        → Triple a b w ≡ Triple 0 0 (Plus 0)
-    go true x₂ x₃ x₄ x₅ p q = last-is a b w p
+    go : (x₁ x₂ x₃ x₄ x₅ : Bool) → is_last l.i l.j l.v ≡ x₁
+        → cond x₁ Last (cond x₂ (cond x₃ (cond x₄ (cond x₅ (Refused 7) (Entry l.i l.j (residue_at s.modulus.p l.v))) (Refused 6)) (Refused 5)) (Refused 4)) ≡ Last
+        → Some l ≡ with_signed 0 0 (Some (Plus 0))
+    go true x₂ x₃ x₄ x₅ p q = last-is l.i l.j l.v p
     go false false x₃ x₄ x₅ p q = refused-last q
     go false true false x₄ x₅ p q = refused-last q
     go false true true false x₅ p q = refused-last q

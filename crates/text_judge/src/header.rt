@@ -1,87 +1,68 @@
 // What the second line, `n m M`, says. It is cut at its spaces first: it is one line, and what reads the lines `i j v` stays theirs alone,
 // so that the compiler can expand it in its place.
 ghost use Rattle.std.specs.Prelude.{◌≡◌};
-ghost use Rattle.text_judge.specs.Line.{is_m, header_with, header_of};
+ghost use Rattle.text_judge.specs.Line.{is_m, header_of};
 ghost use Rattle.text_judge.specs.Spaces.{Cut};
 
 use crate::line::SPACE;
-use text_fields::numbers::Number;
+use text_fields::numbers::number_of;
+use text_fields::pieces::piece;
 
 // The byte `M`.
-const LETTER_M: u8 = 77;
+const LETTER_M: u8 = b'M';
 
-// Where the spaces of a line stand, if there are two.
-#[derive(Clone, Copy)]
-pub enum Spaces {
-    At { first: usize, second: usize },
-    NotTwo,
+// Where the two spaces of a line stand.
+#[derive(Clone, Copy, Debug, PartialEq, Eq)]
+pub struct Spaces {
+    pub first: usize,
+    pub second: usize,
 }
 
-// The sizes of a plan, or that the line has no such form.
-#[derive(Clone, Copy)]
-pub enum Header {
-    Given { n: u64, m: u64 },
-    NotHeader,
+// The sizes of a plan, as its second line says them.
+#[derive(Clone, Copy, Debug, PartialEq, Eq)]
+pub struct Header {
+    pub n: u64,
+    pub m: u64,
 }
 
-// The places of a line's two spaces.
-fn spaces_of(line: &[u8]) -> Spaces
+// The places of a line's spaces, if there are two.
+fn spaces_of(line: &[u8]) -> Option<Spaces>
     ensures { Cut line.now result }
 {
-    let a = text_fields::pieces::piece(line, 0, SPACE);
+    let a = piece(line, 0, SPACE);
     let first = a.len();
     if first == line.len() {
-        return Spaces::NotTwo;
+        return None;
     }
-    let b = text_fields::pieces::piece(line, first + 1, SPACE);
+    let b = piece(line, first + 1, SPACE);
     let second = first + 1 + b.len();
     if second == line.len() {
-        return Spaces::NotTwo;
+        return None;
     }
-    let c = text_fields::pieces::piece(line, second + 1, SPACE);
+    let c = piece(line, second + 1, SPACE);
     if second + 1 + c.len() < line.len() {
-        return Spaces::NotTwo;
+        return None;
     }
-    Spaces::At { first, second }
+    Some(Spaces { first, second })
 }
 
 // Whether a field is the letter M.
 fn is_m(field: &[u8]) -> bool
     ensures { result ≡ is_m field.now }
 {
-    if field.len() != 1 {
-        return false;
-    }
-    field[0] == LETTER_M
-}
-
-// The header of two numbers, and whether the letter follows them.
-fn header_with(a: Number, b: Number, letter: bool) -> Header
-    ensures { result ≡ header_with a b letter }
-{
-    let Number::Value(n) = a else {
-        return Header::NotHeader;
-    };
-    let Number::Value(m) = b else {
-        return Header::NotHeader;
-    };
-    if letter {
-        return Header::Given { n, m };
-    }
-    Header::NotHeader
+    field.len() == 1 && field[0] == LETTER_M
 }
 
 // What the second line says.
-pub fn header_of(line: &[u8]) -> Header
+pub fn header_of(line: &[u8]) -> Option<Header>
     ensures { result ≡ header_of line.now }
 {
-    match spaces_of(line) {
-        Spaces::At { first, second } => {
-            let n = text_fields::numbers::number_of(&line[..first]);
-            let m = text_fields::numbers::number_of(&line[first + 1..second]);
-            let letter = is_m(&line[second + 1..]);
-            header_with(n, m, letter)
-        }
-        Spaces::NotTwo => Header::NotHeader,
+    let Spaces { first, second } = spaces_of(line)?;
+    let n = number_of(&line[..first])?;
+    let m = number_of(&line[first + 1..second])?;
+    if is_m(&line[second + 1..]) {
+        Some(Header { n, m })
+    } else {
+        None
     }
 }

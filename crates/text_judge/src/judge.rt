@@ -1,12 +1,12 @@
 // What a line of the plan is judged to be: an entry, the last line, or a refusal.
 ghost use Rattle.std.specs.Prelude.{◌≡◌, ◌<◌};
 ghost use Rattle.text_judge.specs.Line.{line_of};
-ghost use Rattle.text_judge.specs.Judge.{precedes, may_stand, judge_line};
-ghost use Rattle.text_judge.specs.Sight.{judged_from};
+ghost use Rattle.text_judge.specs.Judge.{precedes, may_stand, judge_line, verdict_of};
+ghost use Rattle.text_judge.specs.Sight.{judged_from, seen_as};
 
-use crate::line::Line;
-use crate::sight::Sight;
-use refusals::numbers::REPEATED_PLACE;
+use crate::line::{Triple, line_of};
+use crate::sight::{Sight, sight_of};
+use refusals::Fault;
 use residue::Modulus;
 
 // The modulus and the sizes of a plan.
@@ -17,10 +17,9 @@ pub struct Sizes {
     pub m: u32,
 }
 
-// What a line is judged to be: refused by a number, the last line, or the entry v at i and j, which count from 1.
-#[derive(Clone, Copy)]
-pub enum Verdict {
-    Refused(u32),
+// What a line that is not refused is judged to be: the last line, or the entry v at i and j, which count from 1.
+#[derive(Clone, Copy, Debug, PartialEq, Eq)]
+pub enum Judged {
     Last,
     Entry { i: u64, j: u64, v: u32 },
 }
@@ -29,54 +28,49 @@ pub enum Verdict {
 fn is_before(a: u64, b: u64, i: u64, j: u64) -> bool
     ensures { result ≡ precedes a b i j }
 {
-    if a < i {
-        return true;
-    }
-    if a == i {
-        return b < j;
-    }
-    false
+    a < i || (a == i && b < j)
 }
 
 // Whether a line may stand after the one at a and b.
-fn may_stand(a: u64, b: u64, line: Line) -> bool
+fn may_stand(a: u64, b: u64, line: Option<Triple>) -> bool
     ensures { result ≡ may_stand (precedes a b) line }
 {
     match line {
-        Line::Triple { i, j, v: _ } => is_before(a, b, i, j),
-        Line::NotTriple => false,
+        Some(Triple { i, j, v: _ }) => is_before(a, b, i, j),
+        None => false,
     }
 }
 
 // The verdict on a line, where `stands` says whether it may stand here: 5 comes before 6 and 7.
-fn verdict_from(stands: bool, seen: Sight) -> Verdict
-    ensures { result ≡ judged_from stands seen }
+fn verdict_from(stands: bool, seen: Sight) -> Result<Judged, Fault>
+    ensures { verdict_of result ≡ judged_from stands (seen_as seen) }
 {
     match seen {
-        Sight::Stops(number) => Verdict::Refused(number),
-        Sight::Finishes => Verdict::Last,
+        Sight::Stops(fault) => Err(fault),
+        Sight::Finishes => Ok(Judged::Last),
         Sight::Stands { i, j, v } => {
             if stands {
-                return Verdict::Entry { i, j, v };
+                Ok(Judged::Entry { i, j, v })
+            } else {
+                Err(Fault::RepeatedPlace)
             }
-            Verdict::Refused(REPEATED_PLACE)
         }
-        Sight::Fails { number, i: _, j: _ } => {
+        Sight::Fails { fault, i: _, j: _ } => {
             if stands {
-                return Verdict::Refused(number);
+                Err(fault)
+            } else {
+                Err(Fault::RepeatedPlace)
             }
-            Verdict::Refused(REPEATED_PLACE)
         }
     }
 }
 
 // The line of these bytes, after the one at a and b; `full` says whether the entry storage is used up.
-pub fn judge_after(a: u64, b: u64, full: bool, s: Sizes, bytes: &[u8]) -> Verdict
+pub fn judge_after(a: u64, b: u64, full: bool, s: Sizes, bytes: &[u8]) -> Result<Judged, Fault>
     requires { 0 < s.modulus.p }
-    ensures { result ≡ judge_line (may_stand (precedes a b) (line_of bytes.now)) full s (line_of bytes.now) }
+    ensures { verdict_of result ≡ judge_line (may_stand (precedes a b) (line_of bytes.now)) full s (line_of bytes.now) }
 {
-    let line = crate::line::line_of(bytes);
+    let line = line_of(bytes);
     let stands = may_stand(a, b, line);
-    let seen = crate::sight::sight_of(full, s, line);
-    verdict_from(stands, seen)
+    verdict_from(stands, sight_of(full, s, line))
 }

@@ -2,26 +2,27 @@
 ghost use Rattle.std.specs.Prelude.{◌≡◌, ◌<◌, ◌&&◌};
 ghost use Rattle.residue.specs.Arithmetic.{Residue};
 ghost use Rattle.text_judge.specs.Judge.{in_range, residue_at, is_zero, is_last, within};
-ghost use Rattle.text_judge.specs.Sight.{stands_if, sight};
+ghost use Rattle.text_judge.specs.Line.{with_signed};
+ghost use Rattle.text_judge.specs.Sight.{stands_if, sight, seen_as};
 
 use crate::judge::Sizes;
-use crate::line::Line;
-use refusals::numbers::{STORAGE_TOO_SHORT, VALUE_OUT_OF_RANGE};
+use crate::line::Triple;
+use refusals::Fault;
 use residue::Modulus;
 use text_fields::numbers::Signed;
 
 // The range of v: from -2,147,483,648 to 2,147,483,647.
-const LARGEST_V: u64 = 2147483647;
+const LARGEST_V: u64 = 2_147_483_647;
 
-const LARGEST_MINUS_V: u64 = 2147483648;
+const LARGEST_MINUS_V: u64 = 2_147_483_648;
 
 // What a line is: refused by 3 or 4, the last line, the triple v at i and j, which count from 1, or one at i and j that 6 or 7 refuses.
-#[derive(Clone, Copy)]
+#[derive(Clone, Copy, Debug, PartialEq, Eq)]
 pub enum Sight {
-    Stops(u32),
+    Stops(Fault),
     Finishes,
     Stands { i: u64, j: u64, v: u32 },
-    Fails { number: u32, i: u64, j: u64 },
+    Fails { fault: Fault, i: u64, j: u64 },
 }
 
 // Whether v lies in its range.
@@ -31,7 +32,6 @@ fn in_range(v: Signed) -> bool
     match v {
         Signed::Plus(n) => n <= LARGEST_V,
         Signed::Minus(n) => n <= LARGEST_MINUS_V,
-        Signed::NotSigned => false,
     }
 }
 
@@ -43,7 +43,6 @@ fn residue_of(modulus: Modulus, v: Signed) -> u32
     match v {
         Signed::Plus(n) => modulus.signed(false, n),
         Signed::Minus(n) => modulus.signed(true, n),
-        Signed::NotSigned => modulus.signed(false, 0),
     }
 }
 
@@ -54,7 +53,6 @@ fn is_zero(v: Signed) -> bool
     match v {
         Signed::Plus(n) => n == 0,
         Signed::Minus(_) => false,
-        Signed::NotSigned => false,
     }
 }
 
@@ -62,44 +60,26 @@ fn is_zero(v: Signed) -> bool
 fn is_last(i: u64, j: u64, v: Signed) -> bool
     ensures { result ≡ is_last i j v }
 {
-    if i != 0 {
-        return false;
-    }
-    if j != 0 {
-        return false;
-    }
-    is_zero(v)
+    i == 0 && j == 0 && is_zero(v)
 }
 
 // Whether i and j lie in the plan.
 fn in_plan(i: u64, j: u64, s: Sizes) -> bool
     ensures { result ≡ (within i s.n && within j s.m) }
 {
-    if i < 1 {
-        return false;
-    }
-    if (s.n as u64) < i {
-        return false;
-    }
-    if j < 1 {
-        return false;
-    }
-    j <= s.m as u64
+    (1 <= i && i <= u64::from(s.n)) && (1 <= j && j <= u64::from(s.m))
 }
 
 // A triple, which needs room unless its value is 0.
 fn stands_if(full: bool, i: u64, j: u64, v: u32) -> Sight
-    ensures { result ≡ stands_if full i j v }
+    ensures { seen_as result ≡ stands_if full i j v }
 {
     if v == 0 {
         return Sight::Stands { i, j, v };
     }
     if full {
-        return Sight::Fails {
-            number: STORAGE_TOO_SHORT,
-            i,
-            j,
-        };
+        let fault = Fault::StorageTooShort;
+        return Sight::Fails { fault, i, j };
     }
     Sight::Stands { i, j, v }
 }
@@ -107,32 +87,28 @@ fn stands_if(full: bool, i: u64, j: u64, v: u32) -> Sight
 // The line `i j v`; `full` says whether the entry storage is used up.
 fn sight_triple(full: bool, s: Sizes, i: u64, j: u64, v: Signed) -> Sight
     requires { 0 < s.modulus.p }
-    ensures { result ≡ sight full s (Line.Triple i j v) }
+    ensures { seen_as result ≡ sight full s (with_signed i j (Some v)) }
 {
     if is_last(i, j, v) {
         return Sight::Finishes;
     }
     if !in_plan(i, j, s) {
-        return Sight::Stops(4);
+        return Sight::Stops(Fault::OutsidePlan);
     }
     if !in_range(v) {
-        return Sight::Fails {
-            number: VALUE_OUT_OF_RANGE,
-            i,
-            j,
-        };
+        let fault = Fault::ValueOutOfRange;
+        return Sight::Fails { fault, i, j };
     }
-    let modulus = s.modulus;
-    stands_if(full, i, j, residue_of(modulus, v))
+    stands_if(full, i, j, residue_of(s.modulus, v))
 }
 
 // Any line.
-pub fn sight_of(full: bool, s: Sizes, line: Line) -> Sight
+pub fn sight_of(full: bool, s: Sizes, line: Option<Triple>) -> Sight
     requires { 0 < s.modulus.p }
-    ensures { result ≡ sight full s line }
+    ensures { seen_as result ≡ sight full s line }
 {
     match line {
-        Line::Triple { i, j, v } => sight_triple(full, s, i, j, v),
-        Line::NotTriple => Sight::Stops(3),
+        Some(Triple { i, j, v }) => sight_triple(full, s, i, j, v),
+        None => Sight::Stops(Fault::Malformed),
     }
 }

@@ -17,7 +17,7 @@ pub struct LineReader<'a> {
 }
 
 // Where a line starts, and its number: what a reader carries beside its text.
-#[derive(Clone, Copy)]
+#[derive(Clone, Copy, Debug, PartialEq, Eq)]
 pub struct Place {
     pub at: usize,
     pub line: u32,

@@ -11,22 +11,17 @@
 --   ending, onward                                   what follows the last line, and what the verdict on a line leads to
 --   from_first, with_modulus, from_second, with_sizes    the first line, its modulus, the second line, its sizes
 --   read_by                                           the whole text
-use Rattle.std.specs.Prelude.{ℕ, ◌+◌, List, [], ◌∷◌, ◌++◌, Bool, true, cond, ◌&&◌, not, eqb, ltb, leb, length}
+use Rattle.std.specs.Prelude.{ℕ, ◌+◌, List, [], ◌∷◌, ◌++◌, Bool, true, cond, ◌&&◌, not, eqb, ltb, leb, length, Option, Some, None}
 use Rattle.refusals.specs.Table.{bad_modulus, over_limit, malformed}
 use Rattle.grouping.specs.Grouping.{grouped}
 use Rattle.text_fields.specs.Pieces.{Pieces, last, more, pieces}
 use Rattle.text_fields.specs.Number.{number_in}
-use Rattle.text_fields.specs.declared.numbers.Number.{Number}
-use Rattle.text_fields.specs.declared.numbers.Number.TheVariants.{Value, NotNumber}
 use Rattle.residue.specs.Range.{is_modulus}
 use Rattle.limits.specs.Limits.{largest_size, largest_text}
 use Rattle.text_judge.specs.Line.{line_of, header_of}
-use Rattle.text_judge.specs.Judge.{judge_line, may_stand}
+use Rattle.text_judge.specs.Judge.{Verdict, Refused, Last, Entry as AnEntry, judge_line, may_stand}
 use Rattle.text_judge.specs.declared.header.Header.{Header}
-use Rattle.text_judge.specs.declared.header.Header.TheVariants.{Given, NotHeader}
 use Rattle.text_judge.specs.declared.judge.Sizes.{Sizes}
-use Rattle.text_judge.specs.declared.judge.Verdict.{Verdict}
-use Rattle.text_judge.specs.declared.judge.Verdict.TheVariants.{Refused, Last, Entry as AnEntry}
 
 pub record Entry : Type 0 where
   pub row : ℕ
@@ -70,19 +65,19 @@ triples rule s room k seen (last l) = refused malformed k
 triples rule s room k seen (more l rest) = onward s k seen rest (λ t. triples rule s room (k + 1) (t ∷ seen) rest) (verdict_on rule s room seen l)
 
 -- ---- the second line
-abbrev pub with_sizes : (List Entry → ℕ → ℕ → Bool) → ℕ → ℕ → Pieces → Header → ReadResult
-with_sizes rule p room rest NotHeader = refused malformed 2
-with_sizes rule p room rest (Given n m) =
-    cond (leb n largest_size && leb m largest_size) (triples rule (record { modulus = record { p = p }; n = n; m = m }) room 3 [] rest) (refused over_limit 0)
+abbrev pub with_sizes : (List Entry → ℕ → ℕ → Bool) → ℕ → ℕ → Pieces → Option Header → ReadResult
+with_sizes rule p room rest None = refused malformed 2
+with_sizes rule p room rest (Some h) =
+    cond (leb h.n largest_size && leb h.m largest_size) (triples rule (record { modulus = record { p = p }; n = h.n; m = h.m }) room 3 [] rest) (refused over_limit 0)
 
 abbrev pub from_second : (List Entry → ℕ → ℕ → Bool) → ℕ → ℕ → Pieces → ReadResult
 from_second rule p room (last l) = refused malformed 2
 from_second rule p room (more l rest) = with_sizes rule p room rest (header_of l)
 
 -- ---- the first line
-abbrev pub with_modulus : (List Entry → ℕ → ℕ → Bool) → ℕ → Pieces → Number → ReadResult
-with_modulus rule room rest NotNumber = refused malformed 1
-with_modulus rule room rest (Value p) = cond (is_modulus p) (from_second rule p room rest) (refused bad_modulus 0)
+abbrev pub with_modulus : (List Entry → ℕ → ℕ → Bool) → ℕ → Pieces → Option ℕ → ReadResult
+with_modulus rule room rest None = refused malformed 1
+with_modulus rule room rest (Some p) = cond (is_modulus p) (from_second rule p room rest) (refused bad_modulus 0)
 
 abbrev pub from_first : (List Entry → ℕ → ℕ → Bool) → ℕ → Pieces → ReadResult
 from_first rule room (last l) = refused malformed 1

@@ -6,18 +6,18 @@ ghost use Rattle.text_opening.specs.Reading.{Entry, from_second, read_by};
 ghost use Rattle.text_opening.specs.Opening.{after_open, Bounded, Second};
 
 use limits::{LARGEST_STATED, LARGEST_TEXT};
-use refusals::numbers::{BAD_MODULUS, MALFORMED, OVER_LIMIT};
+use refusals::{Fault, Refusal, demand};
 use residue::Modulus;
-use text_fields::numbers::Number;
-use text_judge::header::Header;
+use text_fields::numbers::number_of;
+use text_judge::header::{Header, header_of};
 use text_judge::judge::Sizes;
-use text_lines::Place;
+use text_lines::{Place, line_from, next_from};
 
-// What the first two lines lead to: a refusal, or the sizes, and the place and number of the third line.
+// What the first two lines lead to where they are not refused: the sizes, and the place and number of the third line.
 #[derive(Clone, Copy)]
-pub enum Opening {
-    Refused { number: u32, detail: u32 },
-    Opened { s: Sizes, third: Place },
+pub struct Opened {
+    pub s: Sizes,
+    pub third: Place,
 }
 
 // Whether the number of the first line is a modulus.
@@ -31,82 +31,50 @@ fn accepts(p: u64) -> bool
 }
 
 // The second line, whose place and number are given.
-fn open_second(text: &[u8], second: Place, modulus: Modulus) -> Opening
+fn open_second(text: &[u8], second: Place, modulus: Modulus) -> Result<Opened, Refusal>
     requires { Second text.now second modulus.p }
     ensures { ((rule : List Entry → ℕ → ℕ → Bool) (room : ℕ) → from_second rule modulus.p room (pieces 10 (drop second.at text.now)) ≡ after_open rule room text.now result) × Bounded text.now result }
 {
-    let detail = second.line;
-    let l = text_lines::line_from(text, second.at, second.line);
+    let malformed = Refusal {
+        fault: Fault::Malformed,
+        detail: second.line,
+    };
+    let l = line_from(text, second.at, second.line);
     if second.at + l.len() == text.len() {
-        return Opening::Refused {
-            number: MALFORMED,
-            detail,
-        };
+        return Err(malformed);
     }
-    let third = text_lines::next_from(text, second.at, second.line, l.len());
-    match text_judge::header::header_of(l) {
-        Header::Given { n, m } => {
-            if LARGEST_STATED < n {
-                return Opening::Refused {
-                    number: OVER_LIMIT,
-                    detail: 0,
-                };
-            }
-            if LARGEST_STATED < m {
-                return Opening::Refused {
-                    number: OVER_LIMIT,
-                    detail: 0,
-                };
-            }
-            Opening::Opened {
-                s: Sizes {
-                    modulus,
-                    n: n as u32,
-                    m: m as u32,
-                },
-                third,
-            }
-        }
-        Header::NotHeader => Opening::Refused {
-            number: MALFORMED,
-            detail,
-        },
-    }
+    let third = next_from(text, second.at, second.line, l.len());
+    let Some(Header { n, m }) = header_of(l) else {
+        return Err(malformed);
+    };
+    demand(n <= LARGEST_STATED, Fault::OverLimit)?;
+    demand(m <= LARGEST_STATED, Fault::OverLimit)?;
+    let s = Sizes {
+        modulus,
+        n: n as u32,
+        m: m as u32,
+    };
+    Ok(Opened { s, third })
 }
 
 // The first two lines.
-pub fn open(text: &[u8]) -> Opening
+pub fn open(text: &[u8]) -> Result<Opened, Refusal>
     ensures { ((rule : List Entry → ℕ → ℕ → Bool) (room : ℕ) → read_by rule room text.now ≡ after_open rule room text.now result) × Bounded text.now result }
 {
-    if LARGEST_TEXT < text.len() {
-        return Opening::Refused {
-            number: OVER_LIMIT,
-            detail: 0,
-        };
-    }
+    demand(text.len() <= LARGEST_TEXT, Fault::OverLimit)?;
     let first = Place { at: 0, line: 1 };
-    let detail = first.line;
-    let l = text_lines::line_from(text, first.at, first.line);
+    let malformed = Refusal {
+        fault: Fault::Malformed,
+        detail: first.line,
+    };
+    let l = line_from(text, first.at, first.line);
     if first.at + l.len() == text.len() {
-        return Opening::Refused {
-            number: MALFORMED,
-            detail,
-        };
+        return Err(malformed);
     }
-    let second = text_lines::next_from(text, first.at, first.line, l.len());
-    match text_fields::numbers::number_of(l) {
-        Number::Value(p) => {
-            if accepts(p) {
-                return open_second(text, second, Modulus { p: p as u32 });
-            }
-            Opening::Refused {
-                number: BAD_MODULUS,
-                detail: 0,
-            }
-        }
-        Number::NotNumber => Opening::Refused {
-            number: MALFORMED,
-            detail,
-        },
-    }
+    let second = next_from(text, first.at, first.line, l.len());
+    let Some(p) = number_of(l) else {
+        return Err(malformed);
+    };
+    demand(accepts(p), Fault::BadModulus)?;
+    open_second(text, second, Modulus { p: p as u32 })
 }

@@ -13,12 +13,12 @@ use Rattle.lists.specs.Filled.{zeros, filled}
 use Rattle.lists.specs.Tests.{among}
 use Rattle.refusals.specs.Table.{text_faults}
 use Rattle.refusals.proofs.Refusals.{zero-passed}
-use Rattle.refusals.specs.declared.Outcome.{Outcome}
-use Rattle.refusals.specs.declared.Outcome.TheVariants.{Passed, Refused}
+use Rattle.refusals.specs.Outcome.{Outcome}
+use Rattle.refusals.specs.Outcome.{Passed, Refused}
 use Rattle.text_fields.specs.Pieces.{pieces}
 use Rattle.text_lines.specs.declared.Place.{Place}
 use Rattle.text_plan.specs.Call.{ReadAnswer, refusal_of, call_of, Gives}
-use Rattle.text_plan.specs.declared.Reading.{Reading}
+use Rattle.text_plan.specs.Call.{Reading}
 use Rattle.text_plan.proofs.Done.{refused-by, read-cleared}
 use Rattle.text_owners.specs.Ending.{plan_part, PlanEnds}
 use Rattle.text_owners.specs.Owners.{OwnersRead, not_read, owned, owners_in}

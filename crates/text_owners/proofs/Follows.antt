@@ -2,12 +2,12 @@
 --   nothing-follows             the text ends with the plan
 --   line-open                   the line that follows has no line feed
 --   has-feed, line-ready        it has one, and can be read
---   no-owners, owner-large      it is no line of owners, or has one that is no byte
+--   line-refused                it is no line of owners, or has one that is no byte
 --   only-owners, more-follows   it says the owners, and nothing follows it, or something does
 use mathlib.Core.Path.{◌≡◌, refl, sym, ap, ◌∙◌, subst}
 use mathlib.Core.Bool.{Bool, true, false, cond}
 use mathlib.Core.List.{List, [], ◌∷◌}
-use mathlib.Core.Option.{Option, none, some}
+use Rattle.std.specs.Prelude.{Option, Some, None, Result, Ok, Err}
 use Prim.Native.Nat.{ℕ, ◌+◌, ◌≤◌}
 use native.Mathlib.Nat.{le_of_eq}
 use native.Mathlib.Omega.{arith}
@@ -15,8 +15,8 @@ use lib.Dec.{eqb}
 use lib.ListN.{length, drop, replicate, length-drop, drop_of_length-le}
 use Rattle.lists.specs.Filled.{filled}
 use Rattle.refusals.specs.Table.{malformed, owner_too_large}
-use Rattle.refusals.specs.declared.Outcome.{Outcome}
-use Rattle.refusals.specs.declared.Outcome.TheVariants.{Passed, Refused}
+use Rattle.refusals.specs.Outcome.{Outcome}
+use Rattle.refusals.specs.Outcome.{Passed, Refused}
 use Rattle.text_fields.specs.Pieces.{Pieces, last, more, prepend, pieces}
 use Rattle.text_fields.proofs.Cuts.{piece-end, piece-last, piece-more}
 use Rattle.text_lines.specs.Line.{line_at, line_end, Ends}
@@ -24,46 +24,36 @@ use Rattle.text_lines.specs.declared.Place.{Place}
 use Rattle.text_owners.specs.Owners.{owners_line, all_bytes, OwnersRead, not_read, owned, after_line, on_line, owners_in}
 use Rattle.text_owners.specs.Call.{owners_length}
 use Rattle.text_owners.specs.Needs.{FootReady, OwnersLineReady, StoredBytes, LineOwns, Owns}
-use Rattle.text_owners.specs.declared.line.OwnersLine.{OwnersLine}
-use Rattle.text_owners.specs.declared.line.OwnersLine.TheVariants.{Stated, TooLarge, NotOwners}
+use Rattle.refusals.specs.Faults.{number}
+use Rattle.refusals.specs.declared.Fault.{Fault}
+use Rattle.refusals.specs.declared.Fault.TheVariants.{Malformed, OwnerTooLarge}
 
 -- ---- what a line leads to, by what reading it returned
 
--- the answers differ
-apart-stated-large : Stated ≡ TooLarge → ⊥
-apart-stated-large e = let z : ◌≡◌ {A = ℕ} 0 1 = cc in omega arith
-
-apart-stated-none : Stated ≡ NotOwners → ⊥
-apart-stated-none e = let z : ◌≡◌ {A = ℕ} 0 1 = cc in omega arith
-
-apart-large-none : TooLarge ≡ NotOwners → ⊥
-apart-large-none e = let z : ◌≡◌ {A = ℕ} 0 1 = cc in omega arith
+-- passing is no refusal
+apart : {f : Fault} → ◌≡◌ {A = Result (Unit {0}) Fault} (Ok tt) (Err f) → ⊥
+apart e = let z : ◌≡◌ {A = ℕ} 0 1 = cc in omega arith
 
 module _ (k : ℕ) (rest : Pieces) (left : List ℕ) where
-  leads-none : (o : Option (List ℕ)) → LineOwns o NotOwners left → on_line k rest o ≡ not_read malformed k
-  leads-none none s = refl
-  leads-none (some vs) s = go (all_bytes vs) s
-    where
-      go : (t : Bool) → StoredBytes t vs NotOwners left → cond t (after_line (k + 1) vs rest) (not_read owner_too_large k) ≡ not_read malformed k
-      go true s = absurd (apart-stated-none (sym s.0))
-      go false s = absurd (apart-large-none (sym s))
+  refused-at : (f g : Fault) → ◌≡◌ {A = Result (Unit {0}) Fault} (Err f) (Err g) → not_read (number g) k ≡ not_read (number f) k
+  refused-at f g s = let same : f ≡ g = cc in ap (λ (x : Fault). not_read (number x) k) (sym same)
 
-  leads-large : (o : Option (List ℕ)) → LineOwns o TooLarge left → on_line k rest o ≡ not_read owner_too_large k
-  leads-large none s = absurd (apart-large-none s)
-  leads-large (some vs) s = go (all_bytes vs) s
+  leads-refused : (f : Fault) (o : Option (List ℕ)) → LineOwns o (Err f) left → on_line k rest o ≡ not_read (number f) k
+  leads-refused f None s = refused-at f Malformed s
+  leads-refused f (Some vs) s = go (all_bytes vs) s
     where
-      go : (t : Bool) → StoredBytes t vs TooLarge left → cond t (after_line (k + 1) vs rest) (not_read owner_too_large k) ≡ not_read owner_too_large k
-      go true s = absurd (apart-stated-large (sym s.0))
-      go false s = refl
+      go : (t : Bool) → StoredBytes t vs (Err f) left → cond t (after_line (k + 1) vs rest) (not_read owner_too_large k) ≡ not_read (number f) k
+      go true s = absurd (apart (sym s.0))
+      go false s = refused-at f OwnerTooLarge s
 
   -- the line says the owners: what follows it decides
-  leads-stated : (o : Option (List ℕ)) → LineOwns o Stated left → (r : Outcome) → ((vs : List ℕ) → left ≡ filled owners_length vs → Owns (after_line (k + 1) vs rest) r left) → Owns (on_line k rest o) r left
-  leads-stated none s r f = absurd (apart-stated-none s)
-  leads-stated (some vs) s r f = go (all_bytes vs) s
+  leads-stated : (o : Option (List ℕ)) → LineOwns o (Ok tt) left → (r : Outcome) → ((vs : List ℕ) → left ≡ filled owners_length vs → Owns (after_line (k + 1) vs rest) r left) → Owns (on_line k rest o) r left
+  leads-stated None s r f = absurd (apart s)
+  leads-stated (Some vs) s r f = go (all_bytes vs) s
     where
-      go : (t : Bool) → StoredBytes t vs Stated left → Owns (cond t (after_line (k + 1) vs rest) (not_read owner_too_large k)) r left
+      go : (t : Bool) → StoredBytes t vs (Ok tt) left → Owns (cond t (after_line (k + 1) vs rest) (not_read owner_too_large k)) r left
       go true s = f vs s.1
-      go false s = absurd (apart-stated-large s)
+      go false s = absurd (apart s)
 
 -- ---- what follows the line
 
@@ -126,28 +116,24 @@ module _ {text : List ℕ} {from : Place} {m : ℕ} {owners : List ℕ} (g : Foo
       unfolding owners_in
       cut = ap (owners_in m from.line) (piece-more 10 text l from.at g.place e next.at ends.feed next_place)
 
-      module _ {r : OwnersLine} (s : LineOwns (owners_line m l) r left) where
-        said : (x : OwnersLine) → r ≡ x → LineOwns (owners_line m l) x left
-        said x q = subst (λ (y : OwnersLine). LineOwns (owners_line m l) y left) q s
+      module _ {r : Result (Unit {0}) Fault} (s : LineOwns (owners_line m l) r left) where
+        said : (x : Result (Unit {0}) Fault) → r ≡ x → LineOwns (owners_line m l) x left
+        said x q = subst (λ (y : Result (Unit {0}) Fault). LineOwns (owners_line m l) y left) q s
 
-        pub no-owners : r ≡ NotOwners → Owns foot (Refused 3 from.line) left
-        no-owners q =
-            owns (not_read malformed from.line) (Refused 3 from.line) left (cut ∙ leads-none from.line rest left (owners_line m l) (said NotOwners q)) refl
+        pub line-refused : (f : Fault) → r ≡ Err f → Owns foot (Refused (number f) from.line) left
+        line-refused f q =
+            owns (not_read (number f) from.line) (Refused (number f) from.line) left (cut ∙ leads-refused from.line rest left f (owners_line m l) (said (Err f) q)) refl
 
-        pub owner-large : r ≡ TooLarge → Owns foot (Refused 16 from.line) left
-        owner-large q =
-            owns (not_read owner_too_large from.line) (Refused 16 from.line) left (cut ∙ leads-large from.line rest left (owners_line m l) (said TooLarge q)) refl
-
-        pub only-owners : r ≡ Stated → next.at ≡ length text → Owns foot Passed left
+        pub only-owners : r ≡ (Ok tt) → next.at ≡ length text → Owns foot Passed left
         only-owners q h =
             owns (on_line from.line rest (owners_line m l)) Passed left cut
-            (leads-stated from.line rest left (owners_line m l) (said Stated q) Passed
+            (leads-stated from.line rest left (owners_line m l) (said (Ok tt) q) Passed
             (λ vs x. subst (λ (y : OwnersRead). Owns y Passed left) (sym (after_none (from.line + 1) vs text next.at h)) (refl, x)))
 
-        pub more-follows : r ≡ Stated → (next.at ≡ length text → ⊥) → Owns foot (Refused 3 next.line) left
+        pub more-follows : r ≡ (Ok tt) → (next.at ≡ length text → ⊥) → Owns foot (Refused 3 next.line) left
         more-follows q h =
             owns (on_line from.line rest (owners_line m l)) (Refused 3 next.line) left cut
-            (leads-stated from.line rest left (owners_line m l) (said Stated q) (Refused 3 next.line)
+            (leads-stated from.line rest left (owners_line m l) (said (Ok tt) q) (Refused 3 next.line)
             (λ vs x.
             subst (λ (y : OwnersRead). Owns y (Refused 3 next.line) left)
             (sym (after_more (from.line + 1) vs (drop next.at text) (λ z. h (omega (arith, length-drop next.at text, next_place, ends.feed)))))

@@ -6,7 +6,7 @@ use mathlib.Core.Path.{◌≡◌, refl, sym, ap, ap₂, ◌∙◌}
 use mathlib.Core.Logic.{◌↔◌, ◌⊎◌, inl, inr}
 use mathlib.Core.List.{List, [], ◌∷◌, ◌++◌, append_assoc, append-nil}
 use mathlib.Core.Bool.{Bool, true, false, cond, ◌&&◌}
-use mathlib.Core.Option.{Option, none, some}
+use Rattle.std.specs.Prelude.{Option, Some, None}
 use Prim.Native.Nat.{ℕ, zero, suc, ◌+◌, ◌^◌, ◌≤◌, ◌<◌}
 use native.Mathlib.Omega.{arith}
 use lib.ListN.{length, get_or, replicate, length-replicate}
@@ -19,8 +19,6 @@ use Rattle.refusals.specs.Table.{malformed, owner_too_large}
 use Rattle.text_fields.specs.Pieces.{Pieces, last, more, pieces, joined}
 use Rattle.text_fields.specs.Number.{number_in}
 use Rattle.text_fields.specs.Decimal.{decimal}
-use Rattle.text_fields.specs.declared.numbers.Number.{Number}
-use Rattle.text_fields.specs.declared.numbers.Number.TheVariants.{Value, NotNumber}
 use Rattle.text_fields.proofs.Canonical.{number-prints, number-printed}
 use Rattle.text_fields.proofs.Joins.{Free, free-append, free-decimal, pieces-free, pieces-line, joined-pieces}
 use Rattle.text_owners.specs.Owners.{is_owners_word, fields_in, with_number, field_numbers, of_length, after_word, owners_line, all_bytes, OwnersRead, not_read, owned, after_line, on_line, owners_in}
@@ -76,7 +74,7 @@ line-back vs =
     ∙ pieces-line 10 (word ++ fields_text vs) [] (free-append 10 word (fields_text vs) (word-free 10 (omega arith)) (fields_free vs))
     ∙ ap (more (word ++ fields_text vs)) (pieces-free 10 [] tt)
 
-fields_back : (v : ℕ) (vs : List ℕ) → v < 10 ^ 10 → ((j : ℕ) → get_or vs j 0 < 10 ^ 10) → field_numbers (fields_in (pieces 32 (decimal v ++ fields_text vs))) ≡ some (v ∷ vs)
+fields_back : (v : ℕ) (vs : List ℕ) → v < 10 ^ 10 → ((j : ℕ) → get_or vs j 0 < 10 ^ 10) → field_numbers (fields_in (pieces 32 (decimal v ++ fields_text vs))) ≡ Some (v ∷ vs)
 unfolding fields_in field_numbers
 fields_back v [] h small = rw (append-nil (decimal v), pieces-free 32 (decimal v) (free-decimal 32 v (omega arith)), number-printed v h)
 fields_back v (w ∷ ws) h small =
@@ -87,7 +85,7 @@ unfolding is_owners_word
 word-is = refl
 
 -- the line is read as its numbers
-line_read : (vs : List ℕ) → ((j : ℕ) → get_or vs j 0 < 10 ^ 10) → owners_line (length vs) (word ++ fields_text vs) ≡ some vs
+line_read : (vs : List ℕ) → ((j : ℕ) → get_or vs j 0 < 10 ^ 10) → owners_line (length vs) (word ++ fields_text vs) ≡ Some vs
 unfolding owners_line fields_in field_numbers
 line_read [] small = rw (pieces-free 32 word (word-free 32 (omega arith)), word-is)
 line_read (v ∷ vs) small =
@@ -118,7 +116,7 @@ states-owned m k foot vs h = go h.said
 
 -- ---- what is read is what was written
 
-none-some : {A : Type 0} {vs : List ℕ} → none ≡ some vs → A
+none-some : {A : Type 0} {vs : List ℕ} → None ≡ Some vs → A
 none-some e = let z : ◌≡◌ {A = ℕ} 0 1 = cc in absurd (omega arith)
 
 not-owned : {A : Type 0} {c d : ℕ} {vs : List ℕ} → not_read c d ≡ owned vs → A
@@ -142,22 +140,22 @@ word-prints w e =
     tabulated 6 byte w long (λ i h. refl) ∙ (λ t. b0 t ∷ b1 t ∷ b2 t ∷ b3 t ∷ b4 t ∷ b5 t ∷ [])
 
 -- a number before others
-record Splits (n : Number) (o : Option (List ℕ)) (vs : List ℕ) : Type 0 where
+record Splits (n : Option ℕ) (o : Option (List ℕ)) (vs : List ℕ) : Type 0 where
   first : ℕ
   rest : List ℕ
-  number_is : n ≡ Value first
-  rest-is : o ≡ some rest
+  number_is : n ≡ Some first
+  rest-is : o ≡ Some rest
   whole : first ∷ rest ≡ vs
 
-splits : (n : Number) (o : Option (List ℕ)) (vs : List ℕ) → with_number n o ≡ some vs → Splits n o vs
-splits NotNumber o vs e = none-some e
-splits (Value v) none vs e = none-some e
-splits (Value v) (some ws) vs e = record { first = v; rest = ws; number_is = refl; rest-is = refl; whole = cc }
+splits : (n : Option ℕ) (o : Option (List ℕ)) (vs : List ℕ) → with_number n o ≡ Some vs → Splits n o vs
+splits None o vs e = none-some e
+splits (Some v) None vs e = none-some e
+splits (Some v) (Some ws) vs e = record { first = v; rest = ws; number_is = refl; rest-is = refl; whole = cc }
 
-fields-print : (t : Pieces) (vs : List ℕ) → field_numbers (fields_in t) ≡ some vs → 32 ∷ joined 32 t ≡ fields_text vs
+fields-print : (t : Pieces) (vs : List ℕ) → field_numbers (fields_in t) ≡ Some vs → 32 ∷ joined 32 t ≡ fields_text vs
 unfolding field_numbers fields_in joined
 fields-print (last f) vs e =
-    let s = splits (number_in f) (some []) vs e in
+    let s = splits (number_in f) (Some []) vs e in
     let none_left : [] ≡ s.rest = cc s.rest-is in
     ap (λ (l : List ℕ). 32 ∷ l) ((number-prints f s.first s.number_is).1 ∙ sym (append-nil (decimal s.first)))
     ∙ ap (λ (l : List ℕ). fields_text (s.first ∷ l)) none_left
@@ -172,26 +170,26 @@ record LineSays (m : ℕ) (l vs : List ℕ) : Type 0 where
   long : length vs ≡ m
   text : l ≡ word ++ fields_text vs
 
-counted : (m : ℕ) (o : Option (List ℕ)) (vs : List ℕ) → of_length m o ≡ some vs → (length vs ≡ m) × (o ≡ some vs)
-counted m none vs e = none-some e
-counted m (some ws) vs e = go (eqb (length ws) m) refl e
+counted : (m : ℕ) (o : Option (List ℕ)) (vs : List ℕ) → of_length m o ≡ Some vs → (length vs ≡ m) × (o ≡ Some vs)
+counted m None vs e = none-some e
+counted m (Some ws) vs e = go (eqb (length ws) m) refl e
   where
-    go : (t : Bool) → eqb (length ws) m ≡ t → cond t (some ws) none ≡ some vs → (length vs ≡ m) × (some ws ≡ some vs)
+    go : (t : Bool) → eqb (length ws) m ≡ t → cond t (Some ws) None ≡ Some vs → (length vs ≡ m) × (Some ws ≡ Some vs)
     go false q x = none-some x
     go true q x = (let same : ws ≡ vs = cc in ap length (sym same) ∙ eqb-true (length ws) m q, x)
 
-worded : (m : ℕ) (w : List ℕ) (fs : List (List ℕ)) (vs : List ℕ) → after_word m (w ∷ fs) ≡ some vs → (w ≡ word) × (length vs ≡ m) × (field_numbers fs ≡ some vs)
+worded : (m : ℕ) (w : List ℕ) (fs : List (List ℕ)) (vs : List ℕ) → after_word m (w ∷ fs) ≡ Some vs → (w ≡ word) × (length vs ≡ m) × (field_numbers fs ≡ Some vs)
 worded m w fs vs e = go (is_owners_word w) refl e
   where
-    go : (t : Bool) → is_owners_word w ≡ t → cond t (of_length m (field_numbers fs)) none ≡ some vs → (w ≡ word) × (length vs ≡ m) × (field_numbers fs ≡ some vs)
+    go : (t : Bool) → is_owners_word w ≡ t → cond t (of_length m (field_numbers fs)) None ≡ Some vs → (w ≡ word) × (length vs ≡ m) × (field_numbers fs ≡ Some vs)
     go false q x = none-some x
     go true q x = let (long, numbers) = counted m (field_numbers fs) vs x in (word-prints w q, long, numbers)
 
-line-prints : (m : ℕ) (l vs : List ℕ) → owners_line m l ≡ some vs → LineSays m l vs
+line-prints : (m : ℕ) (l vs : List ℕ) → owners_line m l ≡ Some vs → LineSays m l vs
 unfolding owners_line fields_in field_numbers joined
 line-prints m l vs e = go (pieces 32 l) (sym (joined-pieces 32 l)) e
   where
-    go : (p : Pieces) → l ≡ joined 32 p → after_word m (fields_in p) ≡ some vs → LineSays m l vs
+    go : (p : Pieces) → l ≡ joined 32 p → after_word m (fields_in p) ≡ Some vs → LineSays m l vs
     go (last w) q x =
         let (is_IsWord, long, numbers) = worded m w [] vs x in
         let nothing : [] ≡ vs = cc in
@@ -206,13 +204,13 @@ ends-owned k ws (last []) vs e = (refl, cc)
 ends-owned k ws (last (b ∷ bs)) vs e = not-owned e
 ends-owned k ws (more l t) vs e = not-owned e
 
-on-line-owned : (k : ℕ) (rest : Pieces) (o : Option (List ℕ)) (vs : List ℕ) → on_line k rest o ≡ owned vs → (o ≡ some vs) × (all_bytes vs ≡ true) × (rest ≡ last [])
-on-line-owned k rest none vs e = not-owned e
-on-line-owned k rest (some ws) vs e = go (all_bytes ws) refl e
+on-line-owned : (k : ℕ) (rest : Pieces) (o : Option (List ℕ)) (vs : List ℕ) → on_line k rest o ≡ owned vs → (o ≡ Some vs) × (all_bytes vs ≡ true) × (rest ≡ last [])
+on-line-owned k rest None vs e = not-owned e
+on-line-owned k rest (Some ws) vs e = go (all_bytes ws) refl e
   where
-    go : (t : Bool) → all_bytes ws ≡ t → cond t (after_line (k + 1) ws rest) (not_read owner_too_large k) ≡ owned vs → (some ws ≡ some vs) × (all_bytes vs ≡ true) × (rest ≡ last [])
+    go : (t : Bool) → all_bytes ws ≡ t → cond t (after_line (k + 1) ws rest) (not_read owner_too_large k) ≡ owned vs → (Some ws ≡ Some vs) × (all_bytes vs ≡ true) × (rest ≡ last [])
     go false b x = not-owned x
-    go true b x = let (nothing, same) = ends-owned (k + 1) ws rest vs x in (ap some same, ap all_bytes (sym same) ∙ b, nothing)
+    go true b x = let (nothing, same) = ends-owned (k + 1) ws rest vs x in (ap Some same, ap all_bytes (sym same) ∙ b, nothing)
 
 owned-states : (m k : ℕ) (foot vs : List ℕ) → owners_in m k (pieces 10 foot) ≡ owned vs → StatesOwners m foot vs
 unfolding owners_in joined owners_text
@@ -255,5 +253,5 @@ foot-refused m k (more l rest) = on_line_lem (owners_line m l)
     bytes false vs = inr refl
 
     on_line_lem : (o : Option (List ℕ)) → FootRefused (on_line k rest o)
-    on_line_lem none = inl refl
-    on_line_lem (some vs) = bytes (all_bytes vs) vs
+    on_line_lem None = inl refl
+    on_line_lem (Some vs) = bytes (all_bytes vs) vs

@@ -2,6 +2,7 @@
 --   cut-ready                              what follows the plan can be read
 --   cut-passed                             it says the owners
 --   cut-refused, cut-foot-refused          the plan, or what follows it, is refused
+--   cut-left                               the plan is, and `?` hands that on
 --   Trying, trying-starts, trying-turn     the loop: the place was guessed, or it is the plan's end
 --   trying-counts                          what was read counts
 --   tries_left, trying-less                 it does not, and the text is read once more, cut at the plan's end
@@ -9,7 +10,7 @@ use mathlib.Core.Path.{◌≡◌, refl, sym, ap, ◌∙◌, subst}
 use mathlib.Core.Logic.{◌⊎◌, inl, inr}
 use mathlib.Core.List.{List, [], ◌∷◌, ◌++◌}
 use mathlib.Core.Bool.{Bool, true, false, cond, true≢false}
-use mathlib.Core.Option.{Option, none, some}
+use Rattle.std.specs.Prelude.{Option, Some, None}
 use Prim.Native.Nat.{ℕ, ◌+◌, ◌≤◌, ◌<◌}
 use native.Mathlib.Omega.{arith}
 use lib.Dec.{ltb}
@@ -19,14 +20,19 @@ use borrow.Author.Tests.{ltb-true, ltb-false}
 use Rattle.lists.specs.Filled.{zeros}
 use Rattle.limits.specs.Limits.{largest_text}
 use Rattle.refusals.specs.Refusals.{number_of}
-use Rattle.refusals.specs.declared.Outcome.{Outcome}
-use Rattle.refusals.specs.declared.Outcome.TheVariants.{Passed, Refused}
+use Rattle.refusals.specs.Outcome.{Outcome}
+use Rattle.refusals.specs.Outcome.{Passed, Refused}
 use Rattle.text_lines.specs.declared.Place.{Place}
 use Rattle.text_fields.specs.Pieces.{Pieces, last, more, pieces}
-use Rattle.text_plan.specs.Call.{refusal_of, call_of, Gives}
+use Rattle.text_plan.specs.Call.{Reading, refusal_of, reading_of, call_of, Gives}
 use Rattle.text_plan.specs.Held.{StatesPlan}
 use Rattle.text_plan.specs.Stating.{plan_text}
-use Rattle.text_plan.specs.declared.Reading.{Reading}
+use Rattle.std.specs.Prelude.{Result}
+use Rattle.std.specs.Result.{IsErrAnd}
+use Rattle.refusals.specs.declared.Refusal.{Refusal}
+use Rattle.refusals.specs.Faults.{number}
+use Rattle.text_plan.specs.declared.Stated.{Stated}
+use Rattle.text_plan.proofs.Answers.{reading-left}
 use Rattle.text_plan.proofs.Done.{done-exactly, read-good}
 use Rattle.text_owners.specs.Ending.{is_last_line, end_in, lines_in, plan_end, foot_line, PlanEnds}
 use Rattle.text_owners.specs.Owners.{owners_line, all_bytes, not_read, after_line, on_line, owners_in}
@@ -45,8 +51,8 @@ module _ (left : List ℕ) (k j : ℕ) where
   after_any vs (more l t) h = absurd (passed-refused h)
 
 line-any : (left : List ℕ) (k j : ℕ) (t : Pieces) (o : Option (List ℕ)) → Owns (on_line k t o) Passed left → Owns (on_line j t o) Passed left
-line-any left k j t none h = absurd (passed-refused h)
-line-any left k j t (some vs) h = go (all_bytes vs) h
+line-any left k j t None h = absurd (passed-refused h)
+line-any left k j t (Some vs) h = go (all_bytes vs) h
   where
     go : (b : Bool) → Owns (cond b (after_line (k + 1) vs t) (not_read 16 k)) Passed left → Owns (cond b (after_line (j + 1) vs t) (not_read 16 j)) Passed left
     go true h = after_any left (k + 1) (j + 1) vs t h
@@ -142,6 +148,13 @@ module _ (text : List ℕ) (a b c k : ℕ) (end : Place) (ready : CutReady text 
               (record { end_is = sym at-end; line-is = refl; inside = ready.place.inside; numbered = omega (arith, foot-numbered text, at-end) }) r st co va call q Passed left
               (any-line left r.m end.line (foot_line text) (pieces 10 (drop end.at text))
               (subst (λ (x : Outcome). Owns (owners_in r.m end.line (pieces 10 (drop end.at text))) x left) e h)) refl
+
+-- `?` hands on that the first part is no plan
+pub cut-left : (text : List ℕ) (a b c k : ℕ) (end : Place) → CutReady text end k → (r : Result Stated Refusal) (e : Refusal) (st co va : List ℕ) → IsErrAnd r (λ y. y ≡ e)
+    → Gives (call_of (take end.at text) a b c) (refusal_of (Refused (number e.fault) e.detail)) st co va → (ow : List ℕ) → ow ≡ zeros k → ReadsCut text end (text_call_of text a b c k) (reading_of r) st co va ow
+cut-left text a b c k end ready r e st co va left call ow w =
+    subst (λ (x : Reading). ReadsCut text end (text_call_of text a b c k) x st co va ow) (sym (reading-left r e left))
+    (cut-refused text a b c k end ready (refusal_of (Refused (number e.fault) e.detail)) st co va call refl ow w)
 
 -- ---- the loop: the text is read cut at a guess, and then at the plan's end
 

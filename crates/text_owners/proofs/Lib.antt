@@ -1,4 +1,3 @@
-pub mod Words
 pub mod Ends
 pub mod Lines
 pub mod Follows

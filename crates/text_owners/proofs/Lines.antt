@@ -5,7 +5,7 @@
 use mathlib.Core.Path.{◌≡◌, refl, sym, ap, ◌∙◌, subst}
 use mathlib.Core.Bool.{Bool, true, false, cond, ◌&&◌}
 use mathlib.Core.List.{List, [], ◌∷◌, ◌++◌, append-nil, append_assoc}
-use mathlib.Core.Option.{Option, none, some}
+use Rattle.std.specs.Prelude.{Option, Some, None, Result, Ok, Err}
 use Prim.Native.Nat.{ℕ, ◌+◌, ◌≤◌, ◌<◌}
 use native.Mathlib.Omega.{arith}
 use lib.Dec.{eqb, leb, ltb}
@@ -17,14 +17,12 @@ use Rattle.lists.proofs.Bools.{and_left, and_right}
 use Rattle.lists.proofs.Stored.{stored-none, stored_one, stored-then, stored-filled}
 use Rattle.text_fields.specs.Pieces.{pieces, first_piece}
 use Rattle.text_fields.specs.Number.{number_in}
-use Rattle.text_fields.specs.declared.numbers.Number.{Number}
-use Rattle.text_fields.specs.declared.numbers.Number.TheVariants.{Value, NotNumber}
 use Rattle.text_fields.proofs.Cuts.{piece-end, piece-last, piece-more}
 use Rattle.text_owners.specs.Owners.{is_owners_word, fields_in, with_number, field_numbers, of_length, after_word, owners_line, all_bytes}
 use Rattle.text_owners.specs.Call.{owners_length}
 use Rattle.text_owners.specs.Needs.{PutsOwner, StoredBytes, LineOwns}
-use Rattle.text_owners.specs.declared.line.OwnersLine.{OwnersLine}
-use Rattle.text_owners.specs.declared.line.OwnersLine.TheVariants.{Stated, TooLarge, NotOwners}
+use Rattle.refusals.specs.declared.Fault.{Fault}
+use Rattle.refusals.specs.declared.Fault.TheVariants.{Malformed, OwnerTooLarge}
 
 -- ---- the fields
 
@@ -53,13 +51,13 @@ fields-some l at h = rw (lt-ltb at (length l) h)
 abbrev pub word : List ℕ → List ℕ
 word l = first_piece (pieces 32 l)
 
-line_word : (m : ℕ) (l : List ℕ) → owners_line m l ≡ cond (is_owners_word (word l)) (of_length m (field_numbers (fields_from l (0 + length (word l))))) none
+line_word : (m : ℕ) (l : List ℕ) → owners_line m l ≡ cond (is_owners_word (word l)) (of_length m (field_numbers (fields_from l (0 + length (word l))))) None
 unfolding owners_line
 line_word m l = ap (after_word m) (fields-cut l (word l) 0 (omega arith) refl)
 
-pub no_word : (m : ℕ) (l owners : List ℕ) → is_owners_word (word l) ≡ false → LineOwns (owners_line m l) NotOwners owners
+pub no_word : (m : ℕ) (l owners : List ℕ) → is_owners_word (word l) ≡ false → LineOwns (owners_line m l) (Err Malformed) owners
 no_word m l owners e =
-    subst (λ (o : Option (List ℕ)). LineOwns o NotOwners owners) (sym (line_word m l ∙ ap (λ (b : Bool). cond b (of_length m (field_numbers (fields_from l (0 + length (word l))))) none) e)) refl
+    subst (λ (o : Option (List ℕ)). LineOwns o (Err Malformed) owners) (sym (line_word m l ∙ ap (λ (b : Bool). cond b (of_length m (field_numbers (fields_from l (0 + length (word l))))) None) e)) refl
 
 word-long : (w : List ℕ) → is_owners_word w ≡ true → length w ≡ 6
 unfolding is_owners_word
@@ -68,22 +66,22 @@ word-long w e = eqb-true (length w) 6 (and_left (eqb (length w) 6) _ e)
 -- ---- the numbers
 
 abbrev pub put_before : List ℕ → Option (List ℕ) → Option (List ℕ)
-put_before vs none = none
-put_before vs (some ws) = some (vs ++ ws)
+put_before vs None = None
+put_before vs (Some ws) = Some (vs ++ ws)
 
 put-none : (o : Option (List ℕ)) → put_before [] o ≡ o
-put-none none = refl
-put-none (some ws) = refl
+put-none None = refl
+put-none (Some ws) = refl
 
-put-more : (vs : List ℕ) (v : ℕ) (o : Option (List ℕ)) → put_before vs (with_number (Value v) o) ≡ put_before (vs ++ (v ∷ [])) o
-put-more vs v none = refl
-put-more vs v (some ws) = ap some (sym (append_assoc vs (v ∷ []) ws))
+put-more : (vs : List ℕ) (v : ℕ) (o : Option (List ℕ)) → put_before vs (with_number (Some v) o) ≡ put_before (vs ++ (v ∷ [])) o
+put-more vs v None = refl
+put-more vs v (Some ws) = ap Some (sym (append_assoc vs (v ∷ []) ws))
 
 -- m numbers are read, and another field follows
-put-over : (m : ℕ) (vs : List ℕ) (n : Number) (o : Option (List ℕ)) → length vs ≡ m → of_length m (put_before vs (with_number n o)) ≡ none
-put-over m vs NotNumber o h = refl
-put-over m vs (Value v) none h = refl
-put-over m vs (Value v) (some ws) h = rw (ne_eqb (length (vs ++ (v ∷ ws))) m (λ q. omega (arith, length-append vs (v ∷ ws))))
+put-over : (m : ℕ) (vs : List ℕ) (n : Option ℕ) (o : Option (List ℕ)) → length vs ≡ m → of_length m (put_before vs (with_number n o)) ≡ None
+put-over m vs None o h = refl
+put-over m vs (Some v) None h = refl
+put-over m vs (Some v) (Some ws) h = rw (ne_eqb (length (vs ++ (v ∷ ws))) m (λ q. omega (arith, length-append vs (v ∷ ws))))
 
 bytes-swap : (a b c : Bool) → (a && (b && c)) ≡ (b && (a && c))
 bytes-swap true b c = refl
@@ -115,7 +113,7 @@ listing-starts m l owners e =
       numbers = [];
       inside = omega (arith, six, piece-end 32 l (word l) 0 (omega arith) refl);
       whole =
-          line_word m l ∙ ap (λ (b : Bool). cond b (of_length m (field_numbers (fields_from l (0 + length (word l))))) none) e
+          line_word m l ∙ ap (λ (b : Bool). cond b (of_length m (field_numbers (fields_from l (0 + length (word l))))) None) e
           ∙ ap (λ (k : ℕ). of_length m (field_numbers (fields_from l k))) (let q : 0 + length (word l) ≡ 6 = omega (arith, six) in q)
           ∙ ap (of_length m) (sym (put-none (field_numbers (fields_from l 6))));
       count-is = refl;
@@ -127,7 +125,7 @@ listing-starts m l owners e =
 
 module _ {m : ℕ} {l owners₀ owners : List ℕ} {at count : ℕ} {bytes : Bool} (g : Listing m l owners₀ owners at count bytes) where
   -- what the line is, from what its numbers are
-  owns : (o : Option (List ℕ)) (r : OwnersLine) → owners_line m l ≡ o → LineOwns o r owners → LineOwns (owners_line m l) r owners
+  owns : (o : Option (List ℕ)) (r : Result (Unit {0}) Fault) → owners_line m l ≡ o → LineOwns o r owners → LineOwns (owners_line m l) r owners
   owns o r e h = subst (λ (x : Option (List ℕ)). LineOwns x r owners) (sym e) h
 
   -- a field f follows
@@ -140,18 +138,18 @@ module _ {m : ℕ} {l owners₀ owners : List ℕ} {at count : ℕ} {bytes : Boo
     next = g.whole ∙ ap (λ (fs : List (List ℕ)). of_length m (put_before g.numbers (field_numbers fs))) (fields-some l at h ∙ fields-cut l f (at + 1) (omega arith) e)
 
     -- and is no number
-    pub not-number : NotNumber ≡ number_in f → LineOwns (owners_line m l) NotOwners owners
-    not-number q = owns none NotOwners (next ∙ ap (λ (n : Number). of_length m (put_before g.numbers (with_number n (field_numbers (fields_from l (at + 1 + length f)))))) (sym q)) refl
+    pub not-number : None ≡ number_in f → LineOwns (owners_line m l) (Err Malformed) owners
+    not-number q = owns None (Err Malformed) (next ∙ ap (λ (n : Option ℕ). of_length m (put_before g.numbers (with_number n (field_numbers (fields_from l (at + 1 + length f)))))) (sym q)) refl
 
     -- or the number v, whose place is free
-    pub listing-turn : (v : ℕ) → Value v ≡ number_in f → (count ≡ m → ⊥) → (r : Bool) (owners' : List ℕ) → PutsOwner count v bytes r owners owners' → length owners' ≡ length owners
+    pub listing-turn : (v : ℕ) → Some v ≡ number_in f → (count ≡ m → ⊥) → (r : Bool) (owners' : List ℕ) → PutsOwner count v bytes r owners owners' → length owners' ≡ length owners
         → Listing m l owners₀ owners' (at + 1 + length f) (count + 1) r
     listing-turn v q free r owners' p long =
         record {
           numbers = g.numbers ++ (v ∷ []);
           inside = field_end;
           whole =
-              next ∙ ap (λ (n : Number). of_length m (put_before g.numbers (with_number n (field_numbers (fields_from l (at + 1 + length f)))))) (sym q)
+              next ∙ ap (λ (n : Option ℕ). of_length m (put_before g.numbers (with_number n (field_numbers (fields_from l (at + 1 + length f)))))) (sym q)
               ∙ ap (of_length m) (put-more g.numbers v (field_numbers (fields_from l (at + 1 + length f))));
           count-is = omega (arith, g.count-is, length-append g.numbers (v ∷ []));
           few = omega (arith, g.few, free);
@@ -164,33 +162,33 @@ module _ {m : ℕ} {l owners₀ owners : List ℕ} {at count : ℕ} {bytes : Boo
         }
 
   -- a field follows m numbers
-  pub too_many : at < length l → count ≡ m → LineOwns (owners_line m l) NotOwners owners
+  pub too_many : at < length l → count ≡ m → LineOwns (owners_line m l) (Err Malformed) owners
   too_many h q =
       let f = first_piece (pieces 32 (drop (at + 1) l)) in
-      owns none NotOwners (next h f refl ∙ put-over m g.numbers (number_in f) (field_numbers (fields_from l (at + 1 + length f))) (sym g.count-is ∙ q)) refl
+      owns None (Err Malformed) (next h f refl ∙ put-over m g.numbers (number_in f) (field_numbers (fields_from l (at + 1 + length f))) (sym g.count-is ∙ q)) refl
 
   -- no field is left
   module _ (h : length l ≤ at) where
-    all_read : owners_line m l ≡ cond (eqb (length g.numbers) m) (some g.numbers) none
+    all_read : owners_line m l ≡ cond (eqb (length g.numbers) m) (Some g.numbers) None
     unfolding field_numbers
     all_read =
         g.whole ∙ ap (λ (fs : List (List ℕ)). of_length m (put_before g.numbers (field_numbers fs))) (fields-none l at h)
-        ∙ ap (λ (vs : List ℕ). of_length m (some vs)) (append-nil g.numbers)
+        ∙ ap (λ (vs : List ℕ). of_length m (Some vs)) (append-nil g.numbers)
 
-    pub wrong-count : (count ≡ m → ⊥) → LineOwns (owners_line m l) NotOwners owners
-    wrong-count n = owns none NotOwners (all_read ∙ rw (ne_eqb (length g.numbers) m (λ q. n (g.count-is ∙ q)))) refl
+    pub wrong-count : (count ≡ m → ⊥) → LineOwns (owners_line m l) (Err Malformed) owners
+    wrong-count n = owns None (Err Malformed) (all_read ∙ rw (ne_eqb (length g.numbers) m (λ q. n (g.count-is ∙ q)))) refl
 
     module _ (q : count ≡ m) where
-      right-count : owners_line m l ≡ some g.numbers
+      right-count : owners_line m l ≡ Some g.numbers
       right-count = all_read ∙ rw (eq-eqb (length g.numbers) m (sym g.count-is ∙ q))
 
-      stored_bytes : (r : OwnersLine) → StoredBytes bytes g.numbers r owners → LineOwns (owners_line m l) r owners
-      stored_bytes r x = owns (some g.numbers) r right-count (subst (λ (b : Bool). StoredBytes b g.numbers r owners) g.bytes-are x)
+      stored_bytes : (r : Result (Unit {0}) Fault) → StoredBytes bytes g.numbers r owners → LineOwns (owners_line m l) r owners
+      stored_bytes r x = owns (Some g.numbers) r right-count (subst (λ (b : Bool). StoredBytes b g.numbers r owners) g.bytes-are x)
 
-      pub all-stated : m ≤ owners_length → owners₀ ≡ zeros owners_length → bytes ≡ true → LineOwns (owners_line m l) Stated owners
+      pub all-stated : m ≤ owners_length → owners₀ ≡ zeros owners_length → bytes ≡ true → LineOwns (owners_line m l) (Ok tt) owners
       all-stated limit cleared b =
-          stored_bytes Stated
-          (subst (λ (x : Bool). StoredBytes x g.numbers Stated owners) (sym b) (refl, stored-filled owners_length (omega (arith, g.count-is)) cleared (g.stored b)))
+          stored_bytes (Ok tt)
+          (subst (λ (x : Bool). StoredBytes x g.numbers (Ok tt) owners) (sym b) (refl, stored-filled owners_length (omega (arith, g.count-is)) cleared (g.stored b)))
 
-      pub one-too-large : bytes ≡ false → LineOwns (owners_line m l) TooLarge owners
-      one-too-large b = stored_bytes TooLarge (subst (λ (x : Bool). StoredBytes x g.numbers TooLarge owners) (sym b) refl)
+      pub one-too-large : bytes ≡ false → LineOwns (owners_line m l) (Err OwnerTooLarge) owners
+      one-too-large b = stored_bytes (Err OwnerTooLarge) (subst (λ (x : Bool). StoredBytes x g.numbers (Err OwnerTooLarge) owners) (sym b) refl)

@@ -27,8 +27,8 @@ use Rattle.lists.specs.Members.{Member}
 use Rattle.limits.specs.Limits.{largest_text, starts_length}
 use Rattle.refusals.specs.Table.{wrong_length, owner_too_large, text_faults}
 use Rattle.refusals.specs.Refusals.{number_of, NumberFrom}
-use Rattle.refusals.specs.declared.Outcome.{Outcome}
-use Rattle.refusals.specs.declared.Outcome.TheVariants.{Passed, Refused}
+use Rattle.refusals.specs.Outcome.{Outcome}
+use Rattle.refusals.specs.Outcome.{Passed, Refused}
 use Rattle.refusals.proofs.Refusals.{RefusedBy, number-from}
 use Rattle.residue.specs.Signed.{residue_of}
 use Rattle.sparse.specs.Matrix.{compressed, matrix}
@@ -36,7 +36,7 @@ use Rattle.call_plan.specs.Accepted.{GoodPlan}
 use Rattle.text_fields.specs.Pieces.{pieces}
 use Rattle.text_judge.specs.declared.judge.Sizes.{Sizes}
 use Rattle.text_opening.specs.Reading.{Entry, accepted, read_of}
-use Rattle.text_plan.specs.declared.Reading.{Reading}
+use Rattle.text_plan.specs.Call.{Reading}
 use Rattle.text_plan.specs.Rising.{read_rising_of}
 use Rattle.text_plan.specs.Stating.{StatedEntry, Plan, plan_text, integer_of}
 use Rattle.text_plan.specs.Call.{ReadAnswer, refusal_of, answer_rising_of, call_of, Gives}

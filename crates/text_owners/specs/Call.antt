@@ -11,11 +11,11 @@ use Rattle.std.specs.Prelude.{ℕ, ◌≡◌, List, cond, eqb}
 use Rattle.lists.specs.Filled.{zeros, filled}
 use Rattle.limits.specs.Limits.{largest_size}
 use Rattle.refusals.specs.Table.{wrong_length}
-use Rattle.refusals.specs.declared.Outcome.{Outcome}
-use Rattle.refusals.specs.declared.Outcome.TheVariants.{Passed, Refused}
+use Rattle.refusals.specs.Outcome.{Outcome}
+use Rattle.refusals.specs.Outcome.{Passed, Refused}
 use Rattle.text_fields.specs.Pieces.{pieces}
 use Rattle.text_plan.specs.Call.{ReadAnswer, refuses, call_of, Gives}
-use Rattle.text_plan.specs.declared.Reading.{Reading}
+use Rattle.text_plan.specs.Call.{Reading}
 use Rattle.text_owners.specs.Ending.{plan_part, foot_part, foot_line}
 use Rattle.text_owners.specs.Owners.{OwnersRead, not_read, owned, owners_in}
 

@@ -5,10 +5,10 @@
 --   counts exact o           whether the outcome o counts, where `exact` says that the text was cut at the plan's end
 use Rattle.std.specs.Prelude.{ℕ, ◌+◌, ◌≤◌, ◌<◌, ◌≡◌, Bool, true, false, List, length}
 use Rattle.limits.specs.Limits.{largest_text}
-use Rattle.refusals.specs.declared.Outcome.{Outcome}
-use Rattle.refusals.specs.declared.Outcome.TheVariants.{Passed, Refused}
+use Rattle.refusals.specs.Outcome.{Outcome}
+use Rattle.refusals.specs.Outcome.{Passed, Refused}
 use Rattle.text_lines.specs.declared.Place.{Place}
-use Rattle.text_plan.specs.declared.Reading.{Reading}
+use Rattle.text_plan.specs.Call.{Reading}
 use Rattle.text_owners.specs.Ending.{PlanEnds}
 use Rattle.text_owners.specs.Call.{owners_length, TextAnswer, GivesText}
 

@@ -6,16 +6,16 @@
 --   LineOwns o r owners              what reading the line returns and leaves, where its numbers are o
 --   Owns f r owners                  what reading all that follows the plan returns and leaves, where it is read as f
 use Rattle.std.specs.Prelude.{ℕ, ◌+◌, ◌≤◌, ◌≡◌, Bool, true, false, ◌&&◌, List, leb, length, set}
-use Rattle.std.proofs.Math.Option.{Option, none, some}
+use Rattle.std.specs.Prelude.{Option, Some, None, Result, Ok, Err}
 use Rattle.lists.specs.Filled.{zeros, filled}
 use Rattle.limits.specs.Limits.{largest_size, largest_text}
-use Rattle.refusals.specs.declared.Outcome.{Outcome}
-use Rattle.refusals.specs.declared.Outcome.TheVariants.{Passed, Refused}
+use Rattle.refusals.specs.Outcome.{Outcome}
+use Rattle.refusals.specs.Outcome.{Passed, Refused}
 use Rattle.text_lines.specs.declared.Place.{Place}
 use Rattle.text_owners.specs.Owners.{all_bytes, OwnersRead, not_read, owned}
 use Rattle.text_owners.specs.Call.{owners_length}
-use Rattle.text_owners.specs.declared.line.OwnersLine.{OwnersLine}
-use Rattle.text_owners.specs.declared.line.OwnersLine.TheVariants.{Stated, TooLarge, NotOwners}
+use Rattle.refusals.specs.declared.Fault.{Fault}
+use Rattle.refusals.specs.declared.Fault.TheVariants.{Malformed, OwnerTooLarge}
 
 pub record FootReady (text : List ℕ) (from : Place) (m : ℕ) (owners : List ℕ) : Type 0 where
   pub place : from.at ≤ length text
@@ -33,13 +33,13 @@ pub record PutsOwner (word v : ℕ) (bytes r : Bool) (owners owners' : List ℕ)
   pub bytes-are : r ≡ (leb v 255 && bytes)
   pub stored : leb v 255 ≡ true → owners' ≡ set owners word v
 
-abbrev pub StoredBytes : Bool → List ℕ → OwnersLine → List ℕ → Type 0
-StoredBytes true vs r owners = (r ≡ Stated) × (owners ≡ filled owners_length vs)
-StoredBytes false vs r owners = r ≡ TooLarge
+abbrev pub StoredBytes : Bool → List ℕ → Result (Unit {0}) Fault → List ℕ → Type 0
+StoredBytes true vs r owners = (r ≡ Ok tt) × (owners ≡ filled owners_length vs)
+StoredBytes false vs r owners = r ≡ Err OwnerTooLarge
 
-abbrev pub LineOwns : Option (List ℕ) → OwnersLine → List ℕ → Type 0
-LineOwns none r owners = r ≡ NotOwners
-LineOwns (some vs) r owners = StoredBytes (all_bytes vs) vs r owners
+abbrev pub LineOwns : Option (List ℕ) → Result (Unit {0}) Fault → List ℕ → Type 0
+LineOwns None r owners = r ≡ Err Malformed
+LineOwns (Some vs) r owners = StoredBytes (all_bytes vs) vs r owners
 
 abbrev pub Owns : OwnersRead → Outcome → List ℕ → Type 0
 Owns (not_read number detail) r owners = r ≡ Refused number detail

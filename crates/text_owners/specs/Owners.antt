@@ -13,12 +13,10 @@
 --                        the line of the owners and nothing after it
 --   on_line, after_line    what the numbers of the line lead to, and what follows it
 use Rattle.std.specs.Prelude.{ℕ, ◌+◌, Bool, true, cond, ◌&&◌, List, [], ◌∷◌, eqb, leb, length, get_or, replicate}
-use Rattle.std.proofs.Math.Option.{Option, none, some}
+use Rattle.std.specs.Prelude.{Option, Some, None}
 use Rattle.refusals.specs.Table.{malformed, owner_too_large}
 use Rattle.text_fields.specs.Pieces.{Pieces, last, more, pieces}
 use Rattle.text_fields.specs.Number.{number_in}
-use Rattle.text_fields.specs.declared.numbers.Number.{Number}
-use Rattle.text_fields.specs.declared.numbers.Number.TheVariants.{Value, NotNumber}
 
 unfoldable pub is_owners_word : List ℕ → Bool
 is_owners_word w =
@@ -34,22 +32,22 @@ unfoldable pub fields_in : Pieces → List (List ℕ)
 fields_in (last f) = f ∷ []
 fields_in (more f t) = f ∷ fields_in t
 
-abbrev pub with_number : Number → Option (List ℕ) → Option (List ℕ)
-with_number NotNumber vs = none
-with_number (Value v) none = none
-with_number (Value v) (some vs) = some (v ∷ vs)
+abbrev pub with_number : Option ℕ → Option (List ℕ) → Option (List ℕ)
+with_number None vs = None
+with_number (Some v) None = None
+with_number (Some v) (Some vs) = Some (v ∷ vs)
 
 unfoldable pub field_numbers : List (List ℕ) → Option (List ℕ)
-field_numbers [] = some []
+field_numbers [] = Some []
 field_numbers (f ∷ fs) = with_number (number_in f) (field_numbers fs)
 
 abbrev pub of_length : ℕ → Option (List ℕ) → Option (List ℕ)
-of_length m none = none
-of_length m (some vs) = cond (eqb (length vs) m) (some vs) none
+of_length m None = None
+of_length m (Some vs) = cond (eqb (length vs) m) (Some vs) None
 
 abbrev pub after_word : ℕ → List (List ℕ) → Option (List ℕ)
-after_word m [] = none
-after_word m (w ∷ fs) = cond (is_owners_word w) (of_length m (field_numbers fs)) none
+after_word m [] = None
+after_word m (w ∷ fs) = cond (is_owners_word w) (of_length m (field_numbers fs)) None
 
 unfoldable pub owners_line : ℕ → List ℕ → Option (List ℕ)
 owners_line m l = after_word m (fields_in (pieces 32 l))
@@ -68,8 +66,8 @@ after_line k vs (last (b ∷ bs)) = not_read malformed k
 after_line k vs (more l t) = not_read malformed k
 
 abbrev pub on_line : ℕ → Pieces → Option (List ℕ) → OwnersRead
-on_line k rest none = not_read malformed k
-on_line k rest (some vs) = cond (all_bytes vs) (after_line (k + 1) vs rest) (not_read owner_too_large k)
+on_line k rest None = not_read malformed k
+on_line k rest (Some vs) = cond (all_bytes vs) (after_line (k + 1) vs rest) (not_read owner_too_large k)
 
 unfoldable pub owners_in : (m k : ℕ) → Pieces → OwnersRead
 owners_in m k (last []) = owned (replicate m 1)

@@ -6,32 +6,19 @@ use limits::LARGEST_TEXT;
 use text_fields::pieces::piece;
 use text_lines::Place;
 
-const ZERO: u8 = 48;
-
-const SPACE: u8 = 32;
-
-const LINE_FEED: u8 = 10;
+const LINE_FEED: u8 = b'\n';
 
 // Whether a line is `0 0 0`.
+#[tactic(auto, unfolding(crate::specs::Ending::is_last_line))]
 fn is_last(line: &[u8]) -> bool
     ensures { result ≡ is_last_line line.now }
 {
-    if line.len() != 5 {
-        return false;
-    }
-    if line[0] != ZERO {
-        return false;
-    }
-    if line[1] != SPACE {
-        return false;
-    }
-    if line[2] != ZERO {
-        return false;
-    }
-    if line[3] != SPACE {
-        return false;
-    }
-    line[4] == ZERO
+    line.len() == 5
+        && line[0] == b'0'
+        && line[1] == b' '
+        && line[2] == b'0'
+        && line[3] == b' '
+        && line[4] == b'0'
 }
 
 // The place after the first line `0 0 0`, and the number of the line there; the text's end where there is none.
@@ -41,6 +28,7 @@ pub fn end_in(text: &[u8]) -> Place
 {
     let mut at = 0;
     let mut line: u32 = 1;
+    // A while: only the end of a line says where the next one starts.
     while at < text.len() {
         let l = piece(text, at, LINE_FEED);
         let end = at + l.len();

@@ -4,18 +4,18 @@
 #![tactic(auto)]
 
 ghost use Rattle.std.specs.Prelude.{◌≡◌, length};
+ghost use Rattle.text_plan.specs.Call.{reading_of};
 ghost use Rattle.text_owners.specs.Call.{text_call_of, GivesText};
 ghost use Rattle.text_owners.specs.Cut.{counts};
 
-use cut::{read_cut, refusal};
+use cut::read_cut;
 use ending::plan_end;
 use limits::SIZE_CELLS;
 use lists::{clear, clear_bytes};
 use quick::quick_end;
-use refusals::Outcome;
-use refusals::numbers::WRONG_LENGTH;
+use refusals::{Fault, Refusal};
 use text_lines::Place;
-use text_plan::Reading;
+use text_plan::Stated;
 
 pub mod cut;
 pub mod ending;
@@ -24,49 +24,43 @@ pub mod line;
 pub mod quick;
 
 // Whether what was read counts: the text was cut at the plan's end, or it passed.
-fn does_count(exact: bool, outcome: Outcome) -> bool
-    ensures { result ≡ counts exact outcome }
+fn does_count(exact: bool, read: &Result<Stated, Refusal>) -> bool
+    ensures { result ≡ counts exact (reading_of read.now).outcome }
 {
-    if exact {
-        return true;
-    }
-    match outcome {
-        Outcome::Passed => true,
-        Outcome::Refused(_, _) => false,
-    }
+    exact || read.is_ok()
 }
 
 // Reads a plan text with the owners of its words.
 //   takes    a text; 2,049 row starts, columns and values of one length, and 2,048 owners, all lent
 //   gives    the modulus, the sizes and the number of entries; the plan and the owners in the lent lists, zero past their ends
 //   refuses  9 for a wrong length; 2 for a longer text; then the first line at fault: 3, then 1, 2, or 4, 5, 6, 7; on the line of owners 3, then 16
-//   leaves   after a refusal every number 0 and every lent list all zero; the text is only read
+//   leaves   after a refusal every lent list all zero; the text is only read
 pub fn read(
     text: &[u8],
     starts: &mut [u32],
     cols: &mut [u32],
     vals: &mut [u32],
     owners: &mut [u8],
-) -> Reading
-    ensures { GivesText (text_call_of text.now (length starts.old) (length cols.old) (length vals.old) (length owners.old)) result starts.new cols.new vals.new owners.new }
+) -> Result<Stated, Refusal>
+    ensures { GivesText (text_call_of text.now (length starts.old) (length cols.old) (length vals.old) (length owners.old)) (reading_of result) starts.new cols.new vals.new owners.new }
 {
     if owners.len() != SIZE_CELLS {
         clear(starts);
         clear(cols);
         clear(vals);
         clear_bytes(owners);
-        return refusal(Outcome::Refused(WRONG_LENGTH, 0));
+        return Err(Fault::WrongLength.into());
     }
     let mut end = Place {
         at: quick_end(text),
         line: 1,
     };
     let mut exact = false;
+    // A while: one call of `read_cut` in a loop is expanded in its place, and two calls in a row are not, which is slower.
     loop {
-        let r = read_cut(text, end, starts, cols, vals, owners);
-        let outcome = r.outcome;
-        if does_count(exact, outcome) {
-            return r;
+        let read = read_cut(text, end, starts, cols, vals, owners);
+        if does_count(exact, &read) {
+            return read;
         }
         end = plan_end(text);
         exact = true;

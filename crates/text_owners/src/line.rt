@@ -4,45 +4,27 @@ ghost use Rattle.text_fields.specs.Pieces.{pieces, first_piece};
 ghost use Rattle.text_owners.specs.Owners.{is_owners_word, owners_line};
 ghost use Rattle.text_owners.specs.Needs.{PutsOwner, OwnersLineReady, LineOwns};
 
-use text_fields::numbers::{Number, number_of};
+use refusals::Fault;
+use text_fields::numbers::number_of;
 use text_fields::pieces::piece;
 
-const SPACE: u8 = 32;
+const SPACE: u8 = b' ';
 
 // The largest owner: one byte.
 const LARGEST_OWNER: u64 = 255;
 
-// What a line says: an owner for each word, the same with one that is no byte, or something else.
-#[derive(Clone, Copy)]
-pub enum OwnersLine {
-    Stated,
-    TooLarge,
-    NotOwners,
-}
-
 // Whether a field is the word `owners`.
+#[tactic(auto, unfolding(crate::specs::Owners::is_owners_word))]
 fn is_owners_word(word: &[u8]) -> bool
     ensures { result ≡ is_owners_word word.now }
 {
-    if word.len() != 6 {
-        return false;
-    }
-    if word[0] != b'o' {
-        return false;
-    }
-    if word[1] != b'w' {
-        return false;
-    }
-    if word[2] != b'n' {
-        return false;
-    }
-    if word[3] != b'e' {
-        return false;
-    }
-    if word[4] != b'r' {
-        return false;
-    }
-    word[5] == b's'
+    word.len() == 6
+        && word[0] == b'o'
+        && word[1] == b'w'
+        && word[2] == b'n'
+        && word[3] == b'e'
+        && word[4] == b'r'
+        && word[5] == b's'
 }
 
 // Whether the first field of a line is the word `owners`.
@@ -64,34 +46,35 @@ fn put_owner(owners: &mut [u8], word: u32, v: u64, bytes: bool) -> bool
     bytes
 }
 
-// Reads the line of m owners into bytes that are all zero.
-pub fn read_line(l: &[u8], m: u32, owners: &mut [u8]) -> OwnersLine
+// Reads the line of m owners into bytes that are all zero: 3 where it is another line, 16 where an owner is no byte.
+pub fn read_line(l: &[u8], m: u32, owners: &mut [u8]) -> Result<(), Fault>
     requires { OwnersLineReady l.now m owners.old }
     ensures { LineOwns (owners_line m l.now) result owners.new }
 {
     if !begins_owners(l) {
-        return OwnersLine::NotOwners;
+        return Err(Fault::Malformed);
     }
     let mut at = 6;
     let mut count: u32 = 0;
     let mut bytes = true;
+    // A while: only the end of a field says where the next one starts.
     while at < l.len() {
         if count == m {
-            return OwnersLine::NotOwners;
+            return Err(Fault::Malformed);
         }
         let field = piece(l, at + 1, SPACE);
-        let Number::Value(v) = number_of(field) else {
-            return OwnersLine::NotOwners;
+        let Some(v) = number_of(field) else {
+            return Err(Fault::Malformed);
         };
         bytes = put_owner(owners, count, v, bytes);
         count += 1;
         at = at + 1 + field.len();
     }
     if count != m {
-        return OwnersLine::NotOwners;
+        return Err(Fault::Malformed);
     }
-    if bytes {
-        return OwnersLine::Stated;
+    if !bytes {
+        return Err(Fault::OwnerTooLarge);
     }
-    OwnersLine::TooLarge
+    Ok(())
 }

@@ -5,21 +5,17 @@ ghost use Rattle.text_owners.specs.Cut.{QuickEnd};
 use crate::line::begins_owners;
 use limits::LARGEST_TEXT;
 
-const LINE_FEED: u8 = 10;
+const LINE_FEED: u8 = b'\n';
 
 // Where the line that ends at `end` starts.
 fn line_start(text: &[u8], end: usize) -> usize
     requires { end ≤ length text.now }
     ensures { result ≤ end }
 {
-    let mut at = end;
-    while 0 < at {
-        if text[at - 1] == LINE_FEED {
-            return at;
-        }
-        at -= 1;
+    match text[..end].iter().rposition(|b| *b == LINE_FEED) {
+        Some(feed) => feed + 1,
+        None => 0,
     }
-    at
 }
 
 // The place of the last line, where it begins with the word `owners`; else the text's end. A text above the limit is not looked at, as reading
@@ -28,10 +24,7 @@ pub fn quick_end(text: &[u8]) -> usize
     ensures { QuickEnd text.now result }
 {
     let size = text.len();
-    if LARGEST_TEXT < size {
-        return size;
-    }
-    if size == 0 {
+    if LARGEST_TEXT < size || size == 0 {
         return size;
     }
     let at = line_start(text, size - 1);

@@ -11,23 +11,20 @@ use Rattle.lists.proofs.Bools.{and_left, and_right}
 use Rattle.text_fields.specs.Pieces.{Pieces, last, more, pieces, joined}
 use Rattle.text_fields.specs.Number.{number_in, signed_of, is_negative, magnitude}
 use Rattle.text_fields.specs.Decimal.{decimal, Proper}
-use Rattle.text_fields.specs.declared.numbers.Number.{Number}
-use Rattle.text_fields.specs.declared.numbers.Number.TheVariants.{Value, NotNumber}
+use Rattle.std.specs.Prelude.{Option, Some, None}
 use Rattle.text_fields.specs.declared.numbers.Signed.{Signed}
-use Rattle.text_fields.specs.declared.numbers.Signed.TheVariants.{Plus, Minus, NotSigned}
+use Rattle.text_fields.specs.declared.numbers.Signed.TheVariants.{Plus}
 use Rattle.text_fields.proofs.Canonical.{number-prints}
 use Rattle.text_fields.proofs.CanonicalSigned.{signed-prints}
 use Rattle.text_fields.proofs.Joins.{joined-pieces}
 use Rattle.residue.specs.Range.{is_modulus}
 use Rattle.residue.proofs.Signed.{residue-value}
-use Rattle.text_judge.specs.declared.line.Line.TheVariants.{Triple, NotTriple}
+use Rattle.text_judge.specs.declared.line.Triple.{Triple}
 use Rattle.text_judge.specs.declared.header.Header.{Header}
-use Rattle.text_judge.specs.declared.header.Header.TheVariants.{Given, NotHeader}
 use Rattle.text_judge.specs.declared.judge.Sizes.{Sizes}
-use Rattle.text_judge.specs.declared.judge.Verdict.{Verdict}
-use Rattle.text_judge.specs.declared.judge.Verdict.TheVariants.{Refused, Last, Entry as AnEntry}
+use Rattle.text_judge.specs.Judge.{Verdict, Refused, Last, Entry as AnEntry}
 use Rattle.limits.specs.Limits.{largest_size, largest_text}
-use Rattle.text_judge.specs.Line.{fields_of, line_of, line_in, line_with, header_of, header_in, header_with, is_m}
+use Rattle.text_judge.specs.Line.{fields_of, with_signed, line_of, line_in, line_with, header_of, header_in, header_with, is_m}
 use Rattle.text_judge.specs.Judge.{may_stand}
 use Rattle.text_opening.specs.Reading.{Entry, refused, accepted, kept, fresh, verdict_on, ending, onward, triples, with_sizes, from_second, with_modulus, from_first, read_by, read_of}
 use Rattle.text_plan.specs.Stating.{StatedEntry, triple_text, sizes_text, triple_lines, plan_text, entry_of, StandApart, States}
@@ -45,37 +42,37 @@ pub record Spelt (l : List ℕ) (i j : ℕ) (v : Signed) : Type 0 where
   pub text : l ≡ triple_text (record { row = i; column = j; value = v })
   pub proper : Proper v
 
-no-triple : {A : Type 0} {i j : ℕ} {v : Signed} → NotTriple ≡ Triple i j v → A
+no-triple : {A : Type 0} {i j : ℕ} {v : Signed} → None ≡ with_signed i j (Some v) → A
 no-triple e = let z : ◌≡◌ {A = ℕ} 0 1 = cc in absurd (omega arith)
 
 -- the three numbers of a triple
-record Numbers (a b : Number) (c : Signed) (i j : ℕ) (v : Signed) : Type 0 where
-  first : a ≡ Value i
-  second : b ≡ Value j
-  third : c ≡ v
-  written : v ≡ NotSigned → ⊥
+record Numbers (a b : Option ℕ) (c : Option Signed) (i j : ℕ) (v : Signed) : Type 0 where
+  first : a ≡ Some i
+  second : b ≡ Some j
+  third : c ≡ Some v
 
-triple-parts : {a b i j : ℕ} {v w : Signed} → Triple a b w ≡ Triple i j v → (a ≡ i) × (b ≡ j) × (w ≡ v)
-triple-parts e = (cc, cc, cc)
+triple-parts : {a b i j : ℕ} {v w : Signed} → with_signed a b (Some w) ≡ with_signed i j (Some v) → (a ≡ i) × (b ≡ j) × (w ≡ v)
+triple-parts {a} {b} {i} {j} {v} {w} e =
+    let parts : ◌≡◌ {A = Triple} (record { i = a; j = b; v = w }) (record { i = i; j = j; v = v }) = cc in
+    (ap (λ (t : Triple). t.i) parts, ap (λ (t : Triple). t.j) parts, ap (λ (t : Triple). t.v) parts)
 
-numbers_of : (a b : Number) (c : Signed) (i j : ℕ) (v : Signed) → line_with a b c ≡ Triple i j v → Numbers a b c i j v
-numbers_of (Value a) (Value b) (Plus n) i j v e = record { first = ap Value (triple-parts e).0; second = ap Value (triple-parts e).1; third = (triple-parts e).2; written = λ q. let z : ◌≡◌ {A = ℕ} 0 1 = cc in omega arith }
-numbers_of (Value a) (Value b) (Minus n) i j v e = record { first = ap Value (triple-parts e).0; second = ap Value (triple-parts e).1; third = (triple-parts e).2; written = λ q. let z : ◌≡◌ {A = ℕ} 0 1 = cc in omega arith }
-numbers_of (Value a) (Value b) NotSigned i j v e = no-triple e
-numbers_of (Value a) NotNumber c i j v e = no-triple e
-numbers_of NotNumber b c i j v e = no-triple e
+numbers_of : (a b : Option ℕ) (c : Option Signed) (i j : ℕ) (v : Signed) → line_with a b c ≡ with_signed i j (Some v) → Numbers a b c i j v
+numbers_of (Some a) (Some b) (Some c) i j v e = record { first = ap Some (triple-parts e).0; second = ap Some (triple-parts e).1; third = ap Some (triple-parts e).2 }
+numbers_of (Some a) (Some b) None i j v e = no-triple e
+numbers_of (Some a) None c i j v e = no-triple e
+numbers_of None b c i j v e = no-triple e
 
-pub line-prints : (l : List ℕ) (i j : ℕ) (v : Signed) → line_of l ≡ Triple i j v → Spelt l i j v
+pub line-prints : (l : List ℕ) (i j : ℕ) (v : Signed) → line_of l ≡ with_signed i j (Some v) → Spelt l i j v
 unfolding line_of fields_of triple_text joined
 line-prints l i j v e = go (pieces 32 l) refl e
   where
-    go : (p : Pieces) → pieces 32 l ≡ p → line_in (fields_of p) ≡ Triple i j v → Spelt l i j v
+    go : (p : Pieces) → pieces 32 l ≡ p → line_in (fields_of p) ≡ with_signed i j (Some v) → Spelt l i j v
     go (last a) q x = no-triple x
     go (more a (last b)) q x = no-triple x
     go (more a (more b (more c t))) q x = no-triple x
     go (more a (more b (last c))) q x =
         let f = numbers_of (number_in a) (number_in b) (signed_of c) i j v x in
-        let w = signed-prints c v f.third f.written in
+        let w = signed-prints c v f.third in
         let ea : a ≡ decimal i = (number-prints a i f.first).1 in
         let eb : b ≡ decimal j = (number-prints b j f.second).1 in
         record { text = sym (joined-pieces 32 l) ∙ ap (joined 32) q ∙ rw (ea, eb, w.1); proper = w.2 }
@@ -139,7 +136,10 @@ unfolding kept
 triples-sizes s s' room p k out e = (triples-back s s' room p k [] out zero-le e).sizes
 
 -- ---- the first two lines
-no_header : {A : Type 0} {n m : ℕ} → NotHeader ≡ Given n m → A
+abbrev given : ℕ → ℕ → Option Header
+given n m = Some (record { n = n; m = m })
+
+no_header : {A : Type 0} {n m : ℕ} → None ≡ given n m → A
 no_header e = let z : ◌≡◌ {A = ℕ} 0 1 = cc in absurd (omega arith)
 
 is_m_lem : (l : List ℕ) → is_m l ≡ true → l ≡ 77 ∷ []
@@ -147,17 +147,19 @@ is_m_lem [] e = false-true e
 is_m_lem (b ∷ []) e = ap (λ (k : ℕ). k ∷ []) (eqb-true b 77 e)
 is_m_lem (b ∷ c ∷ cs) e = false-true e
 
-header-parts : (a b : Number) (c : Bool) (n m : ℕ) → header_with a b c ≡ Given n m → (a ≡ Value n) × (b ≡ Value m) × (c ≡ true)
-header-parts (Value x) (Value y) true n m e = (cc, cc, refl)
-header-parts (Value x) (Value y) false n m e = no_header e
-header-parts (Value x) NotNumber c n m e = no_header e
-header-parts NotNumber b c n m e = no_header e
+header-parts : (a b : Option ℕ) (c : Bool) (n m : ℕ) → header_with a b c ≡ given n m → (a ≡ Some n) × (b ≡ Some m) × (c ≡ true)
+header-parts (Some x) (Some y) true n m e =
+    let parts : ◌≡◌ {A = Header} (record { n = x; m = y }) (record { n = n; m = m }) = cc in
+    (ap (λ (h : Header). Some h.n) parts, ap (λ (h : Header). Some h.m) parts, refl)
+header-parts (Some x) (Some y) false n m e = no_header e
+header-parts (Some x) None c n m e = no_header e
+header-parts None b c n m e = no_header e
 
-header-prints : (l : List ℕ) (s : Sizes) → header_of l ≡ Given s.n s.m → l ≡ sizes_text s
+header-prints : (l : List ℕ) (s : Sizes) → header_of l ≡ given s.n s.m → l ≡ sizes_text s
 unfolding header_of fields_of sizes_text joined
 header-prints l s e = go (pieces 32 l) refl e
   where
-    go : (p : Pieces) → pieces 32 l ≡ p → header_in (fields_of p) ≡ Given s.n s.m → l ≡ sizes_text s
+    go : (p : Pieces) → pieces 32 l ≡ p → header_in (fields_of p) ≡ given s.n s.m → l ≡ sizes_text s
     go (last a) q x = no_header x
     go (more a (last b)) q x = no_header x
     go (more a (more b (more c t))) q x = no_header x
@@ -166,8 +168,8 @@ header-prints l s e = go (pieces 32 l) refl e
         sym (joined-pieces 32 l) ∙ ap (joined 32) q ∙ rw ((number-prints a s.n f.0).1, (number-prints b s.m f.1).1, is_m_lem c f.2)
 
 -- ---- the whole text
-closes : (room : ℕ) (s s' : Sizes) (text l l₂ : List ℕ) (rest : Pieces) (out : List Entry) → length text ≤ largest_text → pieces 10 text ≡ more l (more l₂ rest) → number_in l ≡ Value s.modulus.p
-    → is_modulus s.modulus.p ≡ true → header_of l₂ ≡ Given s.n s.m → s.n ≤ largest_size → s.m ≤ largest_size → triples fresh s room 3 [] rest ≡ accepted s' out → States room s' text out
+closes : (room : ℕ) (s s' : Sizes) (text l l₂ : List ℕ) (rest : Pieces) (out : List Entry) → length text ≤ largest_text → pieces 10 text ≡ more l (more l₂ rest) → number_in l ≡ Some s.modulus.p
+    → is_modulus s.modulus.p ≡ true → header_of l₂ ≡ given s.n s.m → s.n ≤ largest_size → s.m ≤ largest_size → triples fresh s room 3 [] rest ≡ accepted s' out → States room s' text out
 unfolding plan_text kept
 closes room s s' text l l₂ rest out short cut num prime head hn hm e =
     let b = triples-back s s' room rest 3 [] out zero-le e in
@@ -182,24 +184,24 @@ closes room s s' text l l₂ rest out short cut num prime head hn hm e =
     })
 
 module _ (room : ℕ) (s : Sizes) (text : List ℕ) (out : List Entry) (short : length text ≤ largest_text) where
-  sizes-back : (p : ℕ) (l l₂ : List ℕ) (rest : Pieces) → pieces 10 text ≡ more l (more l₂ rest) → number_in l ≡ Value p → is_modulus p ≡ true
-      → (h : Header) → header_of l₂ ≡ h → with_sizes fresh p room rest h ≡ accepted s out → States room s text out
-  sizes-back p l l₂ rest c n m NotHeader q e = refused-not e
-  sizes-back p l l₂ rest c n m (Given a b) q e = go (leb a largest_size && leb b largest_size) refl e
+  sizes-back : (p : ℕ) (l l₂ : List ℕ) (rest : Pieces) → pieces 10 text ≡ more l (more l₂ rest) → number_in l ≡ Some p → is_modulus p ≡ true
+      → (h : Option Header) → header_of l₂ ≡ h → with_sizes fresh p room rest h ≡ accepted s out → States room s text out
+  sizes-back p l l₂ rest c n m None q e = refused-not e
+  sizes-back p l l₂ rest c n m (Some h) q e = go (leb h.n largest_size && leb h.m largest_size) refl e
     where
-      go : (t : Bool) → (leb a largest_size && leb b largest_size) ≡ t → cond t (triples fresh (record { modulus = record { p = p }; n = a; m = b }) room 3 [] rest) (refused 2 0) ≡ accepted s out → States room s text out
+      go : (t : Bool) → (leb h.n largest_size && leb h.m largest_size) ≡ t → cond t (triples fresh (record { modulus = record { p = p }; n = h.n; m = h.m }) room 3 [] rest) (refused 2 0) ≡ accepted s out → States room s text out
       go true t x =
-          closes room (record { modulus = record { p = p }; n = a; m = b }) s text l l₂ rest out short c n m q
-          (leb-true a largest_size (and_left (leb a largest_size) (leb b largest_size) t)) (leb-true b largest_size (and_right (leb a largest_size) (leb b largest_size) t)) x
+          closes room (record { modulus = record { p = p }; n = h.n; m = h.m }) s text l l₂ rest out short c n m q
+          (leb-true h.n largest_size (and_left (leb h.n largest_size) (leb h.m largest_size) t)) (leb-true h.m largest_size (and_right (leb h.n largest_size) (leb h.m largest_size) t)) x
       go false t x = refused-not x
 
-  second_back : (p : ℕ) (l : List ℕ) (rest : Pieces) → pieces 10 text ≡ more l rest → number_in l ≡ Value p → is_modulus p ≡ true → from_second fresh p room rest ≡ accepted s out → States room s text out
+  second_back : (p : ℕ) (l : List ℕ) (rest : Pieces) → pieces 10 text ≡ more l rest → number_in l ≡ Some p → is_modulus p ≡ true → from_second fresh p room rest ≡ accepted s out → States room s text out
   second_back p l (last l₂) c n m e = refused-not e
   second_back p l (more l₂ rest) c n m e = sizes-back p l l₂ rest c n m (header_of l₂) refl e
 
-  modulus-back : (l : List ℕ) (rest : Pieces) → pieces 10 text ≡ more l rest → (n : Number) → number_in l ≡ n → with_modulus fresh room rest n ≡ accepted s out → States room s text out
-  modulus-back l rest c NotNumber n e = refused-not e
-  modulus-back l rest c (Value p) n e = go (is_modulus p) refl e
+  modulus-back : (l : List ℕ) (rest : Pieces) → pieces 10 text ≡ more l rest → (n : Option ℕ) → number_in l ≡ n → with_modulus fresh room rest n ≡ accepted s out → States room s text out
+  modulus-back l rest c None n e = refused-not e
+  modulus-back l rest c (Some p) n e = go (is_modulus p) refl e
     where
       go : (t : Bool) → is_modulus p ≡ t → cond t (from_second fresh p room rest) (refused 1 0) ≡ accepted s out → States room s text out
       go true t x = second_back p l rest c n t x

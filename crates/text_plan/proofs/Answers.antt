@@ -1,25 +1,41 @@
 -- From what the steps of reading return to the call's answer.
-use mathlib.Core.Path.{◌≡◌, sym, ap, ◌∙◌, subst}
+use mathlib.Core.Path.{◌≡◌, refl, sym, ap, ◌∙◌, subst}
 use mathlib.Core.List.{List, []}
+use mathlib.Core.Bool.{Bool, true, false}
 use Prim.Native.Nat.{ℕ, ◌≤◌, ◌<◌}
+use Rattle.std.specs.Prelude.{Result, Ok, Err}
+use Rattle.std.specs.Result.{IsErrAnd}
+use Rattle.refusals.specs.declared.Refusal.{Refusal}
+use Rattle.refusals.specs.Faults.{number}
+use Rattle.refusals.specs.Refusals.{unless}
+use Rattle.text_plan.specs.declared.Stated.{Stated}
 use native.Mathlib.Omega.{arith}
 use lib.ListN.{length}
 use borrow.Author.Tests.{eq-eqb, ne_eqb}
 use Rattle.lists.specs.Filled.{zeros}
-use Rattle.refusals.specs.declared.Outcome.TheVariants.{Passed, Refused as Ended}
+use Rattle.refusals.specs.Outcome.{Passed, Refused as Ended}
 use Rattle.text_fields.specs.Pieces.{Pieces}
 use Rattle.text_judge.specs.declared.judge.Sizes.{Sizes}
-use Rattle.text_plan.specs.declared.Reading.{Reading}
-use Rattle.text_plan.specs.declared.triples.TripleLines.{TripleLines}
-use Rattle.text_plan.specs.declared.triples.TripleLines.TheVariants.{Refused, Read}
+use Rattle.text_plan.specs.Call.{Reading}
+use Rattle.text_plan.specs.Needs.{TripleLines, Refused, Read}
 use Rattle.limits.specs.Limits.{largest_size, starts_length}
 use Rattle.text_opening.specs.Reading.{Entry, ReadResult, refused, accepted, fresh, placed, triples, read_of}
 use Rattle.text_plan.specs.Stored.{RowsWithin, starts_of}
-use Rattle.text_plan.specs.Call.{Gives, answer_by, read_answer_of, call_of, refusal_of}
+use Rattle.text_plan.specs.Call.{Gives, answer_by, read_answer_of, call_of, refusal_of, reading_of}
 use Rattle.text_plan.specs.Needs.{StoresAll, Settles}
 use Rattle.text_plan.proofs.StoredForm.{starts-length}
 use Rattle.text_plan.proofs.Accepted.{triples-sizes}
 use Rattle.text_plan.proofs.Settling.{refused-read, refused-both}
+
+-- a refusal that `?` hands on
+pub reading-left : (r : Result Stated Refusal) (e : Refusal) → IsErrAnd r (λ y. y ≡ e) → reading_of r ≡ refusal_of (Ended (number e.fault) e.detail)
+reading-left (Ok x) e h = absurd h
+reading-left (Err y) e h = ap (λ (q : Refusal). refusal_of (Ended (number q.fault) q.detail)) h
+
+-- the same at a test of lengths
+pub wrong-long : (r : Result Stated Refusal) (e : Refusal) (b : Bool) → IsErrAnd r (λ y. y ≡ e) → Ended (number e.fault) e.detail ≡ unless b 9 0 → (b ≡ false) × (reading_of r ≡ refusal_of (Ended 9 0))
+wrong-long r e true h f = absurd (let z : ◌≡◌ {A = ℕ} 0 1 = cc in omega arith)
+wrong-long r e false h f = (refl, reading-left r e h ∙ ap refusal_of f)
 
 -- a refusal, and lists that are all zero
 pub gives-refusal : (room : ℕ) (o : ReadResult) (c k : ℕ) (r : Reading) (st co va : List ℕ) → o ≡ refused c k → r ≡ refusal_of (Ended c k)

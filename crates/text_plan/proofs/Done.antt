@@ -25,21 +25,17 @@ use Rattle.lists.specs.Filled.{zeros}
 use Rattle.lists.proofs.Bools.{and_left, and_right}
 use Rattle.text_fields.specs.Pieces.{Pieces, last, more, pieces}
 use Rattle.text_fields.specs.Number.{number_in}
-use Rattle.text_fields.specs.declared.numbers.Number.{Number}
-use Rattle.text_fields.specs.declared.numbers.Number.TheVariants.{Value, NotNumber}
+use Rattle.std.specs.Prelude.{Option, Some, None}
 use Rattle.residue.specs.Range.{is_modulus}
 use Rattle.residue.specs.Signed.{residue_of}
 use Rattle.sparse.specs.Matrix.{compressed, matrix, form}
 use Rattle.sparse.proofs.Rows.{form-paired}
 use Rattle.lists.specs.Members.{Member}
 use Rattle.text_judge.specs.declared.header.Header.{Header}
-use Rattle.text_judge.specs.declared.header.Header.TheVariants.{Given, NotHeader}
-use Rattle.text_judge.specs.declared.line.Line.{Line}
-use Rattle.text_judge.specs.declared.line.Line.TheVariants.{Triple, NotTriple}
+use Rattle.text_judge.specs.declared.line.Triple.{Triple}
 use Rattle.text_judge.specs.declared.judge.Sizes.{Sizes}
-use Rattle.text_judge.specs.declared.judge.Verdict.{Verdict}
-use Rattle.text_judge.specs.declared.judge.Verdict.TheVariants.{Refused, Last, Entry as AnEntry}
-use Rattle.text_plan.specs.declared.Reading.{Reading}
+use Rattle.text_judge.specs.Judge.{Verdict, Refused, Last, Entry as AnEntry}
+use Rattle.text_plan.specs.Call.{Reading}
 use Rattle.limits.specs.Limits.{largest_size, largest_text, starts_length}
 use Rattle.call_plan.specs.Accepted.{GoodPlan}
 use Rattle.text_judge.specs.Line.{header_of}
@@ -66,12 +62,12 @@ VerdictNumbered (Refused c) = among c text_faults ≡ true
 VerdictNumbered Last = Unit {0}
 VerdictNumbered (AnEntry i j v) = Unit {0}
 
-judge-numbered : (stands full : Bool) (s : Sizes) (l : Line) → VerdictNumbered (judge_line stands full s l)
+judge-numbered : (stands full : Bool) (s : Sizes) (l : Option Triple) → VerdictNumbered (judge_line stands full s l)
 unfolding judge_line among
-judge-numbered stands full s NotTriple = refl
-judge-numbered stands full s (Triple i j v) = go (is_last i j v) (within i s.n && within j s.m) stands (in_range v) (not (eqb (residue_at s.modulus.p v) 0) && full)
+judge-numbered stands full s None = refl
+judge-numbered stands full s (Some l) = go (is_last l.i l.j l.v) (within l.i s.n && within l.j s.m) stands (in_range l.v) (not (eqb (residue_at s.modulus.p l.v) 0) && full)
   where
-    go : (a b c d e : Bool) → VerdictNumbered (cond a Last (cond b (cond c (cond d (cond e (Refused 7) (AnEntry i j (residue_at s.modulus.p v))) (Refused 6)) (Refused 5)) (Refused 4)))
+    go : (a b c d e : Bool) → VerdictNumbered (cond a Last (cond b (cond c (cond d (cond e (Refused 7) (AnEntry l.i l.j (residue_at s.modulus.p l.v))) (Refused 6)) (Refused 5)) (Refused 4)))
     go true b c d e = tt
     go false false c d e = refl
     go false true false d e = refl
@@ -95,13 +91,13 @@ triples-numbered s room k seen (more l rest) = go (verdict_on fresh s room seen 
     go Last h ih = ending-numbered s (k + 1) seen rest
     go (AnEntry i j v) h ih = ih (record { row = i; column = j; value = v })
 
-sizes-numbered : (p room : ℕ) (rest : Pieces) (h : Header) → Numbered (with_sizes fresh p room rest h)
+sizes-numbered : (p room : ℕ) (rest : Pieces) (h : Option Header) → Numbered (with_sizes fresh p room rest h)
 unfolding among
-sizes-numbered p room rest NotHeader = refl
-sizes-numbered p room rest (Given n m) = go (leb n largest_size && leb m largest_size)
+sizes-numbered p room rest None = refl
+sizes-numbered p room rest (Some h) = go (leb h.n largest_size && leb h.m largest_size)
   where
-    go : (t : Bool) → Numbered (cond t (triples fresh (record { modulus = record { p = p }; n = n; m = m }) room 3 [] rest) (refused 2 0))
-    go true = triples-numbered (record { modulus = record { p = p }; n = n; m = m }) room 3 [] rest
+    go : (t : Bool) → Numbered (cond t (triples fresh (record { modulus = record { p = p }; n = h.n; m = h.m }) room 3 [] rest) (refused 2 0))
+    go true = triples-numbered (record { modulus = record { p = p }; n = h.n; m = h.m }) room 3 [] rest
     go false = refl
 
 second-numbered : (p room : ℕ) (t : Pieces) → Numbered (from_second fresh p room t)
@@ -109,10 +105,10 @@ unfolding among
 second-numbered p room (last l) = refl
 second-numbered p room (more l rest) = sizes-numbered p room rest (header_of l)
 
-modulus-numbered : (room : ℕ) (rest : Pieces) (n : Number) → Numbered (with_modulus fresh room rest n)
+modulus-numbered : (room : ℕ) (rest : Pieces) (n : Option ℕ) → Numbered (with_modulus fresh room rest n)
 unfolding among
-modulus-numbered room rest NotNumber = refl
-modulus-numbered room rest (Value p) = go (is_modulus p)
+modulus-numbered room rest None = refl
+modulus-numbered room rest (Some p) = go (is_modulus p)
   where
     go : (t : Bool) → Numbered (cond t (from_second fresh p room rest) (refused 1 0))
     go true = second-numbered p room rest

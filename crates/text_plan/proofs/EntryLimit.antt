@@ -9,7 +9,7 @@ use lib.ListN.{length, length-append, length-map}
 use Rattle.text_fields.specs.Pieces.{joined}
 use Rattle.text_fields.specs.Decimal.{decimal_in, decimal, signed_text, Proper}
 use Rattle.text_fields.specs.declared.numbers.Signed.{Signed}
-use Rattle.text_fields.specs.declared.numbers.Signed.TheVariants.{Plus, Minus, NotSigned}
+use Rattle.text_fields.specs.declared.numbers.Signed.TheVariants.{Plus, Minus}
 use Rattle.text_judge.specs.declared.judge.Sizes.{Sizes}
 use Rattle.text_opening.specs.Reading.{Entry, accepted, kept, read_of}
 use Rattle.text_plan.specs.Stating.{StatedEntry, triple_text, sizes_text, triple_lines, plan_text, entry_of, StandApart}
@@ -28,7 +28,6 @@ signed-long : (v : Signed) → Proper v → 1 ≤ length (signed_text v)
 unfolding signed_text
 signed-long (Plus n) p = decimal-long n
 signed-long (Minus n) p = omega arith
-signed-long NotSigned p = absurd p
 
 pub triple-long : (t : StatedEntry) → Proper t.value → 5 ≤ length (triple_text t)
 unfolding triple_text joined

@@ -8,14 +8,15 @@ use native.Mathlib.Omega.{arith}
 use lib.Dec.{eqb, leb}
 use lib.ListN.{length, drop, set, length-append, length-set}
 use borrow.Author.Tests.{eqb-true, eqb-false}
-use Rattle.refusals.specs.declared.Outcome.{Outcome}
-use Rattle.refusals.specs.declared.Outcome.TheVariants.{Passed, Refused}
+use Rattle.refusals.specs.Outcome.{Outcome}
+use Rattle.refusals.specs.Outcome.{Passed, Refused}
+use Rattle.std.specs.Prelude.{Option}
+use Rattle.text_judge.specs.declared.line.Triple.{Triple}
 use Rattle.text_fields.specs.Pieces.{Pieces, pieces}
 use Rattle.text_lines.specs.Line.{line_at, line_end, Ends}
 use Rattle.text_lines.specs.declared.Place.{Place}
 use Rattle.text_judge.specs.declared.judge.Sizes.{Sizes}
-use Rattle.text_judge.specs.declared.sight.Sight.{Sight}
-use Rattle.text_judge.specs.declared.sight.Sight.TheVariants.{Stops, Finishes, Stands, Fails}
+use Rattle.text_judge.specs.Sight.{Sight, Stops, Finishes, Stands, Fails}
 use Rattle.text_judge.specs.Line.{line_of}
 use Rattle.text_judge.specs.Sight.{sight}
 use Rattle.text_opening.specs.Reading.{Entry, ReadResult, refused, kept, ending}
@@ -25,7 +26,7 @@ use Rattle.text_plan.specs.Needs.{most_lines, Keepable, Collectable, Collects}
 use Rattle.text_judge.proofs.Verdicts.{within-bounds}
 use Rattle.text_judge.proofs.Sights.{Placed, Places, sight-places}
 use Rattle.text_plan.proofs.Storing.{kept-zero, kept_more}
-use Rattle.text_plan.proofs.EachLine.{ending-none, ending-some, no_lines, last_line, next_place, line-more, next-limits}
+use Rattle.text_plan.proofs.EachLine.{ending-none, ending-some, has-feed, no_lines, last_line, next_place, line-more, next-limits}
 use Rattle.text_plan.proofs.Accepted.{line-prints}
 use Rattle.text_plan.proofs.EntryLimit.{triple-long}
 use Rattle.text_plan.proofs.Holding.{held_more}
@@ -121,6 +122,11 @@ module _ {text : List ℕ} {from : Place} {s : Sizes} {room : ℕ} {rows columns
     pub ends : Ends text here.at here.line (length l)
     pub follows : (next.at ≡ line_end text here.at + 1) × (next.line ≡ here.line + 1)
     pub sight-is : v ≡ sight (leb room stored) s (line_of l)
+
+  pub looks : {l : List ℕ} {said : Option Triple} {v : Sight} (next : Place) → l ≡ line_at text here.at → (here.at + length l ≡ length text → ⊥) → (next.at ≡ line_end text here.at + 1) × (next.line ≡ here.line + 1)
+      → said ≡ line_of l → v ≡ sight (leb room stored) s said → Looked l next v
+  looks next e q t said-is seen =
+      record { line-is = e; ends = has-feed g.limits e q; follows = t; sight-is = seen ∙ ap (sight (leb room stored) s) said-is }
 
 module _ {text : List ℕ} {from : Place} {s : Sizes} {room : ℕ} {rows columns values : List ℕ} {here : Place} {count stored : ℕ} {g : Gathering text from s room rows columns values here count stored} {l : List ℕ} {next : Place} {v : Sight} (h : Looked g l next v) where
   abbrev rest : Pieces

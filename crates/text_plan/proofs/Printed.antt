@@ -8,22 +8,21 @@ use native.Mathlib.Omega.{arith}
 use lib.ListN.{length, length-append}
 use lib.Dec.{eqb, leb}
 use borrow.Author.Tests.{ne_eqb, eqb-true, eqb-false, le-leb, lt-leb, leb-true, le-ltb}
+use Rattle.std.specs.Prelude.{Some}
 use Rattle.text_fields.specs.Pieces.{more, pieces, joined}
 use Rattle.text_fields.specs.Number.{is_negative, magnitude}
 use Rattle.text_fields.specs.Decimal.{decimal, signed_text, Proper}
 use Rattle.text_fields.specs.declared.numbers.Signed.{Signed}
-use Rattle.text_fields.specs.declared.numbers.Signed.TheVariants.{Plus, Minus, NotSigned}
+use Rattle.text_fields.specs.declared.numbers.Signed.TheVariants.{Plus, Minus}
 use Rattle.text_fields.proofs.Canonical.{number-printed}
 use Rattle.text_fields.proofs.CanonicalSigned.{signed-printed}
 use Rattle.text_fields.proofs.Joins.{Free, free-append, free-decimal, free-signed, pieces-free, pieces-line}
 use Rattle.residue.proofs.Primes.{modulus-range}
 use Rattle.residue.proofs.Signed.{residue-value}
-use Rattle.text_judge.specs.declared.line.Line.TheVariants.{Triple}
-use Rattle.text_judge.specs.declared.header.Header.TheVariants.{Given}
 use Rattle.text_judge.specs.declared.judge.Sizes.{Sizes}
-use Rattle.text_judge.specs.declared.judge.Verdict.TheVariants.{Last, Entry as AnEntry}
+use Rattle.text_judge.specs.Judge.{Last, Entry as AnEntry}
 use Rattle.limits.specs.Limits.{largest_size, largest_text}
-use Rattle.text_judge.specs.Line.{fields_of, line_of, with_signed, header_of}
+use Rattle.text_judge.specs.Line.{fields_of, line_of, with_signed, header_of, header_with}
 use Rattle.text_judge.specs.Judge.{judge_line, in_range, is_last, residue_at}
 use Rattle.text_opening.specs.Reading.{Entry, accepted, kept, fresh, verdict_on, triples, read_by, read_of}
 use Rattle.text_plan.specs.Stating.{StatedEntry, triple_text, sizes_text, last_line, triple_lines, plan_text, entry_of, entries_of, Stands, StandApart, Plan}
@@ -34,15 +33,9 @@ use Rattle.text_judge.proofs.Verdicts.{within-bounds}
 range_small : (v : Signed) → in_range v ≡ true → magnitude v < 10 ^ 10
 range_small (Plus n) r = omega (arith, leb-true n 2147483647 r)
 range_small (Minus n) r = omega (arith, leb-true n 2147483648 r)
-range_small NotSigned r = omega arith
-
-with-signed : (i j : ℕ) (v : Signed) → Proper v → with_signed i j v ≡ Triple i j v
-with-signed i j (Plus n) p = refl
-with-signed i j (Minus n) p = refl
-with-signed i j NotSigned p = absurd p
 
 -- the text of a triple is read as that triple
-line-printed : (t : StatedEntry) → t.row < 10 ^ 10 → t.column < 10 ^ 10 → in_range t.value ≡ true → Proper t.value → line_of (triple_text t) ≡ Triple t.row t.column t.value
+line-printed : (t : StatedEntry) → t.row < 10 ^ 10 → t.column < 10 ^ 10 → in_range t.value ≡ true → Proper t.value → line_of (triple_text t) ≡ with_signed t.row t.column (Some t.value)
 unfolding triple_text joined line_of fields_of
 line-printed t hi hj r p =
     rw (
@@ -53,7 +46,6 @@ line-printed t hi hj r p =
       number-printed t.column hj,
       signed-printed t.value (range_small t.value r) p,
     )
-    (with-signed t.row t.column t.value p)
 
 pub free-triple : (t : StatedEntry) → Free 10 (triple_text t)
 unfolding triple_text joined
@@ -140,7 +132,7 @@ plan-pieces s ts =
     pieces-line 10 (decimal s.modulus.p) _ (free-decimal 10 s.modulus.p (omega arith))
     ∙ ap (more (decimal s.modulus.p)) (pieces-line 10 (sizes_text s) _ (free-sizes s) ∙ ap (more (sizes_text s)) (lines-back ts))
 
-header-printed : (s : Sizes) → s.n ≤ largest_size → s.m ≤ largest_size → header_of (sizes_text s) ≡ Given s.n s.m
+header-printed : (s : Sizes) → s.n ≤ largest_size → s.m ≤ largest_size → header_of (sizes_text s) ≡ header_with (Some s.n) (Some s.m) true
 unfolding sizes_text joined header_of fields_of
 header-printed s hn hm =
     rw (

@@ -11,9 +11,8 @@ use Rattle.text_fields.specs.Pieces.{Pieces, pieces}
 use Rattle.text_lines.specs.Line.{line_at, line_end, Ends}
 use Rattle.text_lines.specs.declared.Place.{Place}
 use Rattle.text_judge.specs.declared.judge.Sizes.{Sizes}
-use Rattle.text_judge.specs.declared.judge.Verdict.{Verdict}
-use Rattle.text_judge.specs.declared.judge.Verdict.TheVariants.{Refused, Last, Entry as AnEntry}
-use Rattle.text_plan.specs.declared.triples.TripleLines.TheVariants.{Read}
+use Rattle.text_judge.specs.Judge.{Verdict, Refused, Last, Entry as AnEntry}
+use Rattle.text_plan.specs.Needs.{Read}
 use Rattle.limits.specs.Limits.{starts_length}
 use Rattle.text_judge.specs.Line.{line_of}
 use Rattle.text_judge.specs.Judge.{judge_line, may_stand, precedes}

@@ -12,8 +12,7 @@ use Rattle.lists.proofs.Bools.{or_cases, and_left, and_right}
 use Rattle.refusals.specs.Table.{repeated_place}
 use Rattle.text_fields.specs.Pieces.{Pieces, last, more, pieces}
 use Rattle.text_fields.specs.Number.{number_in}
-use Rattle.text_fields.specs.declared.numbers.Number.{Number}
-use Rattle.text_fields.specs.declared.numbers.Number.TheVariants.{Value, NotNumber}
+use Rattle.std.specs.Prelude.{Option, Some, None}
 use Rattle.residue.specs.Range.{is_modulus}
 use Rattle.limits.specs.Limits.{largest_size, largest_text}
 use Rattle.text_judge.specs.Line.{line_of, header_of}
@@ -22,11 +21,9 @@ use Rattle.text_opening.specs.Reading.{Entry, ReadResult, refused, accepted, kep
 use Rattle.text_plan.specs.Rising.{last_row, last_column, rises, read_rising_of}
 use Rattle.text_plan.specs.Call.{answer_by, read_answer_of, answer_rising_of}
 use Rattle.text_judge.specs.declared.header.Header.{Header}
-use Rattle.text_judge.specs.declared.header.Header.TheVariants.{Given, NotHeader}
 use Rattle.text_judge.specs.declared.judge.Sizes.{Sizes}
 use Rattle.text_judge.proofs.Verdicts.{within-bounds}
-use Rattle.text_judge.specs.declared.sight.Sight.{Sight}
-use Rattle.text_judge.specs.declared.sight.Sight.TheVariants.{Stops, Finishes, Stands, Fails}
+use Rattle.text_judge.specs.Sight.{Sight, Stops, Finishes, Stands, Fails}
 use Rattle.text_judge.specs.Sight.{sight, judged_from}
 use Rattle.text_plan.specs.Collect.{triple_of}
 use Rattle.text_plan.proofs.Kept.{kept-all, Earlier, kept-pairwise}
@@ -175,12 +172,12 @@ rising-first s room (more l rest) k seen u =
 same_first : (r : ReadResult) → Fine r → First r r
 same_first r f = record { same = λ e. refl; fine = f }
 
-sizes-first : (p room : ℕ) (rest : Pieces) (h : Header) → First (with_sizes rises p room rest h) (with_sizes fresh p room rest h)
-sizes-first p room rest NotHeader = same_first (refused 3 2) tt
-sizes-first p room rest (Given n m) = go (leb n largest_size && leb m largest_size)
+sizes-first : (p room : ℕ) (rest : Pieces) (h : Option Header) → First (with_sizes rises p room rest h) (with_sizes fresh p room rest h)
+sizes-first p room rest None = same_first (refused 3 2) tt
+sizes-first p room rest (Some h) = go (leb h.n largest_size && leb h.m largest_size)
   where
     s : Sizes
-    s = record { modulus = record { p = p }; n = n; m = m }
+    s = record { modulus = record { p = p }; n = h.n; m = h.m }
 
     go : (x : Bool) → First (cond x (triples rises s room 3 [] rest) (refused 2 0)) (cond x (triples fresh s room 3 [] rest) (refused 2 0))
     go true = rising-first s room rest 3 [] tt
@@ -190,9 +187,9 @@ second-first : (p room : ℕ) (rest : Pieces) → First (from_second rises p roo
 second-first p room (last l) = same_first (refused 3 2) tt
 second-first p room (more l rest) = sizes-first p room rest (header_of l)
 
-modulus-first : (room : ℕ) (rest : Pieces) (n : Number) → First (with_modulus rises room rest n) (with_modulus fresh room rest n)
-modulus-first room rest NotNumber = same_first (refused 3 1) tt
-modulus-first room rest (Value p) = go (is_modulus p)
+modulus-first : (room : ℕ) (rest : Pieces) (n : Option ℕ) → First (with_modulus rises room rest n) (with_modulus fresh room rest n)
+modulus-first room rest None = same_first (refused 3 1) tt
+modulus-first room rest (Some p) = go (is_modulus p)
   where
     go : (x : Bool) → First (cond x (from_second rises p room rest) (refused 1 0)) (cond x (from_second fresh p room rest) (refused 1 0))
     go true = second-first p room rest

@@ -10,16 +10,14 @@
 --   ByNumber E ts        E gives the triples ts by their numbers, the latest first
 use Rattle.std.specs.Prelude.{ℕ, zero, suc, ◌+◌, ◌≡◌, List, [], ◌∷◌, ◌++◌, cond, ltb, leb, length}
 use Rattle.refusals.specs.Table.{malformed, repeated_place}
-use Rattle.refusals.specs.declared.Outcome.{Outcome}
-use Rattle.refusals.specs.declared.Outcome.TheVariants.{Passed, Refused}
+use Rattle.refusals.specs.Outcome.{Outcome}
+use Rattle.refusals.specs.Outcome.{Passed, Refused}
 use Rattle.grouping.specs.Grouping.{key_of, grouped}
 use Rattle.text_fields.specs.Pieces.{Pieces, last, more}
 use Rattle.text_judge.specs.Line.{line_of}
-use Rattle.text_judge.specs.Sight.{sight}
+use Rattle.text_judge.specs.Sight.{Sight, Stops, Finishes, Stands, Fails, sight}
 use Rattle.text_opening.specs.Reading.{Entry, ReadResult, refused, accepted, kept, fresh, ending}
 use Rattle.text_judge.specs.declared.judge.Sizes.{Sizes}
-use Rattle.text_judge.specs.declared.sight.Sight.{Sight}
-use Rattle.text_judge.specs.declared.sight.Sight.TheVariants.{Stops, Finishes, Stands, Fails}
 
 pub record Collected : Type 0 where
   pub all : List Entry

@@ -8,13 +8,12 @@
 --   ReadCleared r ..        a refusal: p, n, m and the entry count are 0, and every list that was lent is all zero
 use Rattle.std.specs.Prelude.{ℕ, ◌+◌, ◌<◌, ◌≡◌, List, true, length, take}
 use Rattle.lists.specs.Filled.{zeros}
-use Rattle.refusals.specs.declared.Outcome.TheVariants.{Passed}
+use Rattle.refusals.specs.Outcome.{Passed}
 use Rattle.sparse.specs.Matrix.{Compressed, compressed, matrix, form}
 use Rattle.text_judge.specs.declared.judge.Sizes.{Sizes}
-use Rattle.text_plan.specs.declared.Reading.{Reading}
 use Rattle.text_opening.specs.Reading.{kept}
 use Rattle.text_plan.specs.Stating.{StatedEntry, Plan, plan_text, entries_of, stated_at}
-use Rattle.text_plan.specs.Call.{ReadAnswer, refusal_of}
+use Rattle.text_plan.specs.Call.{Reading, ReadAnswer, refusal_of}
 
 abbrev pub held_plan : Reading → Compressed → Compressed
 held_plan r A = compressed (take (r.n + 1) A.starts) (take r.count A.cols) (take r.count A.vals)

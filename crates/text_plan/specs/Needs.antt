@@ -1,6 +1,8 @@
 -- What the steps of reading start from, and what they come to.
 --   NothingStored ..         the lists have their lengths and are all zero
 --   ReadingReady ..          what reading the lines from a place on starts from
+--   TripleLines              what reading lines comes to: a refusal and its line, or the number of entries and the row of the last triple
+--   lines_of r               the same of a result
 --   Shows room o r ..        what reading lines whose triples rise returns and leaves, where they are read as o
 --   StoresAll n room es ..   the lists hold the entries es in the end, all in the first n rows
 --   Settles room o r ..      what reading lines in any order returns and leaves, where they are read as o
@@ -9,12 +11,14 @@
 --   most_lines                as many lines as a text can list: each has six bytes, the line feed among them
 --   Keepable ..              what keeping the triple of a number starts from: the lists have a cell for it
 --   Collectable ..           what collecting the lines from a place on starts from
+--   Gathered                 how many lines were collected, and the outcome that ended it
+--   gathered_of r            the same of what code returns
 --   Collects c r ..          what it returns and leaves: the lists hold the triples collected, by number
 --   Sortable ..              what sorting the numbers of lines starts from: every number has a row and a column in the plan
 --   RowsTo n rows order      the numbers of a list have rows up to n
 --   kept_in ..                what is stored of the triples of a list of numbers, in its order
 --   StorableInOrder ..       what storing them starts from: each stands in the plan, and their rows rise
-use Rattle.std.specs.Prelude.{ℕ, ◌+◌, ◌^◌, ◌≤◌, ◌<◌, ◌≡◌, List, ◌∷◌, map, reverse, length, get_or}
+use Rattle.std.specs.Prelude.{ℕ, ◌+◌, ◌^◌, ◌≤◌, ◌<◌, ◌≡◌, List, ◌∷◌, map, reverse, length, get_or, Result, Ok, Err}
 use Rattle.lists.specs.Filled.{zeros}
 use Rattle.limits.specs.Limits.{largest_size, starts_length}
 use Rattle.grouping.specs.Grouping.{key_of}
@@ -26,9 +30,11 @@ use Rattle.text_opening.specs.Opening.{Limits}
 use Rattle.text_plan.specs.Rising.{last_row}
 use Rattle.text_plan.specs.Stored.{EntriesStored}
 use Rattle.text_plan.specs.Collect.{Collected, outcome_of, triple_in, ByNumber}
-use Rattle.text_plan.specs.declared.collecting.Gathered.{Gathered}
-use Rattle.text_plan.specs.declared.triples.TripleLines.{TripleLines}
-use Rattle.text_plan.specs.declared.triples.TripleLines.TheVariants.{Refused, Read}
+use Rattle.text_plan.specs.declared.collecting.Gathered.{Gathered as Collecting}
+use Rattle.text_plan.specs.declared.triples.Stored.{Stored}
+use Rattle.refusals.specs.declared.Refusal.{Refusal}
+use Rattle.refusals.specs.Faults.{number}
+use Rattle.refusals.specs.Outcome.{Outcome, outcome_of as ended_as}
 
 -- ---- the lent lists, and the triples in the order of the text
 pub record NothingStored (starts columns values : List ℕ) : Type 0 where
@@ -39,6 +45,14 @@ pub record NothingStored (starts columns values : List ℕ) : Type 0 where
 pub record ReadingReady (text : List ℕ) (from : Place) (s : Sizes) (starts columns values : List ℕ) : Type 0 where
   pub limits : Limits text s from
   pub cleared : NothingStored starts columns values
+
+pub data TripleLines : Type 0 where
+  Refused : ℕ → ℕ → TripleLines
+  Read : ℕ → ℕ → TripleLines
+
+abbrev pub lines_of : Result Stored Refusal → TripleLines
+lines_of (Ok r) = Read r.count r.row
+lines_of (Err r) = Refused (number r.fault) r.detail
 
 abbrev pub Shows : ℕ → ReadResult → TripleLines → List ℕ → List ℕ → List ℕ → Type 0
 Shows room (refused c k) r starts columns values = r ≡ Refused c k
@@ -85,6 +99,13 @@ pub record Collectable (text : List ℕ) (from : Place) (s : Sizes) (rows column
   pub rows_long : length rows ≡ most_lines
   pub columns-long : length columns ≡ most_lines
   pub values-long : length values ≡ most_lines
+
+pub record Gathered : Type 0 where
+  pub count : ℕ
+  pub outcome : Outcome
+
+abbrev pub gathered_of : Collecting → Gathered
+gathered_of r = record { count = r.count; outcome = ended_as r.ended }
 
 pub record Collects (c : Collected) (r : Gathered) (rows columns values : List ℕ) : Type 0 where
   pub outcome-is : r.outcome ≡ outcome_of c.result

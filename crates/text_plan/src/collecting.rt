@@ -1,20 +1,21 @@
 // The lines collected by number, whatever their order: row, column and value of each, zeros too.
 ghost use Rattle.std.specs.Prelude.{◌≡◌, cond, [], eqb, length, drop, set};
 ghost use Rattle.text_fields.specs.Pieces.{pieces};
+ghost use Rattle.refusals.specs.Outcome.{Passed, Refused, outcome_of};
 ghost use Rattle.text_plan.specs.Collect.{collect};
-ghost use Rattle.text_plan.specs.Needs.{Keepable, Collectable, Collects};
+ghost use Rattle.text_plan.specs.Needs.{Keepable, Collectable, Collects, gathered_of};
 
-use refusals::Outcome;
-use refusals::numbers::MALFORMED;
+use refusals::{Fault, Refusal};
 use text_judge::judge::Sizes;
-use text_judge::sight::Sight;
-use text_lines::Place;
+use text_judge::line::line_of;
+use text_judge::sight::{Sight, sight_of};
+use text_lines::{Place, line_from, next_from};
 
 // How many lines were collected, and what ended it, places that are taken twice left aside: the last line, or a refusal.
-#[derive(Clone, Copy)]
+#[derive(Clone, Copy, Debug, PartialEq, Eq)]
 pub struct Gathered {
     pub count: u32,
-    pub outcome: Outcome,
+    pub ended: Result<(), Refusal>,
 }
 
 // Keeps the triple of a number.
@@ -40,20 +41,20 @@ fn keep(
 fn taken(v: u32) -> usize
     ensures { result ≡ cond (eqb v 0) 0 1 }
 {
-    if v == 0 {
-        return 0;
-    }
-    1
+    if v == 0 { 0 } else { 1 }
 }
 
 // What the last line leads to, where `next` follows it in a text of `length` bytes: nothing may follow.
-fn after_last(next: Place, length: usize) -> Outcome
-    ensures { result ≡ cond (eqb next.at length) Outcome.Passed (Outcome.Refused 3 next.line) }
+fn after_last(next: Place, length: usize) -> Result<(), Refusal>
+    ensures { outcome_of result ≡ cond (eqb next.at length) Passed (Refused 3 next.line) }
 {
     if next.at == length {
-        return Outcome::Passed;
+        return Ok(());
     }
-    Outcome::Refused(MALFORMED, next.line)
+    Err(Refusal {
+        fault: Fault::Malformed,
+        detail: next.line,
+    })
 }
 
 // Collects the lines from the one at `from` on, where the lent entry storage has room for `room` values.
@@ -68,43 +69,48 @@ pub fn collect_lines(
     values: &mut [u32],
 ) -> Gathered
     requires { Collectable text.now from s rows.old columns.old values.old }
-    ensures { Collects (collect s room from.line [] (pieces 10 (drop from.at text.now))) result rows.new columns.new values.new }
+    ensures { Collects (collect s room from.line [] (pieces 10 (drop from.at text.now))) (gathered_of result) rows.new columns.new values.new }
 {
     let mut here = from;
     let mut count: u32 = 0;
     let mut stored: usize = 0;
+    // A while: only the end of a line says where the next one starts.
     while here.at < text.len() {
-        let line = here.line;
-        let l = text_lines::line_from(text, here.at, line);
+        let detail = here.line;
+        let l = line_from(text, here.at, detail);
         if here.at + l.len() == text.len() {
-            let outcome = Outcome::Refused(MALFORMED, line);
-            return Gathered { count, outcome };
+            let fault = Fault::Malformed;
+            let ended = Err(Refusal { fault, detail });
+            return Gathered { count, ended };
         }
-        let next = text_lines::next_from(text, here.at, line, l.len());
-        let said = text_judge::line::line_of(l);
-        match text_judge::sight::sight_of(room <= stored, s, said) {
-            Sight::Stops(number) => {
-                let outcome = Outcome::Refused(number, line);
-                return Gathered { count, outcome };
+        let next = next_from(text, here.at, detail, l.len());
+        match sight_of(room <= stored, s, line_of(l)) {
+            Sight::Stops(fault) => {
+                let ended = Err(Refusal { fault, detail });
+                return Gathered { count, ended };
             }
             Sight::Finishes => {
-                let outcome = after_last(next, text.len());
-                return Gathered { count, outcome };
+                let ended = after_last(next, text.len());
+                return Gathered { count, ended };
             }
             Sight::Stands { i, j, v } => {
                 keep(rows, columns, values, count, i, j, v);
                 stored += taken(v);
             }
-            Sight::Fails { number, i, j } => {
+            Sight::Fails { fault, i, j } => {
                 keep(rows, columns, values, count, i, j, 0);
-                let outcome = Outcome::Refused(number, line);
+                let ended = Err(Refusal { fault, detail });
                 count += 1;
-                return Gathered { count, outcome };
+                return Gathered { count, ended };
             }
         }
         count += 1;
         here = next;
     }
-    let outcome = Outcome::Refused(MALFORMED, here.line);
-    Gathered { count, outcome }
+    let fault = Fault::Malformed;
+    let ended = Err(Refusal {
+        fault,
+        detail: here.line,
+    });
+    Gathered { count, ended }
 }

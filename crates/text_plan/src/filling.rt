@@ -12,10 +12,8 @@ pub fn extend_starts(starts: &mut [u32], from: usize, to: usize, count: u32)
     requires { (from ≤ to) × (to < starts_length) × (length starts.old ≡ starts_length) }
     ensures { (es : List Entry) → RowsWithin from es → count ≡ length es → starts.old ≡ starts_of from es → starts.new ≡ starts_of to es }
 {
-    let mut k = from;
-    while k < to {
-        k += 1;
-        starts[k] = count;
+    for k in from..to {
+        starts[k + 1] = count;
     }
 }
 

@@ -37,8 +37,8 @@ use lib.ListN.{length, get_or, take, replicate}
 use Rattle.lists.specs.Filled.{zeros, filled}
 use Rattle.refusals.specs.Table.{text_faults, plan_faults, set_faults, storage_too_short, wrong_length, question_too_large, owner_too_large}
 use Rattle.refusals.specs.Refusals.{number_of, detail_of, NumberFrom}
-use Rattle.refusals.specs.declared.Outcome.{Outcome}
-use Rattle.refusals.specs.declared.Outcome.TheVariants.{Passed, Refused}
+use Rattle.refusals.specs.Outcome.{Outcome}
+use Rattle.refusals.specs.Outcome.{Passed, Refused}
 use Rattle.algebra.specs.Prime.{Prime}
 use Rattle.residue.specs.Range.{is_modulus, largest_modulus}
 use Rattle.residue.specs.Signed.{residue_of}
@@ -50,7 +50,7 @@ use Rattle.lists.specs.Members.{Member}
 use Rattle.elimination.specs.Selection.{structural}
 use Rattle.elimination.specs.Factoring.{schedule, nothing}
 use Rattle.elimination.specs.Overflow.{Overflows}
-use Rattle.text_plan.specs.declared.Reading.{Reading}
+use Rattle.text_plan.specs.Call.{Reading}
 use Rattle.text_judge.specs.declared.judge.Sizes.{Sizes}
 use Rattle.limits.specs.Limits.{starts_length, largest_entries, largest_text}
 use Rattle.text_opening.specs.Reading.{Entry, accepted, kept, read_of}
@@ -75,17 +75,17 @@ use Rattle.call_check.proofs.Theorems as checks
 use Rattle.certificate.specs.Layout.{certificate_of}
 use Rattle.call_write.specs.Call.{write_outcome, WritesCertificate}
 use Rattle.call_write.specs.Accepted.{CanWrite}
-use Rattle.call_write.specs.declared.Written.{Written}
+use Rattle.call_write.specs.Written.{Written}
 use Rattle.call_write.proofs.Theorems as writes
 use Rattle.factor_all.specs.Factorization.{Leaves}
-use Rattle.factor_all.specs.declared.factor.Factored.{Factored}
+use Rattle.factor_all.specs.Factored.{Factored}
 use Rattle.call_factor.specs.Calls.{factor_call_of}
 use Rattle.call_factor.specs.Accepted.{LentRight, FactorsFit, Factorable, FactorCleared}
 use Rattle.call_factor.specs.declared.Lent.{Lent}
 use Rattle.call_factor.proofs.Theorems as factors
 use Rattle.call_answer.specs.Calls.{answer_number, answer_factors_of, answer_certificate_of, Answers}
 use Rattle.call_answer.specs.Meaning.{Askable}
-use Rattle.call_answer.specs.declared.Answer.{Answer}
+use Rattle.call_answer.specs.Answer.{Answer}
 use Rattle.call_answer.proofs.Theorems as answers
 use Rattle.call_open.specs.Calls.{open_factors_of, open_certificate_of, Lists}
 use Rattle.call_open.proofs.Theorems as columns

@@ -33,8 +33,8 @@ use lib.ListN.{length, take}
 use Rattle.lists.specs.Filled.{filled}
 use Rattle.lists.specs.Tests.{count}
 use Rattle.refusals.specs.Refusals.{number_of}
-use Rattle.refusals.specs.declared.Outcome.{Outcome}
-use Rattle.refusals.specs.declared.Outcome.TheVariants.{Passed}
+use Rattle.refusals.specs.Outcome.{Outcome}
+use Rattle.refusals.specs.Outcome.{Passed}
 use Rattle.algebra.specs.Sum.{δ}
 use Rattle.algebra.specs.Matrix.{vector}
 use Rattle.algebra.specs.Rank.{Rank}
@@ -53,14 +53,14 @@ use Rattle.limits.specs.Limits.{largest_entries, work_length}
 use Rattle.call_plan.specs.Accepted.{GoodPlan}
 use Rattle.call_check.specs.Passing.{StoredPasses}
 use Rattle.factor_all.specs.Factorization.{Leaves}
-use Rattle.factor_all.specs.declared.factor.Factored.{Factored}
+use Rattle.factor_all.specs.Factored.{Factored}
 use Rattle.factor_all.specs.OwnSet.{own_set}
 use Rattle.call_factor.specs.Calls.{factor_call_of}
 use Rattle.call_factor.specs.declared.Lent.{Lent}
 use Rattle.call_factor.proofs.Theorems as factors
 use Rattle.call_answer.specs.Calls.{answer_number, answer_factors_of, answer_certificate_of, Answers}
 use Rattle.call_answer.specs.Meaning.{LeftOpen, LeftClosed}
-use Rattle.call_answer.specs.declared.Answer.{Answer}
+use Rattle.call_answer.specs.Answer.{Answer}
 use Rattle.call_answer.proofs.Theorems as answers
 use Rattle.call_open.specs.Calls.{open_factors_of, open_certificate_of, Lists}
 use Rattle.call_open.specs.Meaning.{MarksOpen}

@@ -33,7 +33,7 @@ use lib.ListN.{length, take}
 use Rattle.lists.specs.Tests.{among}
 use Rattle.refusals.specs.Table.{set_faults}
 use Rattle.refusals.specs.Refusals.{number_of}
-use Rattle.refusals.specs.declared.Outcome.{Outcome}
+use Rattle.refusals.specs.Outcome.{Outcome}
 use Rattle.algebra.specs.Congruence.{◌≈⟨◌⟩◌}
 use Rattle.algebra.specs.Sum.{dot}
 use Rattle.algebra.specs.Matrix.{Vector, vector}
@@ -53,16 +53,16 @@ use Rattle.call_plan.specs.Accepted.{GoodPlan}
 use Rattle.call_check.specs.Calls.{check_factors_of, check_certificate_of, Checks}
 use Rattle.call_check.proofs.Theorems as checks
 use Rattle.call_write.specs.Call.{write_outcome, WritesCertificate}
-use Rattle.call_write.specs.declared.Written.{Written}
+use Rattle.call_write.specs.Written.{Written}
 use Rattle.call_write.proofs.Theorems as writes
 use Rattle.factor_all.specs.Factorization.{Leaves}
-use Rattle.factor_all.specs.declared.factor.Factored.{Factored}
+use Rattle.factor_all.specs.Factored.{Factored}
 use Rattle.factor_all.specs.OwnSet.{own_set}
 use Rattle.call_factor.specs.Calls.{factor_call_of}
 use Rattle.call_factor.specs.declared.Lent.{Lent}
 use Rattle.call_answer.specs.Calls.{answer_number, answer_factors_of, answer_certificate_of, Answers}
 use Rattle.call_answer.specs.Meaning.{Askable, AnswersRight}
-use Rattle.call_answer.specs.declared.Answer.{Answer}
+use Rattle.call_answer.specs.Answer.{Answer}
 use Rattle.call_answer.proofs.Theorems as answers
 use Rattle.call_answer.proofs.Odds as odds
 use Rattle.call_open.specs.Calls.{open_factors_of, open_certificate_of, Lists}

@@ -28,8 +28,8 @@ use Rattle.lists.specs.Filled.{zeros}
 use Rattle.lists.specs.Tests.{among}
 use Rattle.refusals.specs.Table.{text_faults, plan_faults, set_faults, storage_too_short, wrong_length}
 use Rattle.refusals.specs.Refusals.{number_of, NumberFrom}
-use Rattle.refusals.specs.declared.Outcome.{Outcome}
-use Rattle.refusals.specs.declared.Outcome.TheVariants.{Refused}
+use Rattle.refusals.specs.Outcome.{Outcome}
+use Rattle.refusals.specs.Outcome.{Refused}
 use Rattle.algebra.specs.Congruence.{◌≈⟨◌⟩◌}
 use Rattle.algebra.specs.Matrix.{Vector, vector}
 use Rattle.algebra.specs.Answer.{ClosedAnswer}

@@ -17,23 +17,23 @@ use mathlib.Core.Path.{◌≡◌, sym, ap, subst, ◌∙◌}
 use mathlib.Core.List.{List, ◌++◌}
 use lib.ListN.{length}
 use Rattle.lists.specs.Filled.{filled}
-use Rattle.refusals.specs.declared.Outcome.{Outcome}
+use Rattle.refusals.specs.Outcome.{Outcome}
 use Rattle.sparse.specs.Set.{Storage}
 use Rattle.text_judge.specs.declared.judge.Sizes.{Sizes}
 use Rattle.text_plan.specs.Call.{ReadAnswer, Gives}
 use Rattle.text_plan.specs.Stating.{StatedEntry, Plan, plan_text}
-use Rattle.text_plan.specs.declared.Reading.{Reading}
+use Rattle.text_plan.specs.Call.{Reading}
 use Rattle.limits.specs.Limits.{starts_length, largest_entries, largest_text}
 use Rattle.factor_all.specs.Factorization.{Factorization, Leaves}
-use Rattle.factor_all.specs.declared.factor.Factored.{Factored}
+use Rattle.factor_all.specs.Factored.{Factored}
 use Rattle.call_check.specs.Calls.{Checks}
 use Rattle.call_write.specs.Call.{WritesCertificate}
-use Rattle.call_write.specs.declared.Written.{Written}
+use Rattle.call_write.specs.Written.{Written}
 use Rattle.call_answer.specs.Calls.{Given, Answers}
-use Rattle.call_answer.specs.declared.Answer.{Answer}
+use Rattle.call_answer.specs.Answer.{Answer}
 use Rattle.call_open.specs.Calls.{Listed, Lists}
 use Rattle.call_slots.specs.Calls.{SlotsGiven, Solves}
-use Rattle.call_slots.specs.declared.Solution.{Solution}
+use Rattle.call_slots.specs.Solution.{Solution}
 use Rattle.call_owned.specs.Owned.{owned_outcome, owned_factors, owned_answer, owned_list}
 use Rattle.call_owned.proofs.Owned.{outcomes-alike, factors-alike as factorings-alike, givens-alike, lists-alike}
 use Rattle.text_owners.specs.Call.{owners_length, text_call_of, GivesText}

@@ -26,7 +26,7 @@ use Rattle.lists.specs.Filled.{zeros}
 use Rattle.lists.specs.Tests.{among}
 use Rattle.refusals.specs.Table.{text_faults, plan_faults, set_faults, storage_too_short, wrong_length, question_too_large}
 use Rattle.refusals.specs.Refusals.{number_of, NumberFrom}
-use Rattle.refusals.specs.declared.Outcome.{Outcome}
+use Rattle.refusals.specs.Outcome.{Outcome}
 use Rattle.algebra.specs.Matrix.{vector}
 use Rattle.algebra.specs.ColumnSpace.{InColumnSpace}
 use Rattle.sparse.specs.Row.{Below}
@@ -43,7 +43,7 @@ use Rattle.call_owned.specs.Owned.{owned_outcome}
 use Rattle.call_owned.proofs.Owned.{checks-done}
 use Rattle.call_slots.specs.Calls.{solution_number, slots_factors_of, slots_certificate_of, Solves}
 use Rattle.call_slots.specs.Meaning.{Heard, LeftSolved, LeftContradiction, SolutionOf}
-use Rattle.call_slots.specs.declared.Solution.{Solution}
+use Rattle.call_slots.specs.Solution.{Solution}
 use Rattle.call_slots.proofs.Theorems as slots
 use Rattle.text_owners.specs.Stating.{StatesText}
 use Rattle.print_text.specs.Report.{refusal_text}

@@ -1,8 +1,11 @@
 -- `answer_held` meets its contract. Assumes nothing.
+use Rattle.std.specs.Prelude.{Ok}
 use mathlib.Core.Path.{sym}
 use lib.Seq.{length-take-le}
 use Rattle.sparse.specs.Matrix.{Compressed, compressed}
 use Rattle.sparse.specs.Set.{Storage, storage_of}
+use Rattle.call_answer.specs.Calls.{given_answer}
+use Rattle.stages.specs.Results.{stages_of}
 use Rattle.stages.proofs.Lending.{back}
 use Rattle.ask_lib.proofs.Answered.{x_fits, z-fits, x-part, z-part, answered}
 use Rattle.ask_lib.proofs.answer_held.Goals as goal
@@ -45,41 +48,38 @@ slice_bounds-answer_from_factors-end-12 c =
     let plan : Compressed = compressed c.args.starts.now c.args.cols.now c.args.vals.now in
     let lent : Storage = storage_of c.args.ro.now c.args.co.now (compressed c.args.ls.now c.args.lc.now c.args.lv.now)
     (compressed c.args.us.now c.args.uc.now c.args.uv.now) c.args.work.now in
-    x_fits c.args.s (plan) (lent) c.args.y.now c.args.x.now c.args.z.now c.requires
+    x_fits (stages_of (Ok c.args.plan)) (plan) (lent) c.args.y.now c.args.x.now c.args.z.now c.requires
 
 pub slice_bounds-answer_from_factors-end-13 : goal.slice_bounds-answer_from_factors-end-13
 slice_bounds-answer_from_factors-end-13 c =
     let plan : Compressed = compressed c.args.starts.now c.args.cols.now c.args.vals.now in
     let lent : Storage = storage_of c.args.ro.now c.args.co.now (compressed c.args.ls.now c.args.lc.now c.args.lv.now)
     (compressed c.args.us.now c.args.uc.now c.args.uv.now) c.args.work.now in
-    sym (x-part c.args.s (plan) (lent) c.args.y.now c.args.x.now c.args.z.now c.requires)
+    sym (x-part (stages_of (Ok c.args.plan)) (plan) (lent) c.args.y.now c.args.x.now c.args.z.now c.requires)
 
 pub slice_bounds-answer_from_factors-end-14 : goal.slice_bounds-answer_from_factors-end-14
 slice_bounds-answer_from_factors-end-14 c =
     let plan : Compressed = compressed c.args.starts.now c.args.cols.now c.args.vals.now in
     let lent : Storage = storage_of c.args.ro.now c.args.co.now (compressed c.args.ls.now c.args.lc.now c.args.lv.now)
     (compressed c.args.us.now c.args.uc.now c.args.uv.now) c.args.work.now in
-    z-fits c.args.s (plan) (lent) c.args.y.now c.args.x.now c.args.z.now c.requires
+    z-fits (stages_of (Ok c.args.plan)) (plan) (lent) c.args.y.now c.args.x.now c.args.z.now c.requires
 
 pub slice_bounds-answer_from_factors-end-15 : goal.slice_bounds-answer_from_factors-end-15
 slice_bounds-answer_from_factors-end-15 c =
     let plan : Compressed = compressed c.args.starts.now c.args.cols.now c.args.vals.now in
     let lent : Storage = storage_of c.args.ro.now c.args.co.now (compressed c.args.ls.now c.args.lc.now c.args.lv.now)
     (compressed c.args.us.now c.args.uc.now c.args.uv.now) c.args.work.now in
-    sym (z-part c.args.s (plan) (lent) c.args.y.now c.args.x.now c.args.z.now c.requires)
+    sym (z-part (stages_of (Ok c.args.plan)) (plan) (lent) c.args.y.now c.args.x.now c.args.z.now c.requires)
 
 pub shape_of-x : goal.shape_of-x
-shape_of-x c = back c.args.s.reading.n c.args.x.now c.answer_from_factors.new.x c.answer_from_factors.auto.x
+shape_of-x c = back c.args.plan.stated.n c.args.x.now c.answer_from_factors.new.x c.answer_from_factors.auto.x
 
 pub shape_of-z : goal.shape_of-z
-shape_of-z c = back c.args.s.reading.m c.args.z.now c.answer_from_factors.new.z c.answer_from_factors.auto.z
-
-pub shape_of-work : goal.shape_of-work
-shape_of-work c = c.answer_from_factors.auto.work
+shape_of-z c = back c.args.plan.stated.m c.args.z.now c.answer_from_factors.new.z c.answer_from_factors.auto.z
 
 pub returns : goal.returns
 returns c =
     let plan : Compressed = compressed c.args.starts.now c.args.cols.now c.args.vals.now in
     let lent : Storage = storage_of c.args.ro.now c.args.co.now (compressed c.args.ls.now c.args.lc.now c.args.lv.now)
     (compressed c.args.us.now c.args.uc.now c.args.uv.now) c.args.work.now in
-    answered c.args.s (plan) (lent) c.args.y.now c.args.x.now c.args.z.now c.requires c.answer_from_factors.result c.answer_from_factors.new.x c.answer_from_factors.new.z c.answer_from_factors.new.work c.answer_from_factors.auto.x c.answer_from_factors.auto.z c.answer_from_factors.ensures
+    answered (stages_of (Ok c.args.plan)) (plan) (lent) c.args.y.now c.args.x.now c.args.z.now c.requires (given_answer c.answer_from_factors.result) c.answer_from_factors.new.x c.answer_from_factors.new.z c.answer_from_factors.new.work c.answer_from_factors.auto.x c.answer_from_factors.auto.z c.answer_from_factors.ensures

@@ -1,65 +1,51 @@
 -- `ask_staged` meets its contract. Assumes nothing.
-use mathlib.Core.Path.{refl, sym}
+use mathlib.Core.Path.{refl}
 use Rattle.sparse.specs.Matrix.{Compressed, compressed}
 use Rattle.sparse.specs.Set.{Storage, storage_of}
 use Rattle.print_text.proofs.Room.{refusal-room}
-use Rattle.call_answer.specs.Calls.{answer_detail}
+use Rattle.call_answer.specs.Calls.{answer_detail, given_answer}
+use Rattle.stages.specs.Results.{Stages, stages_of}
 use Rattle.ask_lib.specs.Asking.{given_line}
 use Rattle.ask_lib.specs.Held.{held_answer}
-use Rattle.ask_lib.proofs.Asked.{refused, answerable, line-ready, answered}
+use Rattle.ask_lib.proofs.Asked.{countable, refused, answerable, line-ready, answered}
 use Rattle.ask_lib.proofs.ask_staged.Goals as goal
 
-pub refusal-refused-requires : goal.refusal-refused-requires
-refusal-refused-requires c = c.requires.countable
+pub refusal-requires : goal.refusal-requires
+refusal-requires c =
+    let plan : Compressed = compressed c.args.starts.now c.args.cols.now c.args.vals.now in
+    let lent : Storage = storage_of c.args.ro.now c.args.co.now (compressed c.args.ls.now c.args.lc.now c.args.lv.now)
+    (compressed c.args.us.now c.args.uc.now c.args.uv.now) c.args.work.now in
+    countable c.args.staged (plan) (lent) c.args.y.now c.args.out.now c.requires _ c.in-Err.is
 
 pub write_refusal-requires : goal.write_refusal-requires
 write_refusal-requires c = refusal-room _ _ c.args.out.now c.requires.asked.room
 
-pub shape_of-out-in-Refused : goal.shape_of-out-in-Refused
-shape_of-out-in-Refused c = c.write_refusal.auto.out
-
-pub returns-in-Refused : goal.returns-in-Refused
-returns-in-Refused c =
+pub returns-in-Err : goal.returns-in-Err
+returns-in-Err c =
     let plan : Compressed = compressed c.args.starts.now c.args.cols.now c.args.vals.now in
     let lent : Storage = storage_of c.args.ro.now c.args.co.now (compressed c.args.ls.now c.args.lc.now c.args.lv.now)
     (compressed c.args.us.now c.args.uc.now c.args.uv.now) c.args.work.now in
-    refused c.args.s (plan) (lent) c.args.y.now c.args.out.now c.requires c.refusal-refused.result c.refusal-refused.ensures (given_line (held_answer c.args.s (plan) (lent) c.args.y.now)) _ _ c.write_refusal.result c.write_refusal.new.out c.in-Refused.is c.write_refusal.ensures
-
-pub slice_bounds-answer_held-end : goal.slice_bounds-answer_held-end
-slice_bounds-answer_held-end c = refl
-
-pub slice_bounds-answer_held-end-2 : goal.slice_bounds-answer_held-end-2
-slice_bounds-answer_held-end-2 c = refl
+    refused c.args.staged (plan) (lent) c.args.y.now c.args.out.now c.requires _ c.in-Err.is (given_line (held_answer (stages_of c.args.staged) (plan) (lent) c.args.y.now)) c.refusal.result c.refusal.ensures c.write_refusal.result c.write_refusal.new.out c.write_refusal.ensures
 
 pub answer_held-answer-requires : goal.answer_held-answer-requires
 answer_held-answer-requires c =
     let plan : Compressed = compressed c.args.starts.now c.args.cols.now c.args.vals.now in
     let lent : Storage = storage_of c.args.ro.now c.args.co.now (compressed c.args.ls.now c.args.lc.now c.args.lv.now)
     (compressed c.args.us.now c.args.uc.now c.args.uv.now) c.args.work.now in
-    answerable c.args.s (plan) (lent) c.args.y.now c.args.out.now c.requires c.refusal-refused.result c.refusal-refused.ensures c.in_default.is _ _ refl refl
-
-pub slice_bounds-write_line-end : goal.slice_bounds-write_line-end
-slice_bounds-write_line-end c = sym c.answer_held-answer.auto.x
-
-pub slice_bounds-write_line-end-2 : goal.slice_bounds-write_line-end-2
-slice_bounds-write_line-end-2 c = sym c.answer_held-answer.auto.z
+    answerable c.args.staged (plan) (lent) c.args.y.now c.args.out.now c.requires _ c.in-Ok.is _ _ refl refl
 
 pub write_line-requires : goal.write_line-requires
 write_line-requires c =
     let plan : Compressed = compressed c.args.starts.now c.args.cols.now c.args.vals.now in
     let lent : Storage = storage_of c.args.ro.now c.args.co.now (compressed c.args.ls.now c.args.lc.now c.args.lv.now)
     (compressed c.args.us.now c.args.uc.now c.args.uv.now) c.args.work.now in
-    line-ready c.args.s (plan) (lent) c.args.y.now c.args.out.now c.requires c.refusal-refused.result c.refusal-refused.ensures c.in_default.is (answer_detail c.answer_held-answer.result) c.answer_held-answer.new.x c.answer_held-answer.new.z c.answer_held-answer.ensures.detail-small c.answer_held-answer.auto.x c.answer_held-answer.auto.z
-
-pub shape_of-out : goal.shape_of-out
-shape_of-out c = c.write_line.auto.out
-
-pub shape_of-work : goal.shape_of-work
-shape_of-work c = c.answer_held-answer.auto.work
+    let a = c.answer_held-answer in
+    line-ready c.args.staged (plan) (lent) c.args.y.now c.args.out.now c.requires _ c.in-Ok.is (answer_detail (given_answer a.result)) a.new.x a.new.z a.ensures.detail-small a.auto.x a.auto.z
 
 pub returns : goal.returns
 returns c =
     let plan : Compressed = compressed c.args.starts.now c.args.cols.now c.args.vals.now in
     let lent : Storage = storage_of c.args.ro.now c.args.co.now (compressed c.args.ls.now c.args.lc.now c.args.lv.now)
     (compressed c.args.us.now c.args.uc.now c.args.uv.now) c.args.work.now in
-    answered c.args.s (plan) (lent) c.args.y.now c.args.out.now c.requires c.refusal-refused.result c.refusal-refused.ensures c.in_default.is _ (given_line (held_answer c.args.s (plan) (lent) c.args.y.now)) c.answer_held-answer.ensures.line-is c.write_line.result c.write_line.new.out c.answer_held-answer.new.work c.write_line.ensures c.answer_held-answer.ensures.cleared
+    let a = c.answer_held-answer in
+    answered c.args.staged (plan) (lent) c.args.y.now c.args.out.now c.requires _ c.in-Ok.is _ (λ (s : Stages). given_line (held_answer s (plan) (lent) c.args.y.now)) a.ensures.line-is c.write_line.result c.write_line.new.out a.new.work c.write_line.ensures a.ensures.cleared

@@ -1,9 +1,12 @@
 -- `solve_held` meets its contract. Assumes nothing.
+use Rattle.std.specs.Prelude.{Ok}
 use mathlib.Core.Path.{sym}
 use lib.Seq.{length-take-le}
 use Rattle.sparse.specs.Matrix.{Compressed, compressed}
 use Rattle.sparse.specs.Set.{Storage, storage_of}
 use Rattle.stages.proofs.Lending.{back}
+use Rattle.call_slots.specs.Calls.{given_solution}
+use Rattle.stages.specs.Results.{stages_of}
 use Rattle.ask_lib.proofs.Answered.{x_fits, z-fits, x-part, z-part}
 use Rattle.ask_words.proofs.Solved.{owners-fit, solved}
 use Rattle.ask_words.proofs.solve_held.Goals as goal
@@ -22,7 +25,7 @@ slice_bounds-solve_slots_from_factors-end-4 c =
     let plan : Compressed = compressed c.args.starts.now c.args.cols.now c.args.vals.now in
     let lent : Storage = storage_of c.args.ro.now c.args.co.now (compressed c.args.ls.now c.args.lc.now c.args.lv.now)
     (compressed c.args.us.now c.args.uc.now c.args.uv.now) c.args.work.now in
-    sym (length-take-le _ _ (owners-fit c.args.s (plan) c.args.owners.now (lent) c.args.h.now c.args.setting.now c.args.combination.now c.requires))
+    sym (length-take-le _ _ (owners-fit (stages_of (Ok c.args.plan)) (plan) c.args.owners.now (lent) c.args.h.now c.args.setting.now c.args.combination.now c.requires))
 
 pub slice_bounds-solve_slots_from_factors-end-5 : goal.slice_bounds-solve_slots_from_factors-end-5
 slice_bounds-solve_slots_from_factors-end-5 c = sym (length-take-le _ _ c.requires.lists.fits.R-fits)
@@ -53,41 +56,38 @@ slice_bounds-solve_slots_from_factors-end-13 c =
     let plan : Compressed = compressed c.args.starts.now c.args.cols.now c.args.vals.now in
     let lent : Storage = storage_of c.args.ro.now c.args.co.now (compressed c.args.ls.now c.args.lc.now c.args.lv.now)
     (compressed c.args.us.now c.args.uc.now c.args.uv.now) c.args.work.now in
-    z-fits c.args.s (plan) (lent) c.args.h.now c.args.combination.now c.args.setting.now c.requires.lists
+    z-fits (stages_of (Ok c.args.plan)) (plan) (lent) c.args.h.now c.args.combination.now c.args.setting.now c.requires.lists
 
 pub slice_bounds-solve_slots_from_factors-end-14 : goal.slice_bounds-solve_slots_from_factors-end-14
 slice_bounds-solve_slots_from_factors-end-14 c =
     let plan : Compressed = compressed c.args.starts.now c.args.cols.now c.args.vals.now in
     let lent : Storage = storage_of c.args.ro.now c.args.co.now (compressed c.args.ls.now c.args.lc.now c.args.lv.now)
     (compressed c.args.us.now c.args.uc.now c.args.uv.now) c.args.work.now in
-    sym (z-part c.args.s (plan) (lent) c.args.h.now c.args.combination.now c.args.setting.now c.requires.lists)
+    sym (z-part (stages_of (Ok c.args.plan)) (plan) (lent) c.args.h.now c.args.combination.now c.args.setting.now c.requires.lists)
 
 pub slice_bounds-solve_slots_from_factors-end-15 : goal.slice_bounds-solve_slots_from_factors-end-15
 slice_bounds-solve_slots_from_factors-end-15 c =
     let plan : Compressed = compressed c.args.starts.now c.args.cols.now c.args.vals.now in
     let lent : Storage = storage_of c.args.ro.now c.args.co.now (compressed c.args.ls.now c.args.lc.now c.args.lv.now)
     (compressed c.args.us.now c.args.uc.now c.args.uv.now) c.args.work.now in
-    x_fits c.args.s (plan) (lent) c.args.h.now c.args.combination.now c.args.setting.now c.requires.lists
+    x_fits (stages_of (Ok c.args.plan)) (plan) (lent) c.args.h.now c.args.combination.now c.args.setting.now c.requires.lists
 
 pub slice_bounds-solve_slots_from_factors-end-16 : goal.slice_bounds-solve_slots_from_factors-end-16
 slice_bounds-solve_slots_from_factors-end-16 c =
     let plan : Compressed = compressed c.args.starts.now c.args.cols.now c.args.vals.now in
     let lent : Storage = storage_of c.args.ro.now c.args.co.now (compressed c.args.ls.now c.args.lc.now c.args.lv.now)
     (compressed c.args.us.now c.args.uc.now c.args.uv.now) c.args.work.now in
-    sym (x-part c.args.s (plan) (lent) c.args.h.now c.args.combination.now c.args.setting.now c.requires.lists)
+    sym (x-part (stages_of (Ok c.args.plan)) (plan) (lent) c.args.h.now c.args.combination.now c.args.setting.now c.requires.lists)
 
 pub shape_of-setting : goal.shape_of-setting
-shape_of-setting c = back c.args.s.reading.m c.args.setting.now c.solve_slots_from_factors.new.s c.solve_slots_from_factors.auto.s
+shape_of-setting c = back c.args.plan.stated.m c.args.setting.now c.solve_slots_from_factors.new.s c.solve_slots_from_factors.auto.s
 
 pub shape_of-combination : goal.shape_of-combination
-shape_of-combination c = back c.args.s.reading.n c.args.combination.now c.solve_slots_from_factors.new.w c.solve_slots_from_factors.auto.w
-
-pub shape_of-work : goal.shape_of-work
-shape_of-work c = c.solve_slots_from_factors.auto.work
+shape_of-combination c = back c.args.plan.stated.n c.args.combination.now c.solve_slots_from_factors.new.w c.solve_slots_from_factors.auto.w
 
 pub returns : goal.returns
 returns c =
     let plan : Compressed = compressed c.args.starts.now c.args.cols.now c.args.vals.now in
     let lent : Storage = storage_of c.args.ro.now c.args.co.now (compressed c.args.ls.now c.args.lc.now c.args.lv.now)
     (compressed c.args.us.now c.args.uc.now c.args.uv.now) c.args.work.now in
-    solved c.args.s (plan) c.args.owners.now (lent) c.args.h.now c.args.setting.now c.args.combination.now c.requires c.solve_slots_from_factors.result c.solve_slots_from_factors.new.s c.solve_slots_from_factors.new.w c.solve_slots_from_factors.new.work c.solve_slots_from_factors.auto.s c.solve_slots_from_factors.auto.w c.solve_slots_from_factors.ensures
+    solved (stages_of (Ok c.args.plan)) (plan) c.args.owners.now (lent) c.args.h.now c.args.setting.now c.args.combination.now c.requires (given_solution c.solve_slots_from_factors.result) c.solve_slots_from_factors.new.s c.solve_slots_from_factors.new.w c.solve_slots_from_factors.new.work c.solve_slots_from_factors.auto.s c.solve_slots_from_factors.auto.w c.solve_slots_from_factors.ensures

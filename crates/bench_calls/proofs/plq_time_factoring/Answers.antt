@@ -6,4 +6,4 @@ use Rattle.bench_calls.proofs.Ranked.{rank_is}
 use Rattle.bench_calls.proofs.plq_time_factoring.Goals as goal
 
 pub returns : goal.returns
-returns c = c.rank_staged.ensures ∙ rank_is _ _ (compressed _ _ _) _ (storage_of _ _ (compressed _ _ _) (compressed _ _ _) _) c.factor_text-s.ensures
+returns c = c.rank_staged.ensures ∙ rank_is _ _ (compressed _ _ _) _ (storage_of _ _ (compressed _ _ _) (compressed _ _ _) _) c.factor_text-staged.ensures

@@ -1,12 +1,18 @@
--- `rank_staged` meets its contract. Assumes nothing.
-use Rattle.bench_calls.proofs.Ranked.{read-refused, factor-refused, factored}
+-- `rank_staged` meets its contract.
+use Rattle.std.proofs.Common.{sym, ap, ◌∙◌, Result}
+use Rattle.stages.specs.Results.{stages_of}
+use Rattle.stages.specs.declared.FactoredPlan.{FactoredPlan}
+use Rattle.stages.specs.declared.Stopped.{Stopped}
+use Rattle.stages.proofs.Stopping.{stopped-first}
+use Rattle.bench_calls.specs.Timed.{held_rank}
+use Rattle.bench_calls.proofs.Ranked.{refused-rank}
 use Rattle.bench_calls.proofs.rank_staged.Goals as goal
 
-pub returns-in_default : goal.returns-in_default
-returns-in_default c = read-refused c.args.s c.in_default.is
+pub returns-in-Ok : goal.returns-in-Ok
+unfolding held_rank
+returns-in-Ok c = ap (λ (x : Result FactoredPlan Stopped). held_rank (stages_of x)) (sym c.in-Ok.is)
 
-pub returns-in_default-factoring : goal.returns-in_default-factoring
-returns-in_default-factoring c = factor-refused c.args.s c.in-Passed.is c.in_default-factoring.is
-
-pub returns : goal.returns
-returns c = factored c.args.s c.in-Passed.is c.in-Passed-factoring.is
+pub returns-in-Err : goal.returns-in-Err
+returns-in-Err c =
+    refused-rank _ (stopped-first c.in-Err.field-0)
+    ∙ ap (λ (x : Result FactoredPlan Stopped). held_rank (stages_of x)) (sym c.in-Err.is)

@@ -3,15 +3,6 @@ use mathlib.Core.Path.{sym}
 use Rattle.factor_names.proofs.LocalLists.{part-clear, part-long}
 use Rattle.factor_arrange.proofs.arrange.Goals as goal
 
-pub slice_bounds-order_pairs-end : goal.slice_bounds-order_pairs-end
-slice_bounds-order_pairs-end c = part-long _ 2048 c.requires.sized.n-small
-
-pub slice_bounds-order_pairs-end-2 : goal.slice_bounds-order_pairs-end-2
-slice_bounds-order_pairs-end-2 c = part-long _ 2048 c.requires.sized.n-small
-
-pub slice_bounds-order_pairs-end-3 : goal.slice_bounds-order_pairs-end-3
-slice_bounds-order_pairs-end-3 c = part-long _ 2048 c.requires.sized.n-small
-
 pub order_pairs-requires : goal.order_pairs-requires
 order_pairs-requires c =
     let h = c.requires.sized.n-small in

@@ -1,5 +1,4 @@
--- `name_rows` meets its contract; the loop's invariant is `Naming`, the measure what is left. Assumes nothing.
-use Prim.Native.Nat.{◌-◌}
+-- `name_rows` meets its contract; the loop's invariant is `Naming`. Assumes nothing.
 use lib.ListN.{length}
 use Rattle.sparse.specs.Matrix.{compressed}
 use Rattle.factor_select.proofs.Cells.{Naming}
@@ -7,6 +6,3 @@ use Rattle.factor_select.proofs.name_rows.Given as goal
 
 abbrev pub invariant-loop-c : goal.invariant-loop-c
 invariant-loop-c l = Naming (compressed l.starts l.cols l.vals) l.n (length l.work) l.chosen l.c
-
-abbrev pub decreases-loop-c : goal.decreases-loop-c
-decreases-loop-c l = length l.work - l.c

@@ -35,12 +35,3 @@ slice_bounds-open_columns_from_factors-end-10 c = sym (length-take-le _ _ c.requ
 
 pub slice_bounds-open_columns_from_factors-end-11 : goal.slice_bounds-open_columns_from_factors-end-11
 slice_bounds-open_columns_from_factors-end-11 c = sym (length-take-le _ _ c.requires.U-values)
-
-pub shape_of-marks : goal.shape_of-marks
-shape_of-marks c = c.open_columns_from_factors.auto.marks
-
-pub shape_of-work : goal.shape_of-work
-shape_of-work c = c.open_columns_from_factors.auto.work
-
-pub returns : goal.returns
-returns c = c.open_columns_from_factors.ensures

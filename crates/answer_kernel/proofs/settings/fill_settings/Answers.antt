@@ -1,6 +1,5 @@
 -- `fill_settings` meets its contract; the loop's invariant is `Filling`: the settings of the free columns below c are stored. Assumes nothing.
 use native.Mathlib.Omega.{arith}
-use Rattle.lists.proofs.Stored.{stored-length}
 use Rattle.answer_kernel.proofs.SettingsLoop.{filling-starts, filling-ready, filling-turn, filling-ends}
 use Rattle.answer_kernel.proofs.settings.fill_settings.Goals as goal
 
@@ -10,14 +9,8 @@ loop-c-init c = filling-starts _ _ _ _ _ _
 pub fill_block-at-requires : goal.fill_block-at-requires
 fill_block-at-requires c = filling-ready _ _ _ _ _ _ c.requires _ _ _ c.loop-c.invariant (omega arith)
 
-pub overflow_add-c : goal.overflow_add-c
-overflow_add-c c = omega (arith, c.loop-c-test.true, c.well_formed)
-
 pub loop-c-preserved : goal.loop-c-preserved
 loop-c-preserved c = filling-turn _ _ _ _ _ _ _ _ _ c.loop-c.invariant _ _ (omega arith) c.fill_block-at.ensures
-
-pub shape_of-basis : goal.shape_of-basis
-shape_of-basis c = stored-length c.loop-c.invariant.stored
 
 pub returns : goal.returns
 returns c = filling-ends _ _ _ _ _ _ c.requires _ _ _ c.loop-c.invariant (omega arith)

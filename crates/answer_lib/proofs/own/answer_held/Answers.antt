@@ -35,15 +35,3 @@ slice_bounds-answer_from_factors-end-10 c = sym (length-take-le _ _ c.requires.U
 
 pub slice_bounds-answer_from_factors-end-11 : goal.slice_bounds-answer_from_factors-end-11
 slice_bounds-answer_from_factors-end-11 c = sym (length-take-le _ _ c.requires.U-values)
-
-pub shape_of-x : goal.shape_of-x
-shape_of-x c = c.answer_from_factors.auto.x
-
-pub shape_of-z : goal.shape_of-z
-shape_of-z c = c.answer_from_factors.auto.z
-
-pub shape_of-work : goal.shape_of-work
-shape_of-work c = c.answer_from_factors.auto.work
-
-pub returns : goal.returns
-returns c = c.answer_from_factors.ensures

@@ -1,10 +1,6 @@
 -- `open_columns` meets its contract: the part of the working row that is lent comes back all zero. Assumes nothing.
-use mathlib.Core.Path.{sym}
-use Rattle.answer_open.proofs.AllColumns.{row-part, columns-ready, columns-done}
+use Rattle.answer_open.proofs.AllColumns.{columns-ready, columns-done}
 use Rattle.answer_open.proofs.pivots.open_columns.Goals as goal
-
-pub slice_bounds-open_pivots-end-2 : goal.slice_bounds-open_pivots-end-2
-slice_bounds-open_pivots-end-2 c = sym (row-part c.args.q.p _ _ _ _ _ c.requires)
 
 pub open_pivots-requires : goal.open_pivots-requires
 open_pivots-requires c = columns-ready _ _ _ _ _ _ c.requires

@@ -1,11 +1,6 @@
 -- `mark_nonzero` meets its contract; the loop's invariant is `Marking`: only cells of pivot columns whose value is not 0 have changed. Assumes nothing.
-use Prim.Native.Nat.{◌-◌}
-use Rattle.sparse.specs.Words.{view}
 use Rattle.answer_open.proofs.WitnessLaws.{Marking}
 use Rattle.answer_open.proofs.witness.mark_nonzero.Given as goal
 
 abbrev pub invariant-loop-i : goal.invariant-loop-i
-invariant-loop-i l = Marking l.left (view l.co l.cob) l.values l.initial.marks l.marks l.found l.i
-
-abbrev pub decreases-loop-i : goal.decreases-loop-i
-decreases-loop-i l = l.left - l.i
+invariant-loop-i l = Marking l.left l.co l.values l.initial.marks l.marks l.found l.i

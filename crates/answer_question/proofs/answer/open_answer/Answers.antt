@@ -1,9 +1,6 @@
 -- `open_answer` meets its contract: the multiples are loaded before z is cleared. Assumes nothing.
-use Rattle.answer_question.proofs.AnswerLaws.{cleared, open-ready, open_done}
+use Rattle.answer_question.proofs.AnswerLaws.{cleared, open_done}
 use Rattle.answer_question.proofs.answer.open_answer.Goals as goal
-
-pub solve_lower-requires : goal.solve_lower-requires
-solve_lower-requires c = open-ready c.args.q.p _ _ _ _ _ _ _ c.requires c.load.ensures c.clear.ensures
 
 pub returns : goal.returns
 returns c =

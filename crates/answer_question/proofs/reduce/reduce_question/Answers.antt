@@ -1,9 +1,6 @@
 -- `reduce_question` meets its contract: the working row is loaded, reduced, searched and cleared. Assumes nothing.
-use Rattle.answer_question.proofs.AnswerLaws.{question-ready, question-done}
+use Rattle.answer_question.proofs.AnswerLaws.{question-done}
 use Rattle.answer_question.proofs.reduce.reduce_question.Goals as goal
-
-pub reduce-requires : goal.reduce-requires
-reduce-requires c = question-ready c.args.q.p _ _ _ _ _ _ _ c.requires c.load.ensures
 
 pub returns : goal.returns
 returns c =

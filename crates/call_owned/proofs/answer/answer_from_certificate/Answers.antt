@@ -1,43 +1,10 @@
--- `answer_from_certificate` meets its contract: 9 where there are not m owners, else what the call without them gives. Assumes nothing.
-use mathlib.Core.Path.{◌≡◌, sym, ◌∙◌}
-use mathlib.Core.Bool.{true, false}
-use lib.Dec.{eqb}
-use lib.ListN.{length}
-use Rattle.sparse.specs.Matrix.{Compressed, compressed}
-use Rattle.call_answer.specs.Calls.{Given, answer_certificate_of}
+-- `answer_from_certificate` meets its contract: 9 where there are not m owners, else what the call without them gives.
+use Rattle.std.proofs.Common.{sym, ◌∙◌}
 use Rattle.call_owned.proofs.Ways.{answers-refuses, answers-passes}
 use Rattle.call_owned.proofs.answer.answer_from_certificate.Goals as goal
 
-pub shape_of-x-then-not-owners_fit : goal.shape_of-x-then-not-owners_fit
-shape_of-x-then-not-owners_fit c = c.clear.auto.list
-
-pub shape_of-z-then-not-owners_fit : goal.shape_of-z-then-not-owners_fit
-shape_of-z-then-not-owners_fit c = c.clear-then-not-owners_fit.auto.list
-
-pub shape_of-work-then-not-owners_fit : goal.shape_of-work-then-not-owners_fit
-shape_of-work-then-not-owners_fit c = c.clear_row.auto.row
-
 pub returns-then-not-owners_fit : goal.returns-then-not-owners_fit
-returns-then-not-owners_fit c =
-    let plan : Compressed = compressed c.args.starts.now c.args.cols.now c.args.vals.now in
-    let given : Given = answer_certificate_of c.args.p c.args.n c.args.m (plan) c.args.cert.now c.args.y.now (length c.args.x.now) (length c.args.z.now) (length c.args.work.now) in
-    let wrong : eqb (length c.args.owners.now) c.args.m ≡ false = sym c.owners_fit.ensures ∙ c.if-not-owners_fit.true in
-    answers-refuses (length c.args.owners.now) c.args.m (given) c.args.x.now _ c.args.z.now _ c.args.work.now _
-    (wrong) c.clear.ensures c.clear-then-not-owners_fit.ensures c.clear_row.ensures
-
-pub shape_of-x : goal.shape_of-x
-shape_of-x c = c.answer_from_certificate.auto.x
-
-pub shape_of-z : goal.shape_of-z
-shape_of-z c = c.answer_from_certificate.auto.z
-
-pub shape_of-work : goal.shape_of-work
-shape_of-work c = c.answer_from_certificate.auto.work
+returns-then-not-owners_fit c = rw c.into.ensures (answers-refuses _ _ _ _ _ _ _ _ _ (sym c.owners_fit.ensures ∙ c.if-not-owners_fit.true) c.clear.ensures c.clear-then-not-owners_fit.ensures c.clear_row.ensures)
 
 pub returns : goal.returns
-returns c =
-    let plan : Compressed = compressed c.args.starts.now c.args.cols.now c.args.vals.now in
-    let given : Given = answer_certificate_of c.args.p c.args.n c.args.m (plan) c.args.cert.now c.args.y.now (length c.args.x.now) (length c.args.z.now) (length c.args.work.now) in
-    let right : eqb (length c.args.owners.now) c.args.m ≡ true = sym c.owners_fit.ensures ∙ c.if-not-owners_fit.false in
-    let k = c.answer_from_certificate in
-    answers-passes (length c.args.owners.now) c.args.m (given) c.args.x.now _ c.args.z.now _ c.args.work.now _ (right) k.result k.ensures
+returns c = answers-passes _ _ _ _ _ _ _ _ _ (sym c.owners_fit.ensures ∙ c.if-not-owners_fit.false) _ c.answer_from_certificate.ensures

@@ -1,17 +1,9 @@
 -- `put_word` meets its contract. Assumes nothing.
-use native.Mathlib.Omega.{arith}
-use lib.ListN.{length-set}
-use Rattle.certificate.proofs.Storing.{word-stores}
+use Rattle.std.proofs.Common.{◌∙◌, [], ◌∷◌, arith}
+use Rattle.lists.proofs.Stored.{stored-part}
+use Rattle.certificate.specs.Layout.{bytes}
 use Rattle.certificate.proofs.writer.put_word.Goals as goal
 
-pub bounds-buffer-at-2 : goal.bounds-buffer-at-2
-bounds-buffer-at-2 c = simp length-set (omega arith)
-
-pub bounds-buffer-at-3 : goal.bounds-buffer-at-3
-bounds-buffer-at-3 c = simp length-set (omega arith)
-
-pub bounds-buffer-at-4 : goal.bounds-buffer-at-4
-bounds-buffer-at-4 c = simp length-set (omega arith)
-
 pub returns : goal.returns
-returns c = word-stores c.args.buffer.now c.args.at c.args.x _ _ _ (omega arith) (omega arith) (omega arith)
+unfolding bytes
+returns c = (stored-part c.args.buffer.now (bytes (c.args.x ∷ [])) _ c.args.at _ c.requires (omega arith) (c.copy_from_slice.ensures.after ∙ c.to_le_bytes.ensures)).now-is

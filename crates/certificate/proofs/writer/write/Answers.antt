@@ -13,11 +13,6 @@ use Rattle.certificate.proofs.Lengths.{length-certificate}
 use Rattle.certificate.proofs.Rooms.{writes-refused, writes-done}
 use Rattle.certificate.proofs.writer.write.Goals as goal
 
-pub shape_of-buffer-then-buffer-places : goal.shape_of-buffer-then-buffer-places
-shape_of-buffer-then-buffer-places c =
-    let cleared-long : length c.clear_bytes.new.bytes ≡ length c.args.buffer.now = ap length c.clear_bytes.ensures ∙ length-zeros (length c.args.buffer.now) in
-    cleared-long
-
 pub returns-then-buffer-places : goal.returns-then-buffer-places
 returns-then-buffer-places c =
     let certificate : List ℕ = certificate_of c.args.p c.args.n c.args.m

@@ -1,10 +1,6 @@
 -- `left_cells` meets its contract, cell after cell. Assumes nothing.
-use Prim.Native.Nat.{◌-◌}
 use Rattle.factor_dense.proofs.LeftCellSteps.{Copying}
 use Rattle.factor_dense.proofs.block.left_cells.Given as goal
 
 abbrev pub invariant-loop-l : goal.invariant-loop-l
 invariant-loop-l l = Copying l.width l.js l.work l.out l.l
-
-abbrev pub decreases-loop-l : goal.decreases-loop-l
-decreases-loop-l l = l.width - l.l

@@ -1,5 +1,5 @@
 -- `reduce_in_block` meets its contract, row after row. Assumes nothing.
-use Prim.Native.Nat.{ℕ, ◌*◌, ◌%◌, ◌<◌}
+use Prim.Native.Nat.{ℕ, ◌*◌, ◌%◌}
 use mathlib.Core.Path.{◌≡◌, refl, sym, subst}
 use mathlib.Core.List.{List}
 use borrow.Author.Rules.{rules}
@@ -17,26 +17,6 @@ pub loop-t-init : goal.loop-t-init
 loop-t-init c =
     let long : length c.args.row ≡ 32 = search rules in
     going_start _ _ _ _ _ c.requires _ (long) refl
-
-pub offset_bounds-rest-k : goal.offset_bounds-rest-k
-offset_bounds-rest-k c =
-    let place : c.index-k.result < 32 = omega (arith, c.index-k.ensures, c.requires.places _ c.loop-t-test.true) in
-    omega (arith, place)
-
-pub bounds-rest-k : goal.bounds-rest-k
-bounds-rest-k c =
-    let place : c.index-k.result < 32 = omega (arith, c.index-k.ensures, c.requires.places _ c.loop-t-test.true) in
-    place
-
-pub take_block_row-rest-requires : goal.take_block_row-rest-requires
-take_block_row-rest-requires c =
-    let t = c.loop-t-test.true in
-    record {
-      place = omega (arith, c.requires.rows);
-      residue = c.reduce_cell-x.ensures.below;
-      cells = λ j h. c.requires.cells _ j t h;
-      below = c.loop-t.invariant.remainder.below;
-    }
 
 pub loop-t-preserved : goal.loop-t-preserved
 loop-t-preserved c =

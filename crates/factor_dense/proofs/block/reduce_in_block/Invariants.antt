@@ -1,10 +1,6 @@
 -- `reduce_in_block` meets its contract, row after row. Assumes nothing.
-use Prim.Native.Nat.{◌-◌}
 use Rattle.factor_dense.proofs.BlockSteps.{Going}
 use Rattle.factor_dense.proofs.block.reduce_in_block.Given as goal
 
 abbrev pub invariant-loop-t : goal.invariant-loop-t
 invariant-loop-t l = Going l.q.p l.b l.ks l.block l.initial.rest l.rest l.xs l.t
-
-abbrev pub decreases-loop-t : goal.decreases-loop-t
-decreases-loop-t l = l.b - l.t

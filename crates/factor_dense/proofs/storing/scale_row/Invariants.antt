@@ -1,10 +1,6 @@
 -- `scale_row` meets its contract, cell after cell. Assumes nothing.
-use Prim.Native.Nat.{◌-◌}
 use Rattle.factor_dense.proofs.StoringSteps.{Scaling}
 use Rattle.factor_dense.proofs.storing.scale_row.Given as goal
 
 abbrev pub invariant-loop-l : goal.invariant-loop-l
-invariant-loop-l l = Scaling l.q.p l.c l.row l.out l.l
-
-abbrev pub decreases-loop-l : goal.decreases-loop-l
-decreases-loop-l l = 32 - l.l
+invariant-loop-l l = Scaling l.q.p l.c l.fn.row l.out l.l

@@ -1,13 +1,8 @@
 -- `find_dense` meets its contract; the invariant is `DenseGoing`: the lists and the block hold what the turns so far find, and the turns that remain
 -- end as all of them do. Assumes nothing.
-use Prim.Native.Nat.{◌-◌}
-use lib.ListN.{length}
 use Rattle.sparse.specs.Matrix.{compressed}
 use Rattle.factor_first.proofs.DensePass.{DenseGoing}
 use Rattle.factor_first.proofs.dense.find_dense.Given as goal
 
 abbrev pub invariant-loop-k : goal.invariant-loop-k
 invariant-loop-k l = DenseGoing l.q.p l.s (compressed l.starts l.cols l.vals) l.initial.ro l.initial.co (compressed l.initial.ls l.initial.lc l.initial.lv) (compressed l.initial.us l.initial.uc l.initial.uv) l.initial.work l.initial.progress l.js l.ks l.block l.ro l.co (compressed l.ls l.lc l.lv) (compressed l.us l.uc l.uv) l.work l.k l.progress
-
-abbrev pub decreases-loop-k : goal.decreases-loop-k
-decreases-loop-k l = length l.initial.ro - l.k

@@ -1,9 +1,8 @@
 -- `take_multiple` meets its contract: on either way the multiple is taken away, since 0 times the row is nothing. Assumes nothing.
-use native.Mathlib.Omega.{arith}
-use lib.ListN.{set, length-set}
+use lib.ListN.{set}
 use Rattle.sparse.specs.Matrix.{compressed, matrix}
 use Rattle.factor_marked.specs.Marking.{MultipleMarked}
-use Rattle.factor_marked.proofs.Multiples.{row-noted, row-takeable, none-taken, some-taken, taken-long, marked-as}
+use Rattle.factor_marked.proofs.Multiples.{row-noted, row-takeable, none-taken, some-taken, marked-as}
 use Rattle.factor_marked.proofs.gather.take_multiple.Goals as goal
 use Rattle.factor_marked.proofs.gather.take_multiple.Goals.{then-x-ne0, else-x-ne0}
 
@@ -20,9 +19,6 @@ done c = elim c.if-x-ne0.branch [
   | then-x-ne0 w ↦ marked-as _ _ _ _ _ _ _ _ _ _ _ _ _ _ _ w.touched-is w.pending-is w.work-is w.all-is (some-taken _ _ _ _ _ _ _ _ _ c.requires _ c.reduce_cell-x.ensures _ _ _ _ w.note_stored_row-all.ensures w.grow_list_row.ensures)
   | else-x-ne0 w ↦ marked-as _ _ _ _ _ _ _ _ _ _ _ _ _ _ _ w.touched-is w.pending-is w.work-is w.all-is (none-taken _ _ _ _ _ _ _ _ _ c.requires _ c.reduce_cell-x.ensures w.if-x-ne0.false)
 ]
-
-pub bounds-work-c-2 : goal.bounds-work-c-2
-bounds-work-c-2 c = omega (arith, length-set c.if-x-ne0.work c.args.c 0, taken-long _ _ _ _ _ _ _ _ _ _ _ (done c), c.requires.column)
 
 pub returns : goal.returns
 returns c = done c

@@ -1,38 +1,22 @@
--- `mark` meets its contract; the loop's invariant is `Marking`, the measure what is left. Assumes nothing.
+-- `mark` meets its contract; the loop's invariant is `Marking`: the numbers passed are marked. Assumes nothing.
 use Prim.Native.Nat.{◌<◌}
-use mathlib.Core.Path.{◌≡◌, ap, ◌∙◌}
 use native.Mathlib.Omega.{arith}
 use lib.ListN.{length}
-use Rattle.lists.proofs.Filled.{length-zeros}
+use lib.Seq.{length-take-le, get_or-take}
 use Rattle.factor_order.proofs.Completing.{marking-starts, marking-turn, marking-ends}
 use Rattle.factor_order.proofs.complete.mark.Goals as goal
 
-pub loop-i-init : goal.loop-i-init
-loop-i-init c = (omega arith, marking-starts _ _ c.requires.marks)
+pub loop-x-init : goal.loop-x-init
+loop-x-init c = marking-starts _ _ _ c.requires.marks
 
-pub offset_bounds-marks-x : goal.offset_bounds-marks-x
-offset_bounds-marks-x c =
-    let many : length c.args.marks.now ≡ length c.args.list.now = ap length c.requires.marks ∙ length-zeros (length c.args.list.now) in
-    let inside : c.index-x.result < length c.loop-i.marks = omega (arith, c.index-x.ensures, c.requires.distinct.below c.loop-i.i c.loop-i-test.true, many, c.loop-i.invariant.1.long) in
-    omega (arith, inside)
-
-pub bounds-marks-x : goal.bounds-marks-x
-bounds-marks-x c =
-    let many : length c.args.marks.now ≡ length c.args.list.now = ap length c.requires.marks ∙ length-zeros (length c.args.list.now) in
-    let inside : c.index-x.result < length c.loop-i.marks = omega (arith, c.index-x.ensures, c.requires.distinct.below c.loop-i.i c.loop-i-test.true, many, c.loop-i.invariant.1.long) in
-    inside
-
-pub loop-i-preserved : goal.loop-i-preserved
-loop-i-preserved c =
-    let many : length c.args.marks.now ≡ length c.args.list.now = ap length c.requires.marks ∙ length-zeros (length c.args.list.now) in
-    let inside : c.index-x.result < length c.loop-i.marks = omega (arith, c.index-x.ensures, c.requires.distinct.below c.loop-i.i c.loop-i-test.true, many, c.loop-i.invariant.1.long) in
-    let h = c.loop-i in
-    (omega arith, marking-turn _ _ h.marks h.i c.index-x.result (omega arith) c.index-x.ensures (inside) h.invariant.1)
-
-pub shape_of-marks : goal.shape_of-marks
-shape_of-marks c = c.loop-i.invariant.1.long
+pub loop-x-preserved : goal.loop-x-preserved
+loop-x-preserved c =
+    let k = c.args.k in
+    let xs = c.args.list.now in
+    let i = c.loop-x.x-index in
+    let before : i < k = omega (arith, c.loop-x-test.true, length-take-le k xs c.requires.inside) in
+    let inside : c.index.result < length xs = omega (arith, c.index.ensures, get_or-take k xs i 0 before, c.requires.distinct.below i before) in
+    marking-turn _ _ _ i c.index.result c.loop-x-test.true c.index.ensures inside c.loop-x.invariant
 
 pub returns : goal.returns
-returns c =
-    let many : length c.args.marks.now ≡ length c.args.list.now = ap length c.requires.marks ∙ length-zeros (length c.args.list.now) in
-    let h = c.loop-i in marking-ends _ _ h.marks c.args.k h.i (many) (omega arith) h.invariant.1
+returns c = marking-ends _ _ _ _ c.loop-x-test.false c.loop-x.invariant

@@ -18,27 +18,12 @@ returns-then-entries-eq0 c =
     let A : Compressed = compressed c.args.starts.now c.args.cols.now c.args.vals.now in
     consider-empty (A) c.args.i _ c.requires.before (sym c.entries.ensures ∙ c.if-entries-eq0.true)
 
-pub offset_bounds-cols-start : goal.offset_bounds-cols-start
-offset_bounds-cols-start c =
-    let A : Compressed = compressed c.args.starts.now c.args.cols.now c.args.vals.now in
-    let some-entry : 0 < size (A) c.args.i = omega (arith, c.entries.ensures, c.if-entries-eq0.false) in
-    let stored : c.index-start.result < length c.args.cols.now = omega (arith, c.index-start.ensures, leftmost-stored _ _ (A) c.requires.formed c.args.i c.requires.inside (some-entry)) in
-    omega (arith, stored, c.well_formed)
-
 pub bounds-cols-start : goal.bounds-cols-start
 bounds-cols-start c =
     let A : Compressed = compressed c.args.starts.now c.args.cols.now c.args.vals.now in
     let some-entry : 0 < size (A) c.args.i = omega (arith, c.entries.ensures, c.if-entries-eq0.false) in
     let stored : c.index-start.result < length c.args.cols.now = omega (arith, c.index-start.ensures, leftmost-stored _ _ (A) c.requires.formed c.args.i c.requires.inside (some-entry)) in
     stored
-
-pub offset_bounds-work-c : goal.offset_bounds-work-c
-offset_bounds-work-c c =
-    let A : Compressed = compressed c.args.starts.now c.args.cols.now c.args.vals.now in
-    let some-entry : 0 < size (A) c.args.i = omega (arith, c.entries.ensures, c.if-entries-eq0.false) in
-    let column : c.index-c.result ≡ get_or c.args.cols.now (get_or c.args.starts.now c.args.i 0) 0 = c.index-c.ensures ∙ ap (λ k. get_or c.args.cols.now k 0) c.index-start.ensures in
-    let inside : c.index-c.result < length c.args.work.now = omega (arith, column, leftmost-below _ _ (A) c.requires.formed c.args.i c.requires.inside (some-entry)) in
-    omega (arith, inside, c.well_formed)
 
 pub bounds-work-c : goal.bounds-work-c
 bounds-work-c c =
@@ -52,14 +37,6 @@ pub preferred-requires : goal.preferred-requires
 preferred-requires c =
     let A : Compressed = compressed c.args.starts.now c.args.cols.now c.args.vals.now in
     prefer-ready _ _ (A) c.requires.formed c.args.i c.requires.inside _ (c.requires.before.below c.index-c.result)
-
-pub offset_bounds-work-c-2 : goal.offset_bounds-work-c-2
-offset_bounds-work-c-2 c =
-    let A : Compressed = compressed c.args.starts.now c.args.cols.now c.args.vals.now in
-    let some-entry : 0 < size (A) c.args.i = omega (arith, c.entries.ensures, c.if-entries-eq0.false) in
-    let column : c.index-c.result ≡ get_or c.args.cols.now (get_or c.args.starts.now c.args.i 0) 0 = c.index-c.ensures ∙ ap (λ k. get_or c.args.cols.now k 0) c.index-start.ensures in
-    let inside : c.index-c.result < length c.args.work.now = omega (arith, column, leftmost-below _ _ (A) c.requires.formed c.args.i c.requires.inside (some-entry)) in
-    omega (arith, inside, c.well_formed)
 
 pub bounds-work-c-2 : goal.bounds-work-c-2
 bounds-work-c-2 c =

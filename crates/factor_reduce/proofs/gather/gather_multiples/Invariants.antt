@@ -1,12 +1,7 @@
--- `gather_multiples` meets its contract; the loop's invariant is `Gathering`, the measure what is left. Assumes nothing.
-use Prim.Native.Nat.{◌-◌}
-use lib.ListN.{length}
+-- `gather_multiples` meets its contract; the loop's invariant is `Gathering`. Assumes nothing.
 use Rattle.sparse.specs.Matrix.{compressed}
 use Rattle.factor_reduce.proofs.Gathering.{Gathering}
 use Rattle.factor_reduce.proofs.gather.gather_multiples.Given as goal
 
 abbrev pub invariant-loop-k : goal.invariant-loop-k
 invariant-loop-k l = Gathering l.q.p l.co (compressed l.us l.uc l.uv) l.l l.limit l.initial.work l.initial.lc l.initial.lv l.work l.lc l.lv l.next l.k
-
-abbrev pub decreases-loop-k : goal.decreases-loop-k
-decreases-loop-k l = length l.co - l.k

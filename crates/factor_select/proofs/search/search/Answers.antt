@@ -1,12 +1,11 @@
 -- `search` meets its contract; the loop's invariant is `Reaching` and the place of the lowest candidate that is left, the measure the columns that can
 -- still leave the queue. Assumes nothing.
 use Prim.Native.Nat.{◌≤◌, ◌<◌}
-use mathlib.Core.Path.{sym, ◌∙◌}
 use native.Mathlib.Omega.{arith}
 use lib.ListN.{length}
 use Rattle.factor_select.proofs.Trails.{trail-few, visited-still}
 use Rattle.factor_select.proofs.Fitting.{next-later}
-use Rattle.factor_select.proofs.Reaching.{own-stored, own-ready, reaching-starts, next-column, next-named, next-stored, next-ready, reaching-turn}
+use Rattle.factor_select.proofs.Reaching.{own-stored, own-ready, reaching-starts, next-stored, next-ready, reaching-turn}
 use Rattle.factor_select.proofs.Surviving.{fit-ready, none-survives, one-survives}
 use Rattle.factor_select.proofs.search.search.Goals as goal
 
@@ -22,15 +21,6 @@ next_fit-t-requires c = fit-ready c.requires _ c.columns_of-own.ensures _ c.visi
 pub loop-t-init : goal.loop-t-init
 loop-t-init c = (reaching-starts c.requires _ c.columns_of-own.ensures _ _ _ c.visit-tail.ensures, c.next_fit-t.ensures)
 
-pub bounds-own-t : goal.bounds-own-t
-bounds-own-t c = c.loop-t-test.true
-
-pub shape_of-stamps-then-tail-head : goal.shape_of-stamps-then-tail-head
-shape_of-stamps-then-tail-head c = c.loop-t.invariant.0.trail.stamps-long ∙ sym c.requires.stamps-long
-
-pub shape_of-queue-then-tail-head : goal.shape_of-queue-then-tail-head
-shape_of-queue-then-tail-head c = c.loop-t.invariant.0.trail.queue_long ∙ sym c.requires.queue_long
-
 pub returns-then-tail-head : goal.returns-then-tail-head
 returns-then-tail-head c = one-survives c.requires _ c.columns_of-own.ensures c.visit-tail.ensures c.loop-t.invariant.0 c.loop-t.invariant.1 c.loop-t-test.true c.if-tail-head.true _ c.index.ensures
 
@@ -44,29 +34,11 @@ bounds-queue-head c =
     let place : c.loop-t.head < length c.args.work.now = omega (arith, c.if-tail-head.false, trail-few _ _ _ _ _ c.loop-t.invariant.0.trail) in
     omega (arith, place, c.loop-t.invariant.0.trail.queue_long)
 
-pub offset_bounds-work-c : goal.offset_bounds-work-c
-offset_bounds-work-c c =
-    let inside : c.index-c.result < length c.args.work.now = next-column c.requires c.loop-t.invariant.0 c.if-tail-head.false _ c.index-c.ensures in
-    omega (arith, inside, c.requires.sized.m-small)
-
-pub bounds-work-c : goal.bounds-work-c
-bounds-work-c c =
-    let inside : c.index-c.result < length c.args.work.now = next-column c.requires c.loop-t.invariant.0 c.if-tail-head.false _ c.index-c.ensures in
-    inside
-
-pub overflow_sub-r : goal.overflow_sub-r
-overflow_sub-r c = next-named c.requires c.loop-t.invariant.0 c.if-tail-head.false _ c.index-c.ensures
-
 pub columns_of-row-requires : goal.columns_of-row-requires
 columns_of-row-requires c = next-stored c.requires c.loop-t.invariant.0 c.if-tail-head.false _ c.index-c.ensures
 
 pub visit-tail-requires-in-loop-t : goal.visit-tail-requires-in-loop-t
 visit-tail-requires-in-loop-t c = next-ready c.requires c.loop-t.invariant.0 c.if-tail-head.false _ c.index-c.ensures _ c.columns_of-row.ensures
-
-pub overflow_add-head : goal.overflow_add-head
-overflow_add-head c =
-    let before-end : (c.loop-t.head < c.visit-tail-in-loop-t.result) × (c.visit-tail-in-loop-t.result ≤ length c.args.work.now) = (omega (arith, c.if-tail-head.false, c.visit-tail-in-loop-t.ensures.tail-grows), trail-few _ _ _ _ _ c.visit-tail-in-loop-t.ensures.trail) in
-    let e = before-end in omega (arith, e.0, e.1, c.requires.sized.m-small)
 
 pub next_fit-t-requires-in-loop-t : goal.next_fit-t-requires-in-loop-t
 next_fit-t-requires-in-loop-t c = fit-ready c.requires _ c.columns_of-own.ensures _ c.visit-tail-in-loop-t.ensures.trail.stamps-long
@@ -81,12 +53,6 @@ loop-t-preserved c = (
   reaching-turn c.requires c.loop-t.invariant.0 c.if-tail-head.false _ c.index-c.ensures _ c.columns_of-row.ensures _ _ _ c.visit-tail-in-loop-t.ensures,
   next-later _ _ _ _ _ _ _ (visited-still c.visit-tail-in-loop-t.ensures) c.loop-t.invariant.1 c.next_fit-t-in-loop-t.ensures,
 )
-
-pub shape_of-stamps : goal.shape_of-stamps
-shape_of-stamps c = c.loop-t.invariant.0.trail.stamps-long ∙ sym c.requires.stamps-long
-
-pub shape_of-queue : goal.shape_of-queue
-shape_of-queue c = c.loop-t.invariant.0.trail.queue_long ∙ sym c.requires.queue_long
 
 pub returns : goal.returns
 returns c = none-survives c.requires _ c.columns_of-own.ensures c.visit-tail.ensures c.loop-t.invariant.0 c.loop-t.invariant.1 c.loop-t-test.false

@@ -1,5 +1,4 @@
--- `next_mark` meets its contract; no block passed is marked, the measure is what is left. Assumes nothing.
-use Prim.Native.Nat.{◌-◌}
+-- `next_mark` meets its contract; no block passed is marked. Assumes nothing.
 use lib.ListN.{length}
 use Rattle.algebra.specs.Matrix.{vector}
 use Rattle.factor_touch.specs.Searching.{ZeroSpan}
@@ -7,6 +6,3 @@ use Rattle.factor_touch.proofs.searching.next_mark.Given as goal
 
 abbrev pub invariant-loop-b : goal.invariant-loop-b
 invariant-loop-b l = ZeroSpan (vector l.marks) (length l.marks) l.from l.b
-
-abbrev pub decreases-loop-b : goal.decreases-loop-b
-decreases-loop-b l = length l.marks - l.b

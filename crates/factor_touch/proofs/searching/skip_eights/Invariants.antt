@@ -1,12 +1,9 @@
--- `skip_eights` meets its contract; no block passed is marked, the measure is what is left. Assumes nothing.
-use Prim.Native.Nat.{◌-◌}
+-- `skip_eights` meets its contract; no block passed is marked. Assumes nothing.
+use Prim.Native.Nat.{◌+◌, ◌*◌}
 use lib.ListN.{length}
 use Rattle.algebra.specs.Matrix.{vector}
 use Rattle.factor_touch.specs.Searching.{ZeroSpan}
 use Rattle.factor_touch.proofs.searching.skip_eights.Given as goal
 
-abbrev pub invariant-loop-b : goal.invariant-loop-b
-invariant-loop-b l = ZeroSpan (vector l.marks) (length l.marks) l.from l.b
-
-abbrev pub decreases-loop-b : goal.decreases-loop-b
-decreases-loop-b l = length l.marks - l.b
+abbrev pub invariant-loop-k : goal.invariant-loop-k
+invariant-loop-k l = ZeroSpan (vector l.marks) (length l.marks) l.from (l.from + 8 * l.k)

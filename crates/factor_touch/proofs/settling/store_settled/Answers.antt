@@ -5,20 +5,12 @@ use native.Mathlib.Nat.{mod-eq_of_lt}
 use native.Mathlib.Omega.{arith}
 use lib.ListN.{length, get_or, set}
 use Rattle.lists.proofs.Filled.{clearing-cell}
-use Rattle.sparse.proofs.DenseSteps.{Storing, storing-starts, storing-columns, storing-values, storing-room, storing-turn, storing-over, storing-ends}
+use Rattle.sparse.proofs.DenseSteps.{Storing, storing-starts, storing-room, storing-turn, storing-over, storing-ends}
 use Rattle.factor_touch.proofs.SettleSteps.{clearing-covers}
 use Rattle.factor_touch.proofs.settling.store_settled.Goals as goal
 
 pub loop-j-init : goal.loop-j-init
 loop-j-init c = storing-starts _ _ _ _ _ _
-
-pub offset_bounds-work-j : goal.offset_bounds-work-j
-offset_bounds-work-j c =
-    let inside : c.loop-j.j < length c.args.work.now = omega (arith, c.loop-j-test.true, c.loop-j.invariant.clearing.long) in
-    omega (arith, inside, c.well_formed)
-
-pub bounds-work-j : goal.bounds-work-j
-bounds-work-j c = c.loop-j-test.true
 
 pub overflow_cast-work : goal.overflow_cast-work
 overflow_cast-work c =
@@ -32,11 +24,6 @@ multiply-v-requires c =
     let cell : get_or c.loop-j.work c.loop-j.j 0 < c.args.q.p = let h = c.loop-j in omega (arith, clearing-cell _ _ h.j (inside) h.invariant.clearing, c.requires.below h.j (inside)) in
     record { left = c.requires.store.residue; right = cell }
 
-pub overflow_cast-j : goal.overflow_cast-j
-overflow_cast-j c =
-    let inside : c.loop-j.j < length c.args.work.now = omega (arith, c.loop-j-test.true, c.loop-j.invariant.clearing.long) in
-    omega (arith, inside, c.requires.store.narrow)
-
 pub put-at-requires : goal.put-at-requires
 put-at-requires c =
     let inside : c.loop-j.j < length c.args.work.now = omega (arith, c.loop-j-test.true, c.loop-j.invariant.clearing.long) in
@@ -45,19 +32,6 @@ put-at-requires c =
     c.multiply-v.result ≡ s.c * (get_or c.loop-j.work c.loop-j.j 0 % s.q.p) % s.q.p = let s = c.args in
     c.multiply-v.ensures.value ∙ ap (λ (x : ℕ). s.c * x % s.q.p) (sym (mod-eq_of_lt (cell))) in
     let h = c.loop-j in storing-room _ _ _ _ _ _ h.work h.cols h.vals h.at h.j h.invariant _ (inside) (value) c.requires.store.room
-
-pub offset_bounds-work-j-in-loop-j : goal.offset_bounds-work-j-in-loop-j
-offset_bounds-work-j-in-loop-j c =
-    let inside : c.loop-j.j < length c.args.work.now = omega (arith, c.loop-j-test.true, c.loop-j.invariant.clearing.long) in
-    omega (arith, inside, c.well_formed)
-
-pub bounds-work-j-in-loop-j : goal.bounds-work-j-in-loop-j
-bounds-work-j-in-loop-j c = c.loop-j-test.true
-
-pub overflow_add-j : goal.overflow_add-j
-overflow_add-j c =
-    let inside : c.loop-j.j < length c.args.work.now = omega (arith, c.loop-j-test.true, c.loop-j.invariant.clearing.long) in
-    omega (arith, inside, c.well_formed)
 
 pub next_touched-j-requires : goal.next_touched-j-requires
 next_touched-j-requires c =
@@ -71,11 +45,6 @@ next_touched-j-requires c =
     Storing s.q.p s.c s.start s.work.now s.cols.now s.vals.now (set h.work h.j 0) put.new.cols put.new.vals put.result (h.j + 1) = let h = c.loop-j in storing-turn _ _ _ _ _ _ h.work h.cols h.vals h.at h.j h.invariant _ (inside) (value) _ _ _ c.put-at.ensures in
     let t = turned in record { inside = omega (arith, t.clearing.inside, t.clearing.long); blocks = omega (arith, t.clearing.long, c.requires.blocks); covers = clearing-covers c.args.touched.now _ _ _ t.clearing c.requires.covers }
 
-pub loop-j-smaller : goal.loop-j-smaller
-loop-j-smaller c =
-    let inside : c.loop-j.j < length c.args.work.now = omega (arith, c.loop-j-test.true, c.loop-j.invariant.clearing.long) in
-    omega (arith, inside, c.next_touched-j.ensures.least)
-
 pub loop-j-preserved : goal.loop-j-preserved
 loop-j-preserved c =
     let inside : c.loop-j.j < length c.args.work.now = omega (arith, c.loop-j-test.true, c.loop-j.invariant.clearing.long) in
@@ -87,15 +56,6 @@ loop-j-preserved c =
     let put = c.put-at in
     Storing s.q.p s.c s.start s.work.now s.cols.now s.vals.now (set h.work h.j 0) put.new.cols put.new.vals put.result (h.j + 1) = let h = c.loop-j in storing-turn _ _ _ _ _ _ h.work h.cols h.vals h.at h.j h.invariant _ (inside) (value) _ _ _ c.put-at.ensures in
     storing-over _ _ _ _ _ _ _ _ _ _ _ _ (turned) c.next_touched-j.ensures
-
-pub shape_of-work : goal.shape_of-work
-shape_of-work c = c.loop-j.invariant.clearing.long
-
-pub shape_of-cols : goal.shape_of-cols
-shape_of-cols c = storing-columns _ _ _ _ _ _ _ _ _ _ _ c.loop-j.invariant
-
-pub shape_of-vals : goal.shape_of-vals
-shape_of-vals c = storing-values _ _ _ _ _ _ _ _ _ _ _ c.loop-j.invariant
 
 pub returns : goal.returns
 returns c = storing-ends _ _ _ _ _ _ _ _ _ _ _ c.loop-j.invariant (omega (arith, c.loop-j-test.false, c.loop-j.invariant.clearing.long))

@@ -1,37 +1,10 @@
--- `add_from` meets its contract; the loop's invariant is `Moving`: what is still to be done leaves what doing it from the first leaves. Assumes nothing.
+-- `add_from` meets its contract; l is added to number after number. Assumes nothing.
+use Prim.Native.Nat.{◌+◌}
 use native.Mathlib.Omega.{arith}
-use Rattle.factor_turn.proofs.Reversing.{moving-starts, moving-fits, moving-turn, moving-ends}
+use lib.ListN.{get_or}
+use borrow.Author.Rules.{rules}
+use Rattle.std.proofs.lemmas.List.Edits.{map_over_more}
 use Rattle.factor_turn.proofs.keeping.add_from.Goals as goal
 
-pub loop-k-init : goal.loop-k-init
-loop-k-init c = moving-starts _ _ _ c.requires
-
-pub offset_bounds-list-k : goal.offset_bounds-list-k
-offset_bounds-list-k c = omega (arith, c.loop-k-test.true, c.loop-k.invariant.long, c.well_formed)
-
-pub bounds-list-k : goal.bounds-list-k
-bounds-list-k c = c.loop-k-test.true
-
-pub overflow_add-list : goal.overflow_add-list
-overflow_add-list c = omega (arith, moving-fits _ _ _ _ _ c.loop-k.invariant c.requires c.loop-k-test.true)
-
-pub offset_bounds-list-k-in-loop-k : goal.offset_bounds-list-k-in-loop-k
-offset_bounds-list-k-in-loop-k c = omega (arith, c.loop-k-test.true, c.loop-k.invariant.long, c.well_formed)
-
-pub bounds-list-k-in-loop-k : goal.bounds-list-k-in-loop-k
-bounds-list-k-in-loop-k c = c.loop-k-test.true
-
-pub overflow_add-k : goal.overflow_add-k
-overflow_add-k c = omega (arith, c.loop-k-test.true, c.loop-k.invariant.long, c.well_formed)
-
-pub loop-k-smaller : goal.loop-k-smaller
-loop-k-smaller c = omega (arith, c.loop-k-test.true, c.loop-k.invariant.long)
-
-pub loop-k-preserved : goal.loop-k-preserved
-loop-k-preserved c = moving-turn _ _ _ _ _ c.loop-k.invariant c.loop-k-test.true
-
-pub shape_of-list : goal.shape_of-list
-shape_of-list c = c.loop-k.invariant.long
-
-pub returns : goal.returns
-returns c = moving-ends _ _ _ _ _ c.loop-k.invariant (omega (arith, c.loop-k-test.false))
+pub loop-x-preserved : goal.loop-x-preserved
+loop-x-preserved c = map_over_more (λ x. x + c.args.l) _ c.loop-x.x-items c.loop-x.x-index (get_or c.loop-x.x-items c.loop-x.x-index 0) (omega arith) c.loop-x.invariant (search rules)

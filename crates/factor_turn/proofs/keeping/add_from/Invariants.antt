@@ -1,11 +1,9 @@
--- `add_from` meets its contract; the loop's invariant is `Moving`: what is still to be done leaves what doing it from the first leaves. Assumes nothing.
-use Prim.Native.Nat.{◌-◌}
-use lib.ListN.{length}
-use Rattle.factor_turn.proofs.Reversing.{Moving}
+-- `add_from` meets its contract: l is added to number after number. Assumes nothing.
+use Prim.Native.Nat.{◌+◌}
+use mathlib.Core.Path.{◌≡◌}
+use mathlib.Core.List.{◌++◌, map}
+use lib.ListN.{take, drop}
 use Rattle.factor_turn.proofs.keeping.add_from.Given as goal
 
-abbrev pub invariant-loop-k : goal.invariant-loop-k
-invariant-loop-k l = Moving l.a l.l l.initial.list l.list l.k
-
-abbrev pub decreases-loop-k : goal.decreases-loop-k
-decreases-loop-k l = length l.initial.list - l.k
+abbrev pub invariant-loop-x : goal.invariant-loop-x
+invariant-loop-x l = l.x-items ≡ map (λ x. x + l.l) (take l.x-index l.initial.x-items) ++ drop l.x-index l.initial.x-items

@@ -1,6 +1,5 @@
 -- `turn_lower` meets its contract: each part can be turned round, and the lists are then filled, by laws of `LastTurn`. Assumes nothing.
-use native.Mathlib.Omega.{arith}
-use Rattle.factor_turn.proofs.LastTurn.{total-most, place-fits, columns-turn, values-turn, starts-turn, starts-move, last_done}
+use Rattle.factor_turn.proofs.LastTurn.{total-most, place-fits, columns-turn, values-turn, starts-move, last_done}
 use Rattle.factor_turn.proofs.keeping.turn_lower.Goals as goal
 
 pub overflow_sub-total : goal.overflow_sub-total
@@ -14,15 +13,6 @@ overflow_sub-total-2 c = total-most _ _ _ _ _ c.requires.from
 
 pub turn_part-requires-2 : goal.turn_part-requires-2
 turn_part-requires-2 c = values-turn _ _ _ _ _ c.requires.from
-
-pub overflow_add-a : goal.overflow_add-a
-overflow_add-a c = omega (arith, c.well_formed, c.requires.from.whole)
-
-pub overflow_sub-e : goal.overflow_sub-e
-overflow_sub-e c = (starts-turn _ _ _ _ _ c.requires.from).low
-
-pub turn_part-requires-3 : goal.turn_part-requires-3
-turn_part-requires-3 c = starts-turn _ _ _ _ _ c.requires.from
 
 pub overflow_cast-l : goal.overflow_cast-l
 overflow_cast-l c = record { fits = place-fits _ _ _ _ _ c.requires.from }

@@ -1,47 +1,29 @@
-use mathlib.Core.Path.{refl}
-use Prim.Native.Nat.{◌+◌}
-use native.Mathlib.Omega.{arith}
-use Rattle.grouping.proofs.Walks.{walk-starts, walk_turn, walk_ends}
+use Rattle.std.proofs.Common.{◌≡◌, ◌∙◌, ap, arith, sym, take, ℕ}
+use Rattle.std.specs.Slice.Iter.{windows_rest}
+use Rattle.grouping.proofs.Walks.{step_same, step_other, no_pair}
 use Rattle.grouping.proofs.repeats.first_again.Goals as goal
 
-pub loop-k-init : goal.loop-k-init
-loop-k-init c = walk-starts _ _ _
+pub loop-pair-preserved-then-same_place : goal.loop-pair-preserved-then-same_place
+loop-pair-preserved-then-same_place c =
+    let o = c.loop-pair in
+    let rest = windows_rest o.pair-iterator in
+    let s = c.in-Some.ensures.steps in
+    let pair : c.in-Some.pair.now ≡ take 2 (rest) = s.1.1 ∙ ap (λ (n : ℕ). take n (rest)) o.invariant.pairs in
+    record {
+      pairs = s.0 ∙ o.invariant.pairs;
+      going = step_same _ o.d _ (rest) _ c.in-Some.pair.now (omega (arith, s.1.0)) (pair) s.1.2 (sym c.if-same_place.true ∙ c.same_place.ensures) (omega arith) ∙ o.invariant.going;
+    }
 
-pub overflow_add-k : goal.overflow_add-k
-overflow_add-k c = omega (arith, c.loop-k.invariant.inside)
-
-pub overflow_add-b : goal.overflow_add-b
-overflow_add-b c = omega (arith, c.loop-k-test.true)
-
-pub offset_bounds-sorted-k : goal.offset_bounds-sorted-k
-offset_bounds-sorted-k c = omega (arith, c.loop-k-test.true)
-
-pub bounds-sorted-k : goal.bounds-sorted-k
-bounds-sorted-k c = c.loop-k-test.true
-
-pub offset_bounds-sorted-k-in-loop-k : goal.offset_bounds-sorted-k-in-loop-k
-offset_bounds-sorted-k-in-loop-k c = omega (arith, c.loop-k-test.true)
-
-pub bounds-sorted-k-in-loop-k : goal.bounds-sorted-k-in-loop-k
-bounds-sorted-k-in-loop-k c = omega (arith, c.loop-k-test.true)
-
-pub same_place-same-requires : goal.same_place-same-requires
-same_place-same-requires c =
-    let s = c.requires in
-    let k = c.loop-k.k in
-    let h = c.loop-k-test.true in
-    record { a-row = s.has-row k (omega arith); b-row = s.has-row (k + 1) h; a-column = s.has-column k (omega arith); b-column = s.has-column (k + 1) h }
-
-pub overflow_add-k-in-loop-k : goal.overflow_add-k-in-loop-k
-overflow_add-k-in-loop-k c = omega (arith, c.loop-k-test.true)
-
-pub loop-k-smaller : goal.loop-k-smaller
-loop-k-smaller c = omega (arith, c.loop-k-test.true)
-
-pub loop-k-preserved : goal.loop-k-preserved
-loop-k-preserved c =
-    let o = c.loop-k in
-    walk_turn _ _ _ o.d o.k _ _ c.least-d.result c.same_place-same.result c.loop-k-test.true refl refl c.same_place-same.ensures c.least-d.ensures o.invariant
+pub loop-pair-preserved : goal.loop-pair-preserved
+loop-pair-preserved c =
+    let o = c.loop-pair in
+    let rest = windows_rest o.pair-iterator in
+    let s = c.in-Some.ensures.steps in
+    let pair : c.in-Some.pair.now ≡ take 2 (rest) = s.1.1 ∙ ap (λ (n : ℕ). take n (rest)) o.invariant.pairs in
+    record {
+      pairs = s.0 ∙ o.invariant.pairs;
+      going = step_other _ o.d (rest) _ c.in-Some.pair.now (omega (arith, s.1.0)) (pair) s.1.2 (sym c.if-same_place.false ∙ c.same_place.ensures) ∙ o.invariant.going;
+    }
 
 pub returns : goal.returns
-returns c = walk_ends _ _ _ c.loop-k.d c.loop-k.k (omega (arith, c.loop-k-test.false)) c.loop-k.invariant
+returns c = let s = c.in-None.ensures.steps in sym (no_pair _ _ (windows_rest c.loop-pair.pair-iterator) (omega arith)) ∙ c.loop-pair.invariant.going

@@ -9,13 +9,6 @@ use Rattle.print_text.proofs.lines.put_open_lines.Goals as goal
 pub loop-j-init : goal.loop-j-init
 loop-j-init c = turns-start _ _ _ _ c.requires.room
 
-pub overflow_cast-j : goal.overflow_cast-j
-overflow_cast-j c = omega (arith, c.requires.columns)
-
--- each column has an owner
-pub bounds-owners-j : goal.bounds-owners-j
-bounds-owners-j c = omega (arith, c.requires.owned, c.loop-j-test.true)
-
 pub put_word_line-next-requires : goal.put_word_line-next-requires
 put_word_line-next-requires c =
     let j = c.loop-j.j in record {
@@ -25,9 +18,6 @@ put_word_line-next-requires c =
 
 pub loop-j-preserved : goal.loop-j-preserved
 loop-j-preserved c = turns-after c.loop-j.invariant c.loop-j-test.true (lines_step _ _ _ c.loop-j-test.true) c.put_word_line-next.ensures
-
-pub shape_of-out : goal.shape_of-out
-shape_of-out c = c.loop-j.invariant.remains.long
 
 pub returns : goal.returns
 returns c = turns-end c.loop-j.invariant (lines_end _ _ _ c.loop-j-test.false)

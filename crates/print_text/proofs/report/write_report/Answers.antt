@@ -1,10 +1,6 @@
 -- `write_report` meets its contract: the buffer is cleared, then the report is stored at its front. Assumes nothing.
-use native.Mathlib.Omega.{arith}
 use Rattle.byte_buffer.proofs.Storing.{stored-fills}
 use Rattle.print_text.proofs.report.write_report.Goals as goal
-
-pub put_report-requires : goal.put_report-requires
-put_report-requires c = record { columns = c.requires.columns; owned = c.requires.owned; room = omega (arith, c.requires.room, c.clear_bytes.auto.bytes) }
 
 pub returns : goal.returns
 returns c = stored-fills c.requires.room c.clear_bytes.ensures c.put_report.ensures

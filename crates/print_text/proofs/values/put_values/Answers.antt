@@ -6,17 +6,14 @@ use Rattle.print_text.specs.Lines.{labelled}
 use Rattle.print_text.proofs.Stepping.{values-step, values-end}
 use Rattle.print_text.proofs.values.put_values.Goals as goal
 
-pub loop-i-init : goal.loop-i-init
-loop-i-init c = turns-start _ _ _ _ c.requires
+pub loop-value-init : goal.loop-value-init
+loop-value-init c = turns-start _ _ _ _ c.requires
 
 pub put_labelled-next-requires : goal.put_labelled-next-requires
-put_labelled-next-requires c = turn-room c.loop-i.invariant (labelled space (get_or c.args.values.now c.loop-i.i 0)) (values-step _ _ c.loop-i-test.true)
+put_labelled-next-requires c = turn-room c.loop-value.invariant (labelled space (get_or c.args.values.now c.loop-value.value-index 0)) (values-step _ _ c.loop-value-test.true)
 
-pub loop-i-preserved : goal.loop-i-preserved
-loop-i-preserved c = turns-after c.loop-i.invariant c.loop-i-test.true (values-step _ _ c.loop-i-test.true) c.put_labelled-next.ensures
-
-pub shape_of-out : goal.shape_of-out
-shape_of-out c = c.loop-i.invariant.remains.long
+pub loop-value-preserved : goal.loop-value-preserved
+loop-value-preserved c = turns-after c.loop-value.invariant c.loop-value-test.true (values-step _ _ c.loop-value-test.true) c.put_labelled-next.ensures
 
 pub returns : goal.returns
-returns c = turns-end c.loop-i.invariant (values-end _ _ c.loop-i-test.false)
+returns c = turns-end c.loop-value.invariant (values-end _ _ c.loop-value-test.false)

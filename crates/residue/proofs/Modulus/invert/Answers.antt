@@ -1,47 +1,14 @@
 -- `Modulus::invert` meets its contract. The loop's invariant: t1 * x0 + t0 * x1 = p, and t1 * a is x1 or its negative modulo p. The measure is x1.
 -- Assumes nothing.
-use Prim.Native.Nat.{◌+◌, ◌-◌, ◌*◌, ◌/◌, ◌%◌, ◌^◌, ◌<◌}
+use Prim.Native.Nat.{◌+◌, ◌-◌, ◌*◌, ◌/◌, ◌%◌, ◌<◌}
 use mathlib.Core.Path.{◌≡◌}
 use native.Mathlib.Nat.{mod-lt, mod-add-div'}
 use native.Mathlib.Omega.{arith}
-use Rattle.residue.proofs.Inverse.{euclid-starts, euclid-top, euclid_fits, euclid-turn, euclid-even, euclid-odd, twice}
+use Rattle.residue.proofs.Inverse.{euclid-starts, euclid-turn, euclid-even, euclid-odd}
 use Rattle.residue.proofs.Modulus.invert.Goals as goal
 
 pub loop-x1-init : goal.loop-x1-init
 loop-x1-init c = euclid-starts c.requires
-
-pub overflow_mul-x2 : goal.overflow_mul-x2
-overflow_mul-x2 c =
-    let whole : let l = c.loop-x1 in l.x0 % l.x1 + l.x0 / l.x1 * l.x1 ≡ l.x0 = let l = c.loop-x1 in mod-add-div' l.x0 l.x1 in
-    let small : let l = c.loop-x1 in l.x0 / l.x1 * l.x1 < 2 ^ 32 = omega (arith, whole, euclid-top c.loop-x1.invariant) in
-    record { fits = small }
-
-pub overflow_sub-x2 : goal.overflow_sub-x2
-overflow_sub-x2 c =
-    let whole : let l = c.loop-x1 in l.x0 % l.x1 + l.x0 / l.x1 * l.x1 ≡ l.x0 = let l = c.loop-x1 in mod-add-div' l.x0 l.x1 in
-    omega (arith, whole)
-
-pub overflow_mul-t2 : goal.overflow_mul-t2
-overflow_mul-t2 c =
-    let whole : let l = c.loop-x1 in l.x0 % l.x1 + l.x0 / l.x1 * l.x1 ≡ l.x0 = let l = c.loop-x1 in mod-add-div' l.x0 l.x1 in
-    let rest : let l = c.loop-x1 in l.x0 - l.x0 / l.x1 * l.x1 + l.x0 / l.x1 * l.x1 ≡ l.x0 = omega (arith, whole) in
-    let low : let l = c.loop-x1 in l.x0 - l.x0 / l.x1 * l.x1 < l.x1 = let l = c.loop-x1 in omega (arith, whole, mod-lt l.x0 l.invariant.nonzero) in
-    let fits : let l = c.loop-x1 in l.t0 + l.x0 / l.x1 * l.t1 < 2 ^ 32 = omega (arith, euclid_fits c.loop-x1.invariant _ _ (rest) (low)) in
-    record { fits = omega (arith, fits) }
-
-pub overflow_add-t2 : goal.overflow_add-t2
-overflow_add-t2 c =
-    let whole : let l = c.loop-x1 in l.x0 % l.x1 + l.x0 / l.x1 * l.x1 ≡ l.x0 = let l = c.loop-x1 in mod-add-div' l.x0 l.x1 in
-    let rest : let l = c.loop-x1 in l.x0 - l.x0 / l.x1 * l.x1 + l.x0 / l.x1 * l.x1 ≡ l.x0 = omega (arith, whole) in
-    let low : let l = c.loop-x1 in l.x0 - l.x0 / l.x1 * l.x1 < l.x1 = let l = c.loop-x1 in omega (arith, whole, mod-lt l.x0 l.invariant.nonzero) in
-    let fits : let l = c.loop-x1 in l.t0 + l.x0 / l.x1 * l.t1 < 2 ^ 32 = omega (arith, euclid_fits c.loop-x1.invariant _ _ (rest) (low)) in
-    record { fits = fits }
-
-pub loop-x1-smaller : goal.loop-x1-smaller
-loop-x1-smaller c =
-    let whole : let l = c.loop-x1 in l.x0 % l.x1 + l.x0 / l.x1 * l.x1 ≡ l.x0 = let l = c.loop-x1 in mod-add-div' l.x0 l.x1 in
-    let low : let l = c.loop-x1 in l.x0 - l.x0 / l.x1 * l.x1 < l.x1 = let l = c.loop-x1 in omega (arith, whole, mod-lt l.x0 l.invariant.nonzero) in
-    low
 
 pub loop-x1-preserved : goal.loop-x1-preserved
 loop-x1-preserved c =
@@ -49,9 +16,6 @@ loop-x1-preserved c =
     let rest : let l = c.loop-x1 in l.x0 - l.x0 / l.x1 * l.x1 + l.x0 / l.x1 * l.x1 ≡ l.x0 = omega (arith, whole) in
     let low : let l = c.loop-x1 in l.x0 - l.x0 / l.x1 * l.x1 < l.x1 = let l = c.loop-x1 in omega (arith, whole, mod-lt l.x0 l.invariant.nonzero) in
     euclid-turn c.loop-x1.invariant _ _ (rest) (low) c.requires.prime c.loop-x1-test.true
-
-pub overflow_sub-result : goal.overflow_sub-result
-overflow_sub-result c = omega (arith, twice c.requires.prime.two c.loop-x1-test.false c.loop-x1.invariant)
 
 pub returns-then-odd : goal.returns-then-odd
 returns-then-odd c = euclid-odd c.requires.prime.two c.loop-x1-test.false c.if-odd.true c.loop-x1.invariant

@@ -10,9 +10,3 @@ returns-then-p-lt2 c = sym (not-prime _ (λ prime. omega (arith, prime.two)))
 
 pub returns-then-not-passes_table : goal.returns-then-not-passes_table
 returns-then-not-passes_table c = sym (failing-composite _ (sym c.passes_table.ensures ∙ c.if-not-passes_table.true))
-
-pub passes_odd-requires : goal.passes_odd-requires
-passes_odd-requires c = record { two = omega arith; passed = sym c.passes_table.ensures ∙ c.if-not-passes_table.false }
-
-pub returns : goal.returns
-returns c = c.passes_odd.ensures

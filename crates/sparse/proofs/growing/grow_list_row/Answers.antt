@@ -26,8 +26,8 @@ part-requires-2 c =
     (omega (arith, b.0, c.index-a.ensures, c.index-e.ensures), omega (arith, b.1, c.index-e.ensures), omega (arith, b.1, c.index-e.ensures, e)) in
     let b = bounds in (b.0, b.2)
 
-pub grow_list-requires : goal.grow_list-requires
-grow_list-requires c =
+pub grow_numbers-requires : goal.grow_numbers-requires
+grow_numbers-requires c =
     let columns : c.part.result.now ≡ row_of c.args.starts.now c.args.k c.args.cols.now = c.part.ensures ∙ (λ j. slice (c.index-a.ensures j) (c.index-e.ensures j) c.args.cols.now) in
     let numbers : c.part-2.result.now ≡ row_of c.args.starts.now c.args.k c.args.vals.now = c.part-2.ensures ∙ (λ j. slice (c.index-a.ensures j) (c.index-e.ensures j) c.args.vals.now) in
     record {
@@ -41,4 +41,4 @@ pub returns : goal.returns
 returns c =
     let columns : c.part.result.now ≡ row_of c.args.starts.now c.args.k c.args.cols.now = c.part.ensures ∙ (λ j. slice (c.index-a.ensures j) (c.index-e.ensures j) c.args.cols.now) in
     let numbers : c.part-2.result.now ≡ row_of c.args.starts.now c.args.k c.args.vals.now = c.part-2.ensures ∙ (λ j. slice (c.index-a.ensures j) (c.index-e.ensures j) c.args.vals.now) in
-    rw (columns, numbers) at c.grow_list.ensures
+    rw (columns, numbers) at c.grow_numbers.ensures

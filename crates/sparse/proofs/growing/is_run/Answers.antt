@@ -1,40 +1,32 @@
--- `is_run` meets its contract. Assumes nothing.
-use mathlib.Core.Path.{sym, ap, ◌∙◌}
+-- `is_run` meets its contract.
+use Rattle.std.proofs.Common.{ℕ, ◌-◌, sym, ap, ◌∙◌, get_or, arith}
 use mathlib.Core.Bool.{true≢false}
-use Prim.Native.Nat.{ℕ, ◌+◌, ◌-◌, ◌≤◌, ◌<◌}
-use native.Mathlib.Omega.{arith}
-use lib.ListN.{length, get_or}
 use borrow.Author.Tests.{eqb-true}
-use Rattle.sparse.specs.Words.{view}
-use Rattle.sparse.proofs.WordLaws.{length-view}
 use Rattle.sparse.proofs.growing.is_run.Goals as goal
 
 pub returns-then-q-gt65535 : goal.returns-then-q-gt65535
-returns-then-q-gt65535 c = λ e. absurd (true≢false (sym e))
+returns-then-q-gt65535 g c = λ e. absurd (true≢false (sym e))
+
+pub number-requires : goal.number-requires
+number-requires g c = omega (arith, c.if-n-lt8.false, c.count-n.ensures)
 
 pub overflow_sub-n : goal.overflow_sub-n
-overflow_sub-n c =
-    let long : 8 ≤ length (view c.args.cols.now c.args.cb.now) = omega (arith, c.if-n-lt8.false, c.count-n.ensures) in
-    omega (arith, long, c.count-n.ensures)
+overflow_sub-n g c = omega arith
 
-pub word-requires : goal.word-requires
-word-requires c =
-    let long : 8 ≤ length (view c.args.cols.now c.args.cb.now) = omega (arith, c.if-n-lt8.false, c.count-n.ensures) in
-    omega (arith, long, c.count-n.ensures)
+pub number-requires-2 : goal.number-requires-2
+number-requires-2 g c = omega (arith, c.if-n-lt8.false, c.count-n.ensures)
 
-pub word-requires-2 : goal.word-requires-2
-word-requires-2 c =
-    let long : 8 ≤ length (view c.args.cols.now c.args.cb.now) = omega (arith, c.if-n-lt8.false, c.count-n.ensures) in
-    omega (arith, long)
-
-pub overflow_add-result-2 : goal.overflow_add-result-2
-overflow_add-result-2 c = omega (arith, c.well_formed, c.count-n.ensures, length-view c.args.cols.now c.args.cb.now)
+pub returns-then-last-first : goal.returns-then-last-first
+returns-then-last-first g c = λ e. absurd (true≢false (sym e))
 
 pub returns : goal.returns
-returns c =
-    let long : 8 ≤ length (view c.args.cols.now c.args.cb.now) = omega (arith, c.if-n-lt8.false, c.count-n.ensures) in
-    let small : c.args.q.p < 65536 = omega (arith, c.if-q-gt65535.false) in
+returns g c =
     let n = c.count-n in
-    let last = c.index.ensures ∙ c.word.ensures ∙ ap (λ (k : ℕ). get_or (view c.args.cols.now c.args.cb.now) (k - 1) 0) n.ensures in
-    let first = c.index-2.ensures ∙ c.word-2.ensures in
-    λ e. record { small = small; some = omega (arith, long); ends = omega (arith, eqb-true (c.index.result + 1) (c.index-2.result + n.result) e, n.ensures, last, first) }
+    let first = c.index-first.ensures ∙ c.number.ensures in
+    let last = c.index-last.ensures ∙ c.number-2.ensures ∙ ap (λ (k : ℕ). get_or (g.N.Numbers.numbers c.args.cols.now) (k - 1) 0) n.ensures in
+    λ e.
+    record {
+      small = omega (arith, c.if-q-gt65535.false);
+      some = omega (arith, c.if-n-lt8.false, n.ensures);
+      ends = omega (arith, eqb-true (c.index-last.result - c.index-first.result) (n.result - 1) e, c.if-last-first.false, c.if-n-lt8.false, n.ensures, last, first);
+    }

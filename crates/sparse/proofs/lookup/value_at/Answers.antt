@@ -1,22 +1,17 @@
--- `value_at` meets its contract; the loop's invariant is `Seeking`, the measure what is left. Assumes nothing.
-use native.Mathlib.Omega.{arith}
-use Rattle.sparse.proofs.CopySteps.{seeking-starts, seeking-turn, seeking-finds, seeking-ends}
+-- `value_at` meets its contract. Assumes nothing.
+use Rattle.std.proofs.Common.{rules, arith, ◌≡◌, ℕ, ◌<◌, length, get_or, sym, ap, ◌∙◌}
+use Rattle.sparse.specs.Row.{entry}
+use Rattle.sparse.proofs.Entries.{entry_at, entry_absent}
 use Rattle.sparse.proofs.lookup.value_at.Goals as goal
 
-pub loop-t-init : goal.loop-t-init
-loop-t-init c = seeking-starts _ _ _
+pub returns-in-Some : goal.returns-in-Some
+returns-in-Some c =
+    let r = c.requires in
+    let inside : c.in-Some.t < length c.args.cols.now = search rules in
+    let here : get_or c.args.cols.now c.in-Some.t 0 ≡ c.args.j = search rules in
+    sym (entry_at r.width 0 c.args.cols.now c.args.vals.now r.rising c.in-Some.t (inside) (omega (arith, inside, r.paired))) ∙ ap (entry c.args.cols.now c.args.vals.now) (here)
 
-pub offset_bounds-vals-t : goal.offset_bounds-vals-t
-offset_bounds-vals-t c = omega (arith, c.requires.paired)
-
-pub bounds-vals-t : goal.bounds-vals-t
-bounds-vals-t c = omega (arith, c.requires.paired)
-
-pub returns-then-cols-t : goal.returns-then-cols-t
-returns-then-cols-t c = seeking-finds _ _ _ c.loop-t.t c.loop-t-test.true c.if-cols-t.true c.requires
-
-pub loop-t-preserved : goal.loop-t-preserved
-loop-t-preserved c = seeking-turn _ _ _ c.loop-t.t c.loop-t-test.true c.if-cols-t.false c.loop-t.invariant
-
-pub returns : goal.returns
-returns c = seeking-ends _ _ _ c.loop-t.t (omega arith) c.loop-t.invariant
+pub returns-in-None : goal.returns-in-None
+returns-in-None c =
+    let nowhere : (t : ℕ) → t < length c.args.cols.now → get_or c.args.cols.now t 0 ≡ c.args.j → ⊥ = search rules in
+    sym (entry_absent _ _ _ (nowhere))

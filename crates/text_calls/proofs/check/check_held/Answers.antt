@@ -11,6 +11,3 @@ slice_bounds-check_certificate-end-2 c = sym (length-take-le _ _ c.requires.colu
 
 pub slice_bounds-check_certificate-end-3 : goal.slice_bounds-check_certificate-end-3
 slice_bounds-check_certificate-end-3 c = sym (length-take-le _ _ c.requires.values-fit)
-
-pub returns : goal.returns
-returns c = c.check_certificate.ensures

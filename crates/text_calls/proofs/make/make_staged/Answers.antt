@@ -1,17 +1,22 @@
--- `make_staged` meets its contract. Assumes nothing.
+-- `make_staged` meets its contract: the refusal of a stage, or what writing gives.
+use Rattle.std.proofs.Common.{refl, sym, ap, ◌∙◌, Result, Ok}
 use Rattle.sparse.specs.Matrix.{compressed}
 use Rattle.sparse.specs.Set.{storage_of}
-use Rattle.text_calls.proofs.Making.{read-refused, factor-refused, written}
+use Rattle.stages.specs.Results.{stages_of}
+use Rattle.stages.specs.Staged.{stages_outcome}
+use Rattle.stages.specs.declared.FactoredPlan.{FactoredPlan}
+use Rattle.stages.specs.declared.Stopped.{Stopped}
+use Rattle.stages.proofs.Stopping.{stopped-first}
+use Rattle.text_calls.proofs.Making.{stages-refused, written}
 use Rattle.text_calls.proofs.make.make_staged.Goals as goal
 
-pub returns-in_default : goal.returns-in_default
-returns-in_default c = read-refused _ (compressed _ _ _) (storage_of _ _ (compressed _ _ _) (compressed _ _ _) _) _ _ c.in_default.is c.clear_bytes.ensures
+pub returns-in-Ok : goal.returns-in-Ok
+returns-in-Ok c =
+    rw c.in-Ok.is
+    (written (stages_of (Ok c.in-Ok.plan)) (compressed _ _ _) (storage_of _ _ (compressed _ _ _) (compressed _ _ _) _) _ _ refl refl _ c.write_held.ensures)
 
-pub returns-in_default-factoring : goal.returns-in_default-factoring
-returns-in_default-factoring c = factor-refused _ (compressed _ _ _) (storage_of _ _ (compressed _ _ _) (compressed _ _ _) _) _ _ c.in-Passed.is c.in_default-factoring.is c.clear_bytes-in_default-factoring.ensures
-
-pub write_held-requires : goal.write_held-requires
-write_held-requires c = c.requires.fits c.in-Passed.is
-
-pub returns : goal.returns
-returns c = written _ (compressed _ _ _) (storage_of _ _ (compressed _ _ _) (compressed _ _ _) _) _ _ c.in-Passed.is c.in-Passed-factoring.is _ c.write_held.ensures
+pub returns-in-Err : goal.returns-in-Err
+returns-in-Err c =
+    rw c.into.ensures
+    (stages-refused _ (compressed _ _ _) (storage_of _ _ (compressed _ _ _) (compressed _ _ _) _) _ _
+    (stopped-first c.in-Err.stopped ∙ ap (λ (x : Result FactoredPlan Stopped). stages_outcome (stages_of x)) (sym c.in-Err.is)) c.clear_bytes.ensures)

@@ -1,6 +1,8 @@
 -- `write_held` meets its contract. Assumes nothing.
 use mathlib.Core.Path.{sym}
 use lib.Seq.{length-take-le}
+use Rattle.std.proofs.Common.{◌∙◌}
+use Rattle.refusals.proofs.Results.{left}
 use Rattle.text_calls.proofs.make.write_held.Goals as goal
 
 pub slice_bounds-write_certificate-end : goal.slice_bounds-write_certificate-end
@@ -36,11 +38,10 @@ slice_bounds-write_certificate-end-10 c = sym (length-take-le _ _ c.requires.U-c
 pub slice_bounds-write_certificate-end-11 : goal.slice_bounds-write_certificate-end-11
 slice_bounds-write_certificate-end-11 c = sym (length-take-le _ _ c.requires.U-values)
 
-pub shape_of-buffer : goal.shape_of-buffer
-shape_of-buffer c = c.write_certificate-written.auto.buffer
-
-pub shape_of-work : goal.shape_of-work
-shape_of-work c = c.write_certificate-written.auto.work
+pub returns-in_err-write_certificate : goal.returns-in_err-write_certificate
+returns-in_err-write_certificate c =
+    let x = c.in_err-write_certificate.ensures in
+    record { outcome = left _ _ c.from_residual.ensures.1 ∙ x.outcome; buffer = x.buffer }
 
 pub returns : goal.returns
-returns c = let x = c.write_certificate-written.ensures in record { outcome = x.outcome; buffer = x.buffer }
+returns c = let x = c.in_ok-write_certificate.ensures in record { outcome = x.outcome; buffer = x.buffer }

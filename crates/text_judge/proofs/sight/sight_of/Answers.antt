@@ -3,6 +3,6 @@ use mathlib.Core.Path.{sym, ap}
 use Rattle.text_judge.specs.Sight.{sight}
 use Rattle.text_judge.proofs.sight.sight_of.Goals as goal
 
-pub returns-in-NotTriple : goal.returns-in-NotTriple
+pub returns-in-None : goal.returns-in-None
 unfolding sight
-returns-in-NotTriple c = sym (ap (sight _ _) c.in-NotTriple.is)
+returns-in-None c = sym (ap (sight _ _) c.in-None.is)

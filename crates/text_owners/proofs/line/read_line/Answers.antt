@@ -13,17 +13,11 @@ returns-then-not-begins_owners c = no_word _ _ _ (sym c.begins_owners.ensures �
 pub loop-at-init : goal.loop-at-init
 loop-at-init c = listing-starts _ _ _ (sym c.begins_owners.ensures ∙ c.if-not-begins_owners.false)
 
-pub shape_of-owners-then-count-m : goal.shape_of-owners-then-count-m
-shape_of-owners-then-count-m c = c.loop-at.invariant.long
-
 pub returns-then-count-m : goal.returns-then-count-m
 returns-then-count-m c = too_many c.loop-at.invariant c.loop-at-test.true c.if-count-m.true
 
 pub piece-field-requires : goal.piece-field-requires
 piece-field-requires c = omega (arith, c.loop-at-test.true)
-
-pub shape_of-owners-in_default : goal.shape_of-owners-in_default
-shape_of-owners-in_default c = c.loop-at.invariant.long
 
 pub returns-in_default : goal.returns-in_default
 returns-in_default c = not-number c.loop-at.invariant c.loop-at-test.true _ c.piece-field.ensures (sym c.in_default.is ∙ c.number_of.ensures)
@@ -44,22 +38,13 @@ loop-at-smaller c =
     omega (arith, field-inside)
 
 pub loop-at-preserved : goal.loop-at-preserved
-loop-at-preserved c = listing-turn c.loop-at.invariant c.loop-at-test.true _ c.piece-field.ensures c.in-Value.v (sym c.in-Value.is ∙ c.number_of.ensures) c.if-count-m.false _ _ c.put_owner-bytes.ensures c.put_owner-bytes.auto.owners
-
-pub shape_of-owners-then-count-m-2 : goal.shape_of-owners-then-count-m-2
-shape_of-owners-then-count-m-2 c = c.loop-at.invariant.long
+loop-at-preserved c = listing-turn c.loop-at.invariant c.loop-at-test.true _ c.piece-field.ensures c.in-Some.v (sym c.in-Some.is ∙ c.number_of.ensures) c.if-count-m.false _ _ c.put_owner-bytes.ensures c.put_owner-bytes.auto.owners
 
 pub returns-then-count-m-2 : goal.returns-then-count-m-2
 returns-then-count-m-2 c = wrong-count c.loop-at.invariant c.loop-at-test.false c.if-count-m-2.true
 
-pub shape_of-owners-then-bytes : goal.shape_of-owners-then-bytes
-shape_of-owners-then-bytes c = c.loop-at.invariant.long
-
-pub returns-then-bytes : goal.returns-then-bytes
-returns-then-bytes c = all-stated c.loop-at.invariant c.loop-at-test.false c.if-count-m-2.false c.requires.few c.requires.cleared c.if-bytes.true
-
-pub shape_of-owners : goal.shape_of-owners
-shape_of-owners c = c.loop-at.invariant.long
+pub returns-then-not-bytes : goal.returns-then-not-bytes
+returns-then-not-bytes c = one-too-large c.loop-at.invariant c.loop-at-test.false c.if-count-m-2.false c.if-not-bytes.true
 
 pub returns : goal.returns
-returns c = one-too-large c.loop-at.invariant c.loop-at-test.false c.if-count-m-2.false c.if-bytes.false
+returns c = all-stated c.loop-at.invariant c.loop-at-test.false c.if-count-m-2.false c.requires.few c.requires.cleared c.if-not-bytes.false

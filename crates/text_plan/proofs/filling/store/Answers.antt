@@ -6,9 +6,6 @@ use Rattle.text_opening.specs.Reading.{kept}
 use Rattle.text_plan.proofs.Storing.{stored-zero, stored_more}
 use Rattle.text_plan.proofs.filling.store.Goals as goal
 
-pub shape_of-starts-then-v-eq0 : goal.shape_of-starts-then-v-eq0
-shape_of-starts-then-v-eq0 c = c.extend_starts.auto.starts
-
 pub returns-then-v-eq0 : goal.returns-then-v-eq0
 returns-then-v-eq0 c seen h = stored-zero seen h _ c.requires.order (c.extend_starts.ensures (kept seen) h.rows h.number h.starts-are) c.if-v-eq0.true
 
