@@ -1,10 +1,11 @@
 -- A line that follows the stages: the line of the refusal that they ended with, or whatever is printed once they passed.
 --   refused-reading ..    the refusal that the stages ended with, by the stage that refused
+--   refused-nothing ..    and that of any stages: none where they passed, else that of the stage that refused
 --   refused-line          where there is one, its line is printed
 --   passed-line           where there is none, the given line
 --   text-line             what is printed of stages that a text came to is what is printed of the text
 --   text-refused ..       what is printed of a text: of one that states no plan, of a plan whose factors overflow, of a plan whose factors fit
-use Rattle.std.specs.Prelude.{Err}
+use Rattle.std.specs.Prelude.{Result, Ok, Err}
 use mathlib.Core.Path.{◌≡◌, refl, sym, ap, subst, ◌∙◌}
 use mathlib.Core.List.{List}
 use Prim.Native.Nat.{ℕ, ◌+◌, ◌<◌}
@@ -32,6 +33,7 @@ use Rattle.stages.specs.Stages.{reading, factored_of}
 use Rattle.stages.specs.Staged.{Staged}
 use Rattle.stages.specs.Meaning.{FitsAll, OverflowsAt}
 use Rattle.stages.specs.Results.{Stages, stages_of}
+use Rattle.stages.specs.declared.FactoredPlan.{FactoredPlan}
 use Rattle.stages.specs.declared.Stopped.{Stopped}
 use Rattle.stages.specs.declared.Stopped.TheVariants.{InReading, InFactoring}
 use Rattle.stages.proofs.ReadText.{outcome-passed, reading-numbers, factored-over}
@@ -55,6 +57,18 @@ module _ (s : Stopped) where
         → outcome_of (Err told) ≡ stages_refusal (stages_of (Err s))
     unfolding stages_refusal
     refused-factoring told e = ap (λ (x : Refusal). Refused (number x.fault) x.detail) e ∙ (λ t. stages_refusal (stages_of (Err (sym is t))))
+
+module _ (r : Result FactoredPlan Stopped) where
+  pub refused-nothing : (plan : FactoredPlan) → r ≡ Ok plan → Passed ≡ stages_refusal (stages_of r)
+  unfolding stages_refusal
+  refused-nothing plan is t = stages_refusal (stages_of (sym is t))
+
+  module _ (s : Stopped) (is : r ≡ Err s) where
+    pub stopped-counts : RowCountable (stages_of r) → RowCountable (stages_of (Err s))
+    stopped-counts c = subst (λ (x : Result FactoredPlan Stopped). RowCountable (stages_of x)) is c
+
+    pub refused-stopped : (o : Outcome) → o ≡ stages_refusal (stages_of (Err s)) → o ≡ stages_refusal (stages_of r)
+    refused-stopped o e = e ∙ (λ t. stages_refusal (stages_of (sym is t)))
 
 -- ---- the line
 

@@ -39,14 +39,25 @@ fn write_line(
     }
 }
 
-// The refusal that the stages ended with, as it is printed: a row counts from 1.
-pub fn refusal(stopped: Stopped) -> Refusal
+// The refusal of the stage that refused, as it is printed: a row counts from 1.
+pub fn stopped_refusal(stopped: Stopped) -> Refusal
     requires { RowCountable (stages_of (Err stopped)) }
     ensures { outcome_of (Err result) ≡ stages_refusal (stages_of (Err stopped)) }
 {
     match stopped {
         Stopped::InReading(refused) => refused,
         Stopped::InFactoring(_, refused) => from_one(Fault::StorageTooShort, refused),
+    }
+}
+
+// The refusal that the stages ended with, if any, as it is printed: a row counts from 1.
+pub fn refusal(staged: Result<FactoredPlan, Stopped>) -> Result<(), Refusal>
+    requires { RowCountable (stages_of staged) }
+    ensures { outcome_of result ≡ stages_refusal (stages_of staged) }
+{
+    match staged {
+        Ok(_) => Ok(()),
+        Err(stopped) => Err(stopped_refusal(stopped)),
     }
 }
 
@@ -125,7 +136,7 @@ fn ask_staged(
 {
     let plan = match staged {
         Ok(plan) => plan,
-        Err(stopped) => return write_refusal(refusal(stopped), out),
+        Err(stopped) => return write_refusal(stopped_refusal(stopped), out),
     };
     let mut x = [0u32; SIZE_CELLS];
     let mut z = [0u32; SIZE_CELLS];

@@ -6,7 +6,7 @@ ghost use Rattle.ask_settings.specs.Needs.{BeginStagedReady, BeginLists};
 
 use crate::Begun;
 use answer_kernel::marks::mark_pivots;
-use ask_lib::refusal;
+use ask_lib::stopped_refusal;
 use limits::{ENTRY_CELLS, SIZE_CELLS, START_CELLS};
 use print_text::report::write_refusal;
 use print_text::settings::write_free;
@@ -26,7 +26,7 @@ fn begin_staged(
     let plan = match staged {
         Ok(plan) => plan,
         Err(stopped) => {
-            let size = write_refusal(refusal(stopped), out);
+            let size = write_refusal(stopped_refusal(stopped), out);
             return Begun {
                 size,
                 p: 0,

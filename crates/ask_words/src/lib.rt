@@ -13,7 +13,7 @@ ghost use Rattle.ask_words.specs.Needs.{Solvable, WordsStagedReady};
 ghost use Rattle.sparse.specs.Views.{stored_at, stored_before, storage_at, storage_before};
 ghost use Rattle.stages.specs.Results.{stages_of};
 
-use ask_lib::refusal;
+use ask_lib::stopped_refusal;
 use call_slots::from_factors::solve_slots_from_factors;
 use column_space::SlotVerdict;
 use limits::{ENTRY_CELLS, SIZE_CELLS, START_CELLS};
@@ -120,7 +120,7 @@ fn words_staged(
 {
     let plan = match staged {
         Ok(plan) => plan,
-        Err(stopped) => return write_refusal(refusal(stopped), out),
+        Err(stopped) => return write_refusal(stopped_refusal(stopped), out),
     };
     let mut setting = [0u32; SIZE_CELLS];
     let mut combination = [0u32; SIZE_CELLS];

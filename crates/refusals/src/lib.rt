@@ -42,22 +42,22 @@ impl From<Fault> for u32 {
 
     fn from(fault: Fault) -> u32 {
         match fault {
-            Fault::BadModulus => 1,
-            Fault::OverLimit => 2,
-            Fault::Malformed => 3,
-            Fault::OutsidePlan => 4,
-            Fault::RepeatedPlace => 5,
-            Fault::ValueOutOfRange => 6,
-            Fault::StorageTooShort => 7,
-            Fault::BadPlan => 8,
-            Fault::WrongLength => 9,
-            Fault::BadHeader => 10,
-            Fault::NoPermutation => 11,
-            Fault::RankTooLarge => 12,
-            Fault::BadFactors => 13,
-            Fault::ProductDiffers => 14,
-            Fault::QuestionTooLarge => 15,
-            Fault::OwnerTooLarge => 16,
+            Fault::BadModulus => numbers::BAD_MODULUS,
+            Fault::OverLimit => numbers::OVER_LIMIT,
+            Fault::Malformed => numbers::MALFORMED,
+            Fault::OutsidePlan => numbers::OUTSIDE_PLAN,
+            Fault::RepeatedPlace => numbers::REPEATED_PLACE,
+            Fault::ValueOutOfRange => numbers::VALUE_OUT_OF_RANGE,
+            Fault::StorageTooShort => numbers::STORAGE_TOO_SHORT,
+            Fault::BadPlan => numbers::BAD_PLAN,
+            Fault::WrongLength => numbers::WRONG_LENGTH,
+            Fault::BadHeader => numbers::BAD_HEADER,
+            Fault::NoPermutation => numbers::NO_PERMUTATION,
+            Fault::RankTooLarge => numbers::RANK_TOO_LARGE,
+            Fault::BadFactors => numbers::BAD_FACTORS,
+            Fault::ProductDiffers => numbers::PRODUCT_DIFFERS,
+            Fault::QuestionTooLarge => numbers::QUESTION_TOO_LARGE,
+            Fault::OwnerTooLarge => numbers::OWNER_TOO_LARGE,
         }
     }
 }

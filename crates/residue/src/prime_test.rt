@@ -16,7 +16,9 @@ const PRIMES: [u32; TABLE_LENGTH] = [
 fn passes_table(p: u32) -> bool
     ensures { result ≡ passes_table p }
 {
-    for q in PRIMES {
+    // borrowed: an array that is gone through by value is copied, entry by entry, before the first test
+    let primes = PRIMES;
+    for &q in &primes {
         if p < q * q {
             return true;
         }
@@ -32,6 +34,10 @@ fn passes_odd(p: u32) -> bool
     requires { Tabled p }
     ensures { result ≡ is_prime p }
 {
+    // the root of a smaller p is not looked for
+    if p < 66049 {
+        return true;
+    }
     for d in (257..=p.isqrt()).step_by(2) {
         if p % d == 0 {
             return false;

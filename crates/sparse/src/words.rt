@@ -1,7 +1,7 @@
 // Numbers of a list that is stored or held by bytes.
 ghost use Rattle.std.specs.Prelude.{IfSome, List, ℕ, ◌≡◌, ◌+◌, ◌-◌, ◌*◌, ◌/◌, ◌^◌, ◌≤◌, ◌<◌, min, length, get_or, take, drop};
 ghost use Rattle.std.proofs.Math.Seq.{slice};
-ghost use Rattle.sparse.specs.Words.{words};
+ghost use Rattle.sparse.specs.Words.{numbers, words};
 ghost use Rattle.sparse.specs.Views.{view_at, view_before};
 
 use std::marker::Model;
@@ -81,6 +81,13 @@ impl<'a> Words<'a> {
         ensures { result ≡ words bytes.entry.now }
     {
         Words { list: &[], bytes }
+    }
+
+    // A stored list, followed by the numbers that bytes hold.
+    pub fn joined(list: &'a [u32], bytes: &'a [u8]) -> Words<'a>
+        ensures { result ≡ numbers list.entry.now bytes.entry.now }
+    {
+        Words { list, bytes }
     }
 
     // How many numbers there are.

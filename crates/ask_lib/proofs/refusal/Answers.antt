@@ -1,12 +1,12 @@
 -- `refusal` meets its contract. Assumes nothing.
-use Rattle.ask_lib.proofs.Following.{refused-reading, row-counts, refused-factoring}
+use Rattle.ask_lib.proofs.Following.{refused-nothing, stopped-counts, refused-stopped}
 use Rattle.ask_lib.proofs.refusal.Goals as goal
 
-pub returns-in-InReading : goal.returns-in-InReading
-returns-in-InReading c = refused-reading _ _ c.in-InReading.is
+pub returns-in-Ok : goal.returns-in-Ok
+returns-in-Ok c = refused-nothing _ _ c.in-Ok.is
 
-pub from_one-requires : goal.from_one-requires
-from_one-requires c = row-counts _ _ _ c.in-InFactoring.is c.requires
+pub stopped_refusal-requires : goal.stopped_refusal-requires
+stopped_refusal-requires c = stopped-counts _ _ c.in-Err.is c.requires
 
-pub returns-in-InFactoring : goal.returns-in-InFactoring
-returns-in-InFactoring c = refused-factoring _ _ _ c.in-InFactoring.is _ c.from_one.ensures
+pub returns-in-Err : goal.returns-in-Err
+returns-in-Err c = refused-stopped _ _ c.in-Err.is _ c.stopped_refusal.ensures

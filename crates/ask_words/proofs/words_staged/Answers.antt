@@ -10,8 +10,8 @@ use Rattle.ask_words.specs.Solving.{solution_line}
 use Rattle.ask_words.specs.Held.{held_slots}
 use Rattle.ask_words.proofs.words_staged.Goals as goal
 
-pub refusal-requires : goal.refusal-requires
-refusal-requires c =
+pub stopped_refusal-requires : goal.stopped_refusal-requires
+stopped_refusal-requires c =
     let plan : Compressed = compressed c.args.starts.now c.args.cols.now c.args.vals.now in
     let lent : Storage = storage_of c.args.ro.now c.args.co.now (compressed c.args.ls.now c.args.lc.now c.args.lv.now)
     (compressed c.args.us.now c.args.uc.now c.args.uv.now) c.args.work.now in
@@ -25,7 +25,7 @@ returns-in-Err c =
     let plan : Compressed = compressed c.args.starts.now c.args.cols.now c.args.vals.now in
     let lent : Storage = storage_of c.args.ro.now c.args.co.now (compressed c.args.ls.now c.args.lc.now c.args.lv.now)
     (compressed c.args.us.now c.args.uc.now c.args.uv.now) c.args.work.now in
-    refused c.args.staged (plan) (lent) c.args.h.now c.args.out.now c.requires.lists _ c.in-Err.is (solution_line (held_slots (stages_of c.args.staged) (plan) (lent) c.args.h.now)) c.refusal.result c.refusal.ensures c.write_refusal.result c.write_refusal.new.out c.write_refusal.ensures
+    refused c.args.staged (plan) (lent) c.args.h.now c.args.out.now c.requires.lists _ c.in-Err.is (solution_line (held_slots (stages_of c.args.staged) (plan) (lent) c.args.h.now)) c.stopped_refusal.result c.stopped_refusal.ensures c.write_refusal.result c.write_refusal.new.out c.write_refusal.ensures
 
 pub solve_held-answer-requires : goal.solve_held-answer-requires
 solve_held-answer-requires c =

@@ -15,8 +15,13 @@ loop-d-preserved c =
     let i = c.loop-d.invariant in
     record { odd = omega arith; undivided = odd-undivided _ _ (omega arith) i.odd i.undivided c.if-p-d-eq0.false }
 
-pub returns : goal.returns
-returns c = sym (undivided-prime _ _ c.loop-d.d c.requires.two c.isqrt-d-end.ensures.next_square_gt (omega arith) c.loop-d.invariant.undivided)
+pub returns-then-p-lt66049 : goal.returns-then-p-lt66049
+returns-then-p-lt66049 c =
+    sym (undivided-prime _ 256 257 c.requires.two c.if-p-lt66049.true (omega arith) (table-undivided _ c.requires.passed))
+
+pub returns-else-p-lt66049 : goal.returns-else-p-lt66049
+returns-else-p-lt66049 c =
+    sym (undivided-prime _ _ c.loop-d.d c.requires.two c.isqrt-d-end.ensures.next_square_gt (omega arith) c.loop-d.invariant.undivided)
 
 pub returns-else-p-d-eq0 : goal.returns-else-p-d-eq0
 returns-else-p-d-eq0 c =
