@@ -105,7 +105,9 @@ fn row_agrees(
     row_combines(q, plan, ro, l, u, r, n, i, work)
 }
 
-// The first position whose row differs from the product's, or n.
+// The first position whose row differs from the product's, or n. A hint puts it into its caller: where that has made all lists
+// of stored ones, the compiler knows that no bytes are there, and no loop asks of a number where it stands.
+#[inline(always)]
 pub fn first_differing(
     q: Modulus,
     plan: &Compressed,

@@ -1,7 +1,7 @@
 -- Lists of 32-bit numbers that come as a stored list or as bytes of a certificate.
 --   le32 a b c d       the 32-bit number of four bytes, least significant first
 --   words bytes        the 32-bit little-endian numbers that bytes hold; fewer than four bytes at the end hold none
---   view list bytes    the list meant by a stored list and by bytes, of which one is empty
+--   view list bytes    the list meant by a stored list and by bytes: the stored numbers, then those of the bytes
 --   numbers            the same, always unfolded: what a value of the type `Words` is in a contract
 use Rattle.std.specs.Prelude.{ℕ, ◌+◌, ◌*◌, List, [], ◌∷◌, ◌++◌}
 

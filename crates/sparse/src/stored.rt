@@ -33,7 +33,9 @@ impl<'a> Compressed<'a> {
         }
     }
 
-    // Row k: the parts of the columns and the values that belong to it.
+    // Row k: the parts of the columns and the values that belong to it. A hint puts it into its callers, where the compiler sees what
+    // of the parts is used.
+    #[inline(always)]
     pub fn row(&self, k: usize) -> SparseRow<'a>
         requires { HasRow k self.now }
         ensures { PartOf k self.now result }

@@ -4,6 +4,7 @@ ghost use Rattle.std.proofs.Math.Seq.{slice};
 ghost use Rattle.sparse.specs.Words.{numbers, words};
 ghost use Rattle.sparse.specs.Views.{view_at, view_before};
 
+use lists::part;
 use std::marker::Model;
 
 // Numbers that can be read by their place, wherever they stand: one loop over them serves stored lists, bytes, and lists of which
@@ -114,11 +115,14 @@ impl<'a> Words<'a> {
         word(self.list, self.bytes, i + 1)
     }
 
-    // The numbers from place a up to place e.
+    // The numbers from place a up to place e: a part of the stored list alone, where no number is held by bytes.
     pub fn part(&self, a: usize, e: usize) -> Words<'a>
         requires { (a ≤ e) × (e ≤ length self.now) }
         ensures { result ≡ slice a e self.now }
     {
+        if self.bytes.len() == 0 {
+            return Words::stored(part(self.list, a, e));
+        }
         Words {
             list: list_part(self.list, a, e),
             bytes: bytes_part(self.list.len(), self.bytes, a, e),

@@ -1,10 +1,20 @@
--- `Words::part` meets its contract: a part of each of the two.
-use Rattle.std.proofs.Common.{length, ap, ◌∙◌, min, refl, arith}
+-- `Words::part` meets its contract: a part of the stored list, where no number is held by bytes, else a part of each of the two.
+use Rattle.std.proofs.Common.{length, ap, sym, ◌∙◌, min, refl, arith}
 use Rattle.std.proofs.Math.Seq.{slice}
 use Rattle.sparse.specs.Words.{view}
 use Rattle.sparse.proofs.Parts.{view-cut}
-use Rattle.sparse.proofs.WordLaws.{length-view}
+use Rattle.sparse.proofs.WordLaws.{length-view, view-stored}
 use Rattle.sparse.proofs.words.Words.part.Goals as goal
+
+pub part-requires : goal.part-requires
+part-requires c =
+    let all = sym (view-stored c.self.inside.list.now c.self.inside.bytes.now c.if-self-eq0.true) ∙ c.self.view_is in
+    (c.requires.0, omega (arith, ap length all, c.requires.1))
+
+pub returns-then-self-eq0 : goal.returns-then-self-eq0
+returns-then-self-eq0 c =
+    let all = sym (view-stored c.self.inside.list.now c.self.inside.bytes.now c.if-self-eq0.true) ∙ c.self.view_is in
+    c.stored.ensures ∙ c.part.ensures ∙ ap (slice c.args.a c.args.e) all
 
 pub bytes_part-requires : goal.bytes_part-requires
 bytes_part-requires c =
